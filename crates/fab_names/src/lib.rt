@@ -1,0 +1,2 @@
+//! Names, members and their texts.
+#![tactic(auto)]
