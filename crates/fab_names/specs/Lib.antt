@@ -1,0 +1,10 @@
+pub mod Padded
+pub mod Names
+pub mod Numbers
+pub mod WorldWideNames
+pub mod Fabrics
+pub mod Places
+pub mod Members
+pub mod Faults
+pub mod Orders
+pub mod Codes

@@ -1,2 +1,41 @@
-//! Names, members and their texts.
+//! The names that zoning and mapping speak of, and their texts: names of records, world-wide
+//! names, fabrics, places in a fabric, and members of zones.
+//!
+//! Each type has `read`, which accepts exactly its text forms, `print`, which gives its printed
+//! form, and a `Display` that writes the same bytes without memory.
 #![tactic(auto)]
+
+mod fabric;
+mod member;
+mod name;
+mod number;
+mod place;
+#[cfg(test)]
+mod tests;
+mod wwn;
+
+pub use fabric::Fabric;
+pub use member::Member;
+pub use name::Name;
+pub use number::read_number;
+pub use place::Place;
+pub use wwn::Wwn;
+
+/// Why a text is not read. Where several faults stand in a text, any one of them is answered.
+#[derive(Clone, Copy, Debug, PartialEq, Eq, Drop)]
+pub enum NameFault {
+    /// The text is empty.
+    Empty,
+    /// The text has more than 64 characters.
+    TooLong,
+    /// A character, or the form of the text, is none that the type allows.
+    BadChar,
+    /// The text is laid out in none of the three forms of a world-wide name.
+    BadLength,
+    /// A world-wide name is zero.
+    Zero,
+    /// A number is outside its range.
+    OutOfRange,
+    /// There was no memory. No reader here takes any.
+    Memory,
+}

@@ -1,0 +1,9 @@
+-- Number texts.
+use Rattle.std.specs.Prelude.{ℕ, ◌≡◌, ◌≤◌, List, length}
+use Rattle.std.specs.Str.Parse.{IsNumeral, digits_value}
+
+-- the text is 1 to 20 decimal digits, leading zeros allowed, that write n
+pub record SpellsNumber (text : List ℕ) (n : ℕ) : Type 0 where
+  pub digits : IsNumeral 10 text
+  pub short : length text ≤ 20
+  pub value : digits_value 10 text ≡ n
