@@ -1,0 +1,2 @@
+pub mod PortMaps
+pub mod Steps

@@ -2,7 +2,12 @@
 #![tactic(auto)]
 
 mod fault;
+mod import;
+mod inventory;
 mod port;
+#[cfg(test)]
+mod tests;
 
 pub use fault::{InventoryFault, InventoryLimit};
-pub use port::{Port, PortRow};
+pub use inventory::Inventory;
+pub use port::{Known, Port, PortRow};

@@ -16,6 +16,17 @@ pub struct Port {
     pub holder: Option<Name>,
 }
 
+/// What is known of a port beside its name.
+#[derive(Clone, Copy, Debug, PartialEq, Eq)]
+pub struct Known {
+    /// The Node_Name of its node.
+    pub node: Wwn,
+    /// Where it is logged in, if anywhere.
+    pub at: Option<(Fabric, Place)>,
+    /// Who holds it, if anybody.
+    pub holder: Option<Name>,
+}
+
 /// A record of one fabric's port list: a port that is logged in there.
 #[derive(Clone, Copy, Debug, PartialEq, Eq)]
 pub struct PortRow {

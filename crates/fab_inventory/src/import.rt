@@ -1,0 +1,83 @@
+//! The steps of an import, over maps and records.
+ghost use Rattle.std.specs.Prelude.{◌≡◌, ℕ, OnOk, IfOk, IfErr};
+ghost use Rattle.std.specs.Option.{option_map};
+ghost use Rattle.std.specs.Ordering.{nat_cmp};
+ghost use Rattle.std.specs.BTreeMap.{get};
+ghost use Rattle.fab_inventory.specs.Imports.{Agrees, CheckFails, logged_out, ListsIn};
+
+use crate::{InventoryFault, Known, PortRow};
+use fab_names::{Fabric, Wwn};
+use std::alloc::{AllocError, Allocator};
+use std::collections::BTreeMap;
+
+/// Whether the records of each port name are equal.
+pub fn check_rows<A: Allocator + Clone>(alloc: A, rows: &[PortRow]) -> Result<(), InventoryFault>
+    ensures ok { OnOk result (Agrees rows.now) }
+    ensures err { IfErr result (CheckFails rows.now) }
+{
+    let mut seen: BTreeMap<Wwn, PortRow, A> = BTreeMap::new(alloc);
+    for row in rows {
+        match seen.get(&row.name) {
+            Some(earlier) => {
+                if *earlier != *row {
+                    return Err(InventoryFault::PortClash(row.name));
+                }
+            }
+            None => {
+                seen.insert(row.name, *row)?;
+            }
+        }
+    }
+    Ok(())
+}
+
+/// Logs a port out where it is at the fabric.
+fn log_out(known: &mut Known, fabric: Fabric)
+    ensures { known.new ≡ logged_out fabric known.old }
+{
+    if let Some((at, _)) = known.at {
+        if at == fabric {
+            known.at = None;
+        }
+    }
+}
+
+/// The ports, where those at the fabric are logged in nowhere.
+pub fn all_logged_out<A: Allocator + Clone>(
+    ports: &BTreeMap<Wwn, Known, A>,
+    fabric: Fabric,
+) -> Result<BTreeMap<Wwn, Known, A>, AllocError>
+    ensures { IfOk result (λ next. (q : ℕ) → get nat_cmp next q ≡ option_map (logged_out fabric) (get nat_cmp ports.now q)) }
+{
+    let mut next = ports.clone()?;
+    next.retain(|_name, known| {
+        log_out(known, fabric);
+        true
+    });
+    Ok(next)
+}
+
+/// Logs the listed ports in at the fabric, each with the holder that it had.
+pub fn log_in<A: Allocator + Clone>(
+    next: &mut BTreeMap<Wwn, Known, A>,
+    ports: &BTreeMap<Wwn, Known, A>,
+    fabric: Fabric,
+    rows: &[PortRow],
+) -> Result<(), AllocError>
+    requires { Agrees rows.now }
+    ensures { OnOk result (ListsIn fabric rows.now (get nat_cmp ports.now) (get nat_cmp next.old) (get nat_cmp next.new)) }
+{
+    for row in rows {
+        let holder = match ports.get(&row.name) {
+            Some(known) => known.holder,
+            None => None,
+        };
+        let known = Known {
+            node: row.node,
+            at: Some((fabric, row.place)),
+            holder,
+        };
+        next.insert(row.name, known)?;
+    }
+    Ok(())
+}
