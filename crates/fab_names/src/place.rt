@@ -9,11 +9,14 @@ use std::alloc::{AllocError, Allocator};
 use std::fmt;
 use std::marker::Model;
 
+/// The least Domain_ID.
+const FIRST_DOMAIN: u128 = 1;
+
 /// The greatest Domain_ID.
-const LAST_DOMAIN: u8 = 239;
+const LAST_DOMAIN: u128 = 239;
 
 /// The greatest physical port of a domain.
-const LAST_SLOT: u16 = 4095;
+const LAST_SLOT: u128 = 4095;
 
 /// A place in a fabric: the Domain_ID of a switch, 1 to 239, and a physical port of it, 0 to 4095
 /// (FC-GS, the zone member by Domain_ID and physical port).
@@ -63,7 +66,7 @@ impl Place {
         let Some(slot) = read_number(slot) else {
             return Err(NameFault::BadChar);
         };
-        if domain < 1 || domain > u128::from(LAST_DOMAIN) || slot > u128::from(LAST_SLOT) {
+        if domain < FIRST_DOMAIN || domain > LAST_DOMAIN || slot > LAST_SLOT {
             return Err(NameFault::OutOfRange);
         }
         Ok(Place {
