@@ -1,5 +1,5 @@
 //! The inventory.
-ghost use Rattle.std.specs.Prelude.{◌≡◌, ◌≤◌, OnOk, OnErr, IfErr};
+ghost use Rattle.std.specs.Prelude.{◌≡◌, ◌≤◌, OnOk, OnErr, IfOk, IfErr};
 ghost use Rattle.std.specs.FinMap as map;
 ghost use Rattle.fab_inventory.specs.Imports.{IsImported, ImportFails};
 ghost use Rattle.fab_inventory.specs.Ports.{port_at};
@@ -7,7 +7,7 @@ ghost use Rattle.fab_inventory.specs.Ports.{port_at};
 use crate::import::{all_logged_out, check_rows, log_in};
 use crate::{InventoryFault, InventoryLimit, Known, Port, PortRow};
 use fab_names::{Fabric, Wwn};
-use std::alloc::Allocator;
+use std::alloc::{AllocError, Allocator};
 use std::collections::BTreeMap;
 use std::marker::Model;
 
@@ -50,6 +50,19 @@ impl<A: Allocator + Copy> Inventory<A> {
             alloc,
             ports: BTreeMap::new(alloc),
         }
+    }
+
+    /// An equal inventory.
+    ///
+    /// # Errors
+    /// `AllocError` where there is no memory.
+    pub fn copy(&self) -> Result<Self, AllocError>
+        ensures { IfOk result (λ copy. copy ≡ self.now) }
+    {
+        Ok(Inventory {
+            alloc: self.alloc,
+            ports: self.ports.clone()?,
+        })
     }
 
     /// The port of a name, where it is known. It takes no memory.
