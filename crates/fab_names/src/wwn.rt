@@ -123,7 +123,7 @@ fn hex_digit(d: u8) -> u8
 }
 
 /// Eight pairs of digits joined by colons.
-fn letters(number: u64) -> [u8; 23]
+fn letters_of(number: u64) -> [u8; 23]
     ensures { result ≡ spec.wwn_text number }
 {
     let b = number.to_be_bytes();
@@ -158,7 +158,7 @@ impl fmt::Display for Wwn {
     ghost output = { λ wwn. Some (spec.wwn_text wwn) };
 
     fn fmt<W: fmt::Write>(&self, f: &mut fmt::Formatter<W>) -> fmt::Result {
-        let letters = letters(self.number);
+        let letters = self.letters();
         f.pad(unsafe { str::from_utf8_unchecked(&letters) })
     }
 }
@@ -207,6 +207,13 @@ impl Wwn {
         ensures nonzero { 0 < result }
     {
         self.number
+    }
+
+    /// The characters of the printed form, without memory.
+    pub fn letters(self) -> [u8; 23]
+        ensures { result ≡ spec.wwn_text self }
+    {
+        letters_of(self.number)
     }
 
     /// The printed form: eight pairs of lower-case digits joined by `:`.
