@@ -1,11 +1,11 @@
 -- The fields of a shared `Refusing`, over the allocator `Z`. Assumes `Logic`.
-use Rattle.std.proofs.Common.{ℕ, ◌+◌, [], ◌∷◌, Bor}
+use Rattle.std.proofs.Common.{ℕ, ◌+◌, [], ◌∷◌, refl, Bor}
 use seplogic.Ra.Ura.{Ura}
-use base.Logic.{ent, sep}
+use base.Logic.{ent, sep, id⊢}
 use base.Fml.{Lft}
 use prog.Memory.{align, size, up}
 use types.Logic.{Logic, sem}
-use types.Kit.{‵, ◌$◌, ◌∵◌, !, qed, move, keep, join, fsplit, done}
+use types.Kit.{Item, ‵, ◌$◌, ◌∵◌, !, qed, move, keep, use1, join, fsplit, fpick, rewrite, done}
 use denote.Builtin.{RefOf}
 use denote.Memory.{hidden_shr}
 use denote.Opens.{unhide}
@@ -35,8 +35,10 @@ module _ (Z : Al) where
   -- who shares the whole shares the inner allocator and the plan
   pub fields : {M : Type 1} {𝓤 : Ura M} (𝓛 : Logic 𝓤) (κ : Lft) (r : Bor Wrapper.Denot)
       → ent 𝓤 (sem 𝓛 (hidden_shr Wrapper κ r.now r.ref_ptr.0 r.ref_ptr.1))
-      (sep 𝓤 (sem 𝓛 (seen Z κ (inner_at r.ref_ptr) r.now.inner))
+      (sep 𝓤 (sem 𝓛 (seen Z κ (inner_at r.ref_ptr) r.now))
       (sem 𝓛 (hidden_shr PlanCell κ (record { value = tt }) (plan_at r.ref_ptr).0 (plan_at r.ref_ptr).1)))
-  fields 𝓛 κ r =
+  fields {𝓤 = 𝓤} 𝓛 κ r =
+      let Seen : Z.row.Denot → Item 𝓤 = λ h. ‵ (seen Z κ (inner_at r.ref_ptr) h) in
       qed 𝓛 (‵ (hidden_shr Wrapper κ r.now r.ref_ptr.0 r.ref_ptr.1) ∷ []) ∵
-      unhide ! $ fsplit ! $ fsplit ! $ move ! (1 ∷ []) $ fsplit ! $ keep ! (2 ∷ 0 ∷ []) $ join ! $ done !
+      unhide ! $ fpick ! (λ x. fsplit ! $ fsplit ! $ fsplit ! $ use1 𝓛 (Seen x.0.inner) (id⊢ 𝓤 _) $ rewrite ! 0 Seen x.1.0 refl $
+      move ! (1 ∷ []) $ fsplit ! $ keep ! (2 ∷ 0 ∷ []) $ join ! $ done !)

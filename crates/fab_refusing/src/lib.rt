@@ -19,6 +19,8 @@
 //! ```
 #![tactic(auto)]
 
+ghost use Rattle.std.specs.Prelude.{◌≡◌};
+
 mod plan;
 #[cfg(test)]
 mod tests;
@@ -26,6 +28,7 @@ mod tests;
 use plan::{Plan, refuses_next};
 use std::alloc::{AllocError, Allocator};
 use std::cell::Cell;
+use std::marker::Model;
 
 /// Passes requests for memory on to another allocator, except for one that it is told to refuse.
 ///
@@ -33,18 +36,27 @@ use std::cell::Cell;
 /// that is to grow or to shrink. A refused request answers `AllocError`, and the other allocator
 /// does not see it. Blocks that are given back are not counted, and always reach it.
 ///
-/// What it is to refuse lies in a cell, so that a test can tell it through a `&` while collections
-/// hold others. A contract knows nothing of what a cell holds: the clauses of `Allocator` are
-/// proved of it, and which request it refuses is tested.
+/// Contracts see it as the allocator that it passes requests on to: what frees a block of the one
+/// frees a block of the other. What it is to refuse lies in a cell, so that a test can tell it
+/// through a `&` while collections hold others, and of what a cell holds no contract speaks.
 #[derive(Debug, Drop)]
 pub struct Refusing<B> {
     inner: B,
     plan: Cell<Plan>,
 }
 
+impl<B> Model for Refusing<B> {
+    ghost Value = { B };
+
+    ghost view = { λ r. r.inner };
+}
+
 impl<B> Refusing<B> {
-    /// An allocator over `inner`, which passes every request on until it is told otherwise.
-    pub fn new(inner: B) -> Refusing<B> {
+    /// An allocator over `inner`, which passes every request on until it is told otherwise. It takes
+    /// no memory itself.
+    pub fn new(inner: B) -> Refusing<B>
+        ensures { result ≡ inner }
+    {
         Refusing {
             inner,
             plan: Cell::new(Plan::PassAll),
@@ -73,7 +85,7 @@ impl<B> Refusing<B> {
 }
 
 unsafe impl<B: Allocator> Allocator for Refusing<B> {
-    ghost dealloc_token = { λ heap ty ptr. B.dealloc_token heap.inner ty ptr };
+    ghost dealloc_token = { B.dealloc_token };
 
     fn allocate(&self, size: usize, align: usize) -> Result<*mut u8, AllocError> {
         if refuses_next(&self.plan) {

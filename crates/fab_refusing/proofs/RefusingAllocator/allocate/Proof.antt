@@ -84,7 +84,7 @@ module _ (Z : Al) {M : Type 1} {𝓤 : Ura M} (𝓛 : Logic 𝓤) (at_mem : Memo
 
     -- the end with a block
     granted : (b o : ℕ)
-        → Sq 𝓛 (‵ (flft κ q) ∷ ‵ (flft ρ s) ∷ ‵ (froom τ b o) ∷ ‵ (token Z r.now.inner τ (block_ptr b o)) ∷ []) (prop (Post (answer_val true b o)))
+        → Sq 𝓛 (‵ (flft κ q) ∷ ‵ (flft ρ s) ∷ ‵ (froom τ b o) ∷ ‵ (token Z r.now τ (block_ptr b o)) ∷ []) (prop (Post (answer_val true b o)))
     granted b o =
         suffices ! _ (ends_at 𝓛 (ended Z) (stayed Z) clauses bound (answer_val true b o) (Ok (block_ptr b o)) (tt, (tt, (tt, tt))) (tt, (tt, (tt, tt)))) $
         move ! (2 ∷ 3 ∷ []) $ fjoin ! $ use0 𝓛 (‵ (Answer.own_val (Ok (block_ptr b o)) (answer_val true b o ∷ []))) (Answer-Ok 𝓛 b o) $
@@ -101,7 +101,7 @@ module _ (Z : Al) {M : Type 1} {𝓤 : Ura M} (𝓛 : Logic 𝓤) (at_mem : Memo
 
     walk : n < 2 ^ 64 → a < 2 ^ 64 → ent 𝓤 ((walk_of 𝓛 (ended Z) (stayed Z) clauses).pre bound) (WpFn 𝓤 H 𝓣.C 𝓣.Λ (here Z) vs Post)
     walk fn fa =
-        let h : Z.row.Denot = r.now.inner in
+        let h : Z.row.Denot = r.now in
         let i : ℕ × ℕ = inner_at Z r.ref_ptr in
         let p : ℕ × ℕ = plan_at Z r.ref_ptr in
         let y : (Takes Z 𝓛 at_mem run).Ghost = at_takes Z 𝓛 at_mem run κ q i h n a τ in

@@ -84,11 +84,11 @@ module _ (Z : Al) {M : Type 1} {𝓤 : Ura M} (𝓛 : Logic 𝓤) (at_mem : Memo
 
     walk : n < 2 ^ 64 → a < 2 ^ 64 → (x : Ptr) → ent 𝓤 ((walk_of 𝓛 (ended Z) (stayed Z) clauses).pre (bound x)) (WpFn 𝓤 H 𝓣.C 𝓣.Λ (here Z) (vs x) (Post x))
     walk fn fa null_ptr =
-        qed 𝓛 (entry null_ptr ∷ (raw (fact 𝓤 (ρ ⊑ Z.row.lives)) ⊛ raw (fact 𝓤 Said) ⊛ ‵ (fsep ffalse (token Z r.now.inner τ null_ptr))) ∷ []) ∵
+        qed 𝓛 (entry null_ptr ∷ (raw (fact 𝓤 (ρ ⊑ Z.row.lives)) ⊛ raw (fact 𝓤 Said) ⊛ ‵ (fsep ffalse (token Z r.now τ null_ptr))) ∷ []) ∵
         move ! (1 ∷ []) $ split3 ! $ move ! (2 ∷ []) $ fsplit ! $ keep ! (0 ∷ []) $ by ! (never_e 𝓤 _)
     walk fn fa (block_ptr b o) =
         let x : Ptr = block_ptr b o in
-        let h : Z.row.Denot = r.now.inner in
+        let h : Z.row.Denot = r.now in
         let i : ℕ × ℕ = inner_at Z r.ref_ptr in
         let p : ℕ × ℕ = plan_at Z r.ref_ptr in
         let y : (Gives Z 𝓛 at_mem run).Ghost = at_gives Z 𝓛 at_mem run κ q i h b o n a τ in
