@@ -1,9 +1,9 @@
 //! An allocator for tests, which refuses one chosen request for memory.
 //!
 //! A test hands `&Refusing<Global>` to what it tests in the place of a `Global`: a `&` to an
-//! allocator is an allocator, and it may be copied. It refuses the first request of a call, then
-//! the second, and so on, until a call meets no refusal, and looks each time at what the call
-//! answered and at what it left:
+//! allocator is an allocator, and it may be copied. The test has the first request of a call
+//! refused, then the second, and so on, until a call meets no refusal, and looks each time at what
+//! the call answered and at what it left:
 //!
 //! ```text
 //! let alloc = Refusing::new(rt.alloc());
