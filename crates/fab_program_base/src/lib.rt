@@ -1,0 +1,4 @@
+//! The wire of the change desk: the bytes of one connection as one request, and one reply as bytes.
+#![tactic(auto)]
+
+pub mod counted;
