@@ -1,3 +1,6 @@
 pub mod Counting
 pub mod Failures
+pub mod Received
 pub mod Sent
+pub mod Heads
+pub mod Reading

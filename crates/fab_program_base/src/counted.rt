@@ -1,12 +1,13 @@
 //! A reader or a writer that counts its failures, and writing that tries no failed write again.
 
-ghost use Rattle.std.specs.Prelude.{◌≡◌, ◌<◌, ◌++◌, length, OnOk, OnErr};
+ghost use Rattle.std.specs.Prelude.{◌≡◌, ◌<◌, ◌++◌, length, take, drop, OnOk, OnErr};
 ghost use Rattle.std.specs.List.{flat_map};
 ghost use Rattle.std.specs.Io.{ReadsAtMost, WritesAtMost};
 ghost use Rattle.std.specs.Io.KnownBytes.{Keeps, Appends, ReadConsumes, WriteAppends};
 ghost use Rattle.fab_program_base.specs.Counting.{inner_of, failures_of};
 ghost use Rattle.fab_program_base.specs.Failures.{one_more, failures_after, failures_after_write};
 ghost use Rattle.fab_program_base.specs.Sent.{AppendsBeginning, AppendsSome};
+ghost use Rattle.fab_program_base.specs.Received.{ReadsInto};
 
 use std::io;
 use std::io::{Read, Write};
@@ -116,6 +117,18 @@ impl<W: Write> Counted<W> {
             return Err(WriteFailed);
         };
         self.put_all(others)
+    }
+}
+
+impl<R: Read> Counted<R> {
+    /// One read, into `buf` from `at` on, as large as there is room. `Ok(0)` is the end of the input.
+    pub fn read_at(&mut self, buf: &mut [u8], at: usize) -> io::Result<usize>
+        requires { at < length buf.old }
+        ensures front { take at buf.new ≡ take at buf.old }
+        ensures bytes { ReadsInto (R.remaining (inner_of self.old)) (R.remaining (inner_of self.new)) (drop at buf.new) result }
+        ensures count { failures_of self.new ≡ failures_after result (failures_of self.old) }
+    {
+        self.read(&mut buf[at..])
     }
 }
 

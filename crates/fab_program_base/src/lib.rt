@@ -2,3 +2,4 @@
 #![tactic(auto)]
 
 pub mod counted;
+pub mod head;
