@@ -4,3 +4,4 @@ pub mod Received
 pub mod Sent
 pub mod Heads
 pub mod Reading
+pub mod Taking

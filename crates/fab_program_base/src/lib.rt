@@ -3,3 +3,4 @@
 
 pub mod counted;
 pub mod head;
+pub mod bodies;
