@@ -4,3 +4,5 @@
 pub mod counted;
 pub mod head;
 pub mod bodies;
+pub mod fields;
+mod numbers;
