@@ -8,3 +8,5 @@ pub mod Taking
 pub mod Numbers
 pub mod Lines
 pub mod Fields
+pub mod Routes
+pub mod Segments

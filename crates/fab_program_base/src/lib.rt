@@ -6,3 +6,4 @@ pub mod head;
 pub mod bodies;
 pub mod fields;
 mod numbers;
+pub mod routes;

@@ -1,0 +1,6 @@
+use Rattle.std.proofs.Common.{◌≡◌, [], drop}
+use Rattle.fab_program_base.specs.Routes.{table_from}
+use Rattle.fab_program_base.proofs.routes.make_router.Given as goal
+
+abbrev pub invariant-loop-route : goal.invariant-loop-route
+invariant-loop-route l = table_from l.router (drop l.route-index l.route-items) ≡ table_from [] l.route-items
