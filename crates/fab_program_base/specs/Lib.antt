@@ -10,3 +10,5 @@ pub mod Lines
 pub mod Fields
 pub mod Routes
 pub mod Segments
+pub mod Callers
+pub mod Asking

@@ -7,3 +7,4 @@ pub mod bodies;
 pub mod fields;
 mod numbers;
 pub mod routes;
+pub mod requests;
