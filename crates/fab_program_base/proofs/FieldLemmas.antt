@@ -7,7 +7,8 @@ use Rattle.std.proofs.lemmas.List.Elements.{filter-append, All-head, All-pop}
 use Rattle.std.proofs.lemmas.Grind.{common_steps}
 use Rattle.httparse.specs.Spans.{span_bytes, header_bytes}
 use Rattle.httparse.specs.declared.spans.HeaderSpan.{HeaderSpan}
-use Rattle.fab_program_base.specs.Numbers.{SpellsNumber}
+use Rattle.fab_names.specs.Numbers.{SpellsNumber}
+use Rattle.fab_names.proofs.Numerals.{one_number}
 use Rattle.fab_program_base.specs.Lines.{Line, are_same_name, values_of, lines_of}
 use Rattle.fab_program_base.specs.Fields.{IsLengthOf, IsOnly}
 use Rattle.fab_program_base.specs.declared.fields.Length.{Length}
@@ -39,10 +40,6 @@ pub values-other : (name buf : List ℕ) (hs : List HeaderSpan) (i : ℕ) (d : H
   → values_of name (lines_of buf (take (i + 1) hs)) ≡ values_of name (lines_of buf (take i hs))
 values-other name buf hs i d h e = lines-more name buf hs i d h ∙ rw (← e) (grind (arith, common_steps))
 
--- a number text spells one number
-spells-one : (text : List ℕ) (m n : ℕ) → SpellsNumber text m → SpellsNumber text n → m ≡ n
-spells-one text m n h k = cc
-
 -- a number that each of some values spells and one value more spells too
 last-spelled : (values : List (List ℕ)) (value : List ℕ) (n : ℕ) → All (λ v. SpellsNumber v n) (values ++ value ∷ []) → All (λ v. SpellsNumber v n) values × SpellsNumber value n
 last-spelled values value n h = All-pop (λ v. SpellsNumber v n) (values ++ value ∷ []) values (Some value) refl h
@@ -52,8 +49,8 @@ pub length-differs : (values : List (List ℕ)) (value : List ℕ) (n m : ℕ) �
 length-differs [] value n m h s d k all = h.0 refl
 length-differs (v ∷ values) value n m h s d k all =
     let both = last-spelled (v ∷ values) value k all in
-    let first : n ≡ k = spells-one v n k (All-head (λ x. SpellsNumber x n) v values h.1) (All-head (λ x. SpellsNumber x k) v values both.0) in
-    let last : k ≡ m = spells-one value k m both.1 s in
+    let first : n ≡ k = one_number v n k (All-head (λ x. SpellsNumber x n) v values h.1) (All-head (λ x. SpellsNumber x k) v values both.0) in
+    let last : k ≡ m = one_number value k m both.1 s in
     d (first ∙ last)
 
 -- a bad length stays bad

@@ -1,7 +1,7 @@
 -- What the values of the header lines of one name say.
 use Rattle.std.specs.Prelude.{ℕ, ◌≡◌, ◌≢◌, List, [], ◌∷◌, Bool, true, false, ◌==◌, if◌then◌else◌, Option, Some, None, codes, take, drop, length, All}
 use Rattle.httparse.specs.Spans.{span_bytes, IsWithin}
-use Rattle.fab_program_base.specs.Numbers.{SpellsNumber}
+use Rattle.fab_names.specs.Numbers.{SpellsNumber}
 use Rattle.fab_program_base.specs.Lines.{are_same_name}
 use Rattle.fab_program_base.specs.declared.fields.Length.{Length}
 use Rattle.fab_program_base.specs.declared.fields.Length.TheVariants.{Missing, Is, Bad}

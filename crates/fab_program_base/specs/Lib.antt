@@ -5,7 +5,6 @@ pub mod Sent
 pub mod Heads
 pub mod Reading
 pub mod Taking
-pub mod Numbers
 pub mod Lines
 pub mod Fields
 pub mod Routes

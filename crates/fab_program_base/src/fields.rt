@@ -4,7 +4,7 @@ ghost use Rattle.std.specs.Prelude.{◌≡◌, ◌++◌, ◌∷◌, [], ℕ, Lis
 ghost use Rattle.fab_program_base.specs.Lines.{are_same_name, values_of, lines_of, AreWithin};
 ghost use Rattle.fab_program_base.specs.Fields.{IsLengthOf, IsOnly, bearer_of, token_of, skip_spaces, is_given};
 
-use crate::numbers::read_number;
+use fab_names::read_number;
 use httparse::spans::{HeaderSpan, Span};
 
 /// What the Content-Length lines of a head say (RFC 9112, section 6.3).

@@ -5,6 +5,5 @@ pub mod counted;
 pub mod head;
 pub mod bodies;
 pub mod fields;
-mod numbers;
 pub mod routes;
 pub mod requests;
