@@ -11,3 +11,4 @@ pub mod Routes
 pub mod Segments
 pub mod Callers
 pub mod Asking
+pub mod PortLists

@@ -7,3 +7,4 @@ pub mod bodies;
 pub mod fields;
 pub mod routes;
 pub mod requests;
+pub mod port_list;
