@@ -9,6 +9,9 @@ pub mod Lines
 pub mod Fields
 pub mod Routes
 pub mod Segments
+pub mod Parts
 pub mod Callers
 pub mod Asking
 pub mod PortLists
+pub mod Spelling
+pub mod Hearing

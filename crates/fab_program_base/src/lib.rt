@@ -7,4 +7,6 @@ pub mod bodies;
 pub mod fields;
 pub mod routes;
 pub mod requests;
+pub mod parts;
 pub mod port_list;
+pub mod hear;

@@ -1,16 +1,15 @@
 //! Reads a port list: the CSV text (RFC 4180) of the ports that are logged in to one fabric.
 
-ghost use Rattle.std.specs.Prelude.{ℕ, ◌≡◌, ◌≢◌, ◌+◌, ◌<◌, ◌^◌, IfOk, IfErr, Some, option_map, length, MatchOption, MatchBool, codes, vec_len};
+ghost use Rattle.std.specs.Prelude.{◌≡◌, ◌≢◌, ◌<◌, IfOk, IfErr, Some, option_map, length, MatchOption, MatchBool};
 ghost use Rattle.csv.specs.Records.{fields_of, field_at};
-ghost use Rattle.fab_names.specs.WorldWideNames.{SpellsWwn};
 ghost use Rattle.fab_inventory.specs.declared.port.PortRow.{PortRow};
 ghost use Rattle.fab_program_base.specs.PortLists.{header, four_of, texts_of, SpellsRow, ListsPorts, IsFileFault};
 
 use csv::{ByteRecord, ReaderBuilder};
 use fab_inventory::PortRow;
-use fab_names::{Place, Wwn};
+use crate::parts::read_wwn;
+use fab_names::Place;
 use std::alloc::{Allocator, Global};
-use std::str;
 
 /// Why a port list is refused.
 #[derive(Clone, Copy, Debug, PartialEq, Eq)]
@@ -85,19 +84,6 @@ fn row_of(texts: Texts<'_>) -> Option<PortRow>
         return None;
     };
     Some(PortRow { name, node, place })
-}
-
-/// The world-wide name that bytes spell, if they spell one.
-pub fn read_wwn(bytes: &[u8]) -> Option<Wwn>
-    ensures { MatchOption result ((n : ℕ) → ¬ (SpellsWwn bytes.now n)) (SpellsWwn bytes.now) }
-{
-    let Ok(text) = str::from_utf8(bytes) else {
-        return None;
-    };
-    match Wwn::read(text) {
-        Ok(wwn) => Some(wwn),
-        Err(_) => None,
-    }
 }
 
 /// Whether a record is the header.

@@ -1,6 +1,6 @@
 //! What the head of a request asks for: the checks of a head, in their order, up to its body.
 
-ghost use Rattle.std.specs.Prelude.{◌≡◌, IsUtf8, [], option_map};
+ghost use Rattle.std.specs.Prelude.{◌≡◌, IsUtf8, [], option_map, IfSome};
 ghost use Rattle.std.specs.List.{list_all};
 ghost use Rattle.fab_program_base.specs.Lines.{lines_of, AreWithin};
 ghost use Rattle.fab_program_base.specs.Routes.{table_from};
@@ -9,9 +9,10 @@ ghost use Rattle.fab_program_base.specs.Callers.{is_token, is_token_byte, caller
 ghost use Rattle.fab_program_base.specs.Asking.{asking_of, by_length, by_size, is_path, target_route, takes_body, JudgesHead};
 
 use crate::fields::{Length, authorization, content_length, has_transfer_encoding};
-use crate::routes::{Route, find_route};
+use crate::routes::{Route, find_route, make_router};
 use httparse::spans::HeaderSpan;
 use matchit::Router;
+use std::alloc::Global;
 
 /// The greatest length of a body, in bytes.
 pub const MOST_BODY: u128 = 1048576;
@@ -44,9 +45,28 @@ pub enum Judged<'b> {
     Asks(&'b [u8], Route, Option<usize>),
 }
 
+/// Judges a head by its parts, as `judge_head` does, over a router made for it. `None` where there
+/// is no memory for the router.
+pub fn judge_by_routes<'b>(
+    global: Global,
+    buf: &'b [u8],
+    headers: &[HeaderSpan],
+    method: &[u8],
+    target: &[u8],
+) -> Option<Judged<'b>>
+    requires lines { AreWithin buf.now headers.now }
+    requires text { IsUtf8 target.now }
+    ensures { IfSome result (JudgesHead method.now target.now (lines_of buf.now headers.now)) }
+{
+    let Ok(router) = make_router(global) else {
+        return None;
+    };
+    Some(judge_head(&router, buf, headers, method, target))
+}
+
 /// Judges a head by its parts: first its lengths, then the caller, the route, the method, and what
 /// the lengths say of a body.
-pub fn judge_head<'b>(
+fn judge_head<'b>(
     router: &Router<Route>,
     buf: &'b [u8],
     headers: &[HeaderSpan],

@@ -1,10 +1,10 @@
 //! The routes of the desk: their paths, their methods, and the parts that a path captures.
 
-ghost use Rattle.std.specs.Prelude.{◌≡◌, OnOk, IfOk, IfSome, []};
+ghost use Rattle.std.specs.Prelude.{◌≡◌, OnOk, IfOk, []};
 ghost use Rattle.std.specs.List.{list_any};
 ghost use Rattle.std.specs.Str.{bytes_eq};
-ghost use Rattle.percent_encoding.specs.Percent as percent;
 ghost use Rattle.fab_program_base.specs.Routes.{path_of, methods_of, allowed_text, with_route, table_from, route_of};
+ghost use Rattle.fab_program_base.specs.Parts.{part_at};
 ghost use Rattle.fab_program_base.specs.Segments.{segment_at, from_slash_on, to_slash};
 
 use http::Method;
@@ -101,7 +101,7 @@ pub fn decoded_segment<A: Allocator>(
     path: &[u8],
     slashes: usize,
 ) -> Result<Vec<u8, A>, AllocError>
-    ensures { IfOk result (λ bytes. bytes.items ≡ percent.percent_decode (segment_at slashes path.now)) }
+    ensures { IfOk result (λ bytes. bytes.items ≡ part_at slashes path.now) }
 {
     let mut bytes = Vec::new(alloc);
     percent_decode(segment(path, slashes)).append_to(&mut bytes)?;
