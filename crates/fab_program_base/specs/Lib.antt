@@ -15,3 +15,5 @@ pub mod Asking
 pub mod PortLists
 pub mod Spelling
 pub mod Hearing
+pub mod Replies
+pub mod Telling

@@ -25,9 +25,9 @@ listed [] = []
 listed (text ∷ []) = text
 listed (text ∷ another ∷ texts) = text ++ codes ", " ++ listed (another ∷ texts)
 
--- the methods of a route, as an Allow line lists them
-abbrev pub allowed_text : Route → List ℕ
-allowed_text r = listed (methods_of r)
+-- the header line that lists the methods of a route
+abbrev pub allow_line_of : Route → List ℕ
+allow_line_of r = codes "Allow: " ++ listed (methods_of r) ++ codes "\r\n"
 
 -- the routes of a router
 abbrev pub Table : Type 0

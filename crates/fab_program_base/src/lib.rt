@@ -10,3 +10,4 @@ pub mod requests;
 pub mod parts;
 pub mod port_list;
 pub mod hear;
+pub mod answers;

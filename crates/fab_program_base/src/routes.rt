@@ -3,7 +3,7 @@
 ghost use Rattle.std.specs.Prelude.{◌≡◌, OnOk, IfOk, []};
 ghost use Rattle.std.specs.List.{list_any};
 ghost use Rattle.std.specs.Str.{bytes_eq};
-ghost use Rattle.fab_program_base.specs.Routes.{path_of, methods_of, allowed_text, with_route, table_from, route_of};
+ghost use Rattle.fab_program_base.specs.Routes.{path_of, methods_of, allow_line_of, with_route, table_from, route_of};
 ghost use Rattle.fab_program_base.specs.Parts.{part_at};
 ghost use Rattle.fab_program_base.specs.Segments.{segment_at, from_slash_on, to_slash};
 
@@ -45,13 +45,13 @@ impl Route {
         }
     }
 
-    /// The methods that a route takes, as an `Allow` line lists them (RFC 9110, section 10.2.1).
-    pub fn allowed(self) -> &'static str
-        ensures { result.now ≡ allowed_text self }
+    /// The header line that lists the methods that a route takes (RFC 9110, section 10.2.1).
+    pub fn allow_line(self) -> &'static str
+        ensures { result.now ≡ allow_line_of self }
     {
         match self {
-            Route::Imports => "POST",
-            Route::Joined => "GET",
+            Route::Imports => "Allow: POST\r\n",
+            Route::Joined => "Allow: GET\r\n",
         }
     }
 }
