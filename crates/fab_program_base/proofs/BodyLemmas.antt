@@ -12,7 +12,7 @@ pub record FilledTo (old new : Option (List ℕ)) (before after : ℕ) (buf : Li
 
 -- one read more
 pub filled-more : (a b c : Option (List ℕ)) (n m p i k : ℕ) (old new : List ℕ) → FilledTo a b n m old i → length new ≡ length old → take i new ≡ take i old
-  → k ≤ length (drop i new) → Consumes b c (take k (drop i new)) → p ≡ m → FilledTo a c n p new (i + k)
+    → k ≤ length (drop i new) → Consumes b c (take k (drop i new)) → p ≡ m → FilledTo a c n p new (i + k)
 filled-more a b c n m p i k old new s l e w h q =
     let P : List ℕ → Type 0 = λ t. Consumes a b t in
     record {

@@ -23,21 +23,21 @@ values_of-append name ls ms =
     ∙ map-append (λ (line : Line). line.1) (filter (λ (line : Line). are_same_name line.0 name) ls) (filter (λ (line : Line). are_same_name line.0 name) ms)
 
 lines-more : (name buf : List ℕ) (hs : List HeaderSpan) (i : ℕ) (d : HeaderSpan) → i < length hs
-  → values_of name (lines_of buf (take (i + 1) hs)) ≡ values_of name (lines_of buf (take i hs)) ++ values_of name (header_bytes buf (get_or hs i d) ∷ [])
+    → values_of name (lines_of buf (take (i + 1) hs)) ≡ values_of name (lines_of buf (take i hs)) ++ values_of name (header_bytes buf (get_or hs i d) ∷ [])
 lines-more name buf hs i d h =
     rw (add-one, take-suc hs i d h)
     (ap (values_of name) (map-append (header_bytes buf) (take i hs) (get_or hs i d ∷ [])) ∙ values_of-append name (lines_of buf (take i hs)) (header_bytes buf (get_or hs i d) ∷ []))
 
 -- a line of the name adds its value
 pub values-named : (name buf : List ℕ) (hs : List HeaderSpan) (i : ℕ) (d : HeaderSpan) → i < length hs
-  → true ≡ are_same_name (span_bytes buf (get_or hs i d).name) name
-  → values_of name (lines_of buf (take (i + 1) hs)) ≡ values_of name (lines_of buf (take i hs)) ++ span_bytes buf (get_or hs i d).value ∷ []
+    → true ≡ are_same_name (span_bytes buf (get_or hs i d).name) name
+    → values_of name (lines_of buf (take (i + 1) hs)) ≡ values_of name (lines_of buf (take i hs)) ++ span_bytes buf (get_or hs i d).value ∷ []
 values-named name buf hs i d h e = lines-more name buf hs i d h ∙ rw (← e) refl
 
 -- another line adds none
 pub values-other : (name buf : List ℕ) (hs : List HeaderSpan) (i : ℕ) (d : HeaderSpan) → i < length hs
-  → false ≡ are_same_name (span_bytes buf (get_or hs i d).name) name
-  → values_of name (lines_of buf (take (i + 1) hs)) ≡ values_of name (lines_of buf (take i hs))
+    → false ≡ are_same_name (span_bytes buf (get_or hs i d).name) name
+    → values_of name (lines_of buf (take (i + 1) hs)) ≡ values_of name (lines_of buf (take i hs))
 values-other name buf hs i d h e = lines-more name buf hs i d h ∙ rw (← e) (grind (arith, common_steps))
 
 -- a number that each of some values spells and one value more spells too
@@ -59,15 +59,15 @@ length-stays values value h k all = h k (last-spelled values value k all).0
 
 -- the next line is another one
 pub length-other : (name buf : List ℕ) (hs : List HeaderSpan) (i : ℕ) (d : HeaderSpan) (s t : Length) → i < length hs
-  → false ≡ are_same_name (span_bytes buf (get_or hs i d).name) name → t ≡ s
-  → IsLengthOf (values_of name (lines_of buf (take i hs))) s → IsLengthOf (values_of name (lines_of buf (take (i + 1) hs))) t
+    → false ≡ are_same_name (span_bytes buf (get_or hs i d).name) name → t ≡ s
+    → IsLengthOf (values_of name (lines_of buf (take i hs))) s → IsLengthOf (values_of name (lines_of buf (take (i + 1) hs))) t
 length-other name buf hs i d s t h e u k = rw (values-other name buf hs i d h e, u) k
 
 -- the next line is of the name
 pub length-named : (name buf : List ℕ) (hs : List HeaderSpan) (i : ℕ) (d : HeaderSpan) (s t a : Length) → i < length hs
-  → true ≡ are_same_name (span_bytes buf (get_or hs i d).name) name → t ≡ a
-  → ((values : List (List ℕ)) → IsLengthOf values s → IsLengthOf (values ++ span_bytes buf (get_or hs i d).value ∷ []) a)
-  → IsLengthOf (values_of name (lines_of buf (take i hs))) s → IsLengthOf (values_of name (lines_of buf (take (i + 1) hs))) t
+    → true ≡ are_same_name (span_bytes buf (get_or hs i d).name) name → t ≡ a
+    → ((values : List (List ℕ)) → IsLengthOf values s → IsLengthOf (values ++ span_bytes buf (get_or hs i d).value ∷ []) a)
+    → IsLengthOf (values_of name (lines_of buf (take i hs))) s → IsLengthOf (values_of name (lines_of buf (take (i + 1) hs))) t
 length-named name buf hs i d s t a h e u f k = rw (values-named name buf hs i d h e, u) (f (values_of name (lines_of buf (take i hs))) k)
 
 -- behind the last line
@@ -75,8 +75,8 @@ pub take-whole : {X : Type 0} (i : ℕ) (xs : List X) → length xs ≤ i → ta
 take-whole i xs h = grind (arith, common_steps)
 
 values-around : (name buf : List ℕ) (hs : List HeaderSpan) (i : ℕ) (d : HeaderSpan) → i < length hs
-  → true ≡ are_same_name (span_bytes buf (get_or hs i d).name) name
-  → values_of name (lines_of buf hs) ≡ values_of name (lines_of buf (take i hs)) ++ (span_bytes buf (get_or hs i d).value ∷ values_of name (lines_of buf (drop (i + 1) hs)))
+    → true ≡ are_same_name (span_bytes buf (get_or hs i d).name) name
+    → values_of name (lines_of buf hs) ≡ values_of name (lines_of buf (take i hs)) ++ (span_bytes buf (get_or hs i d).value ∷ values_of name (lines_of buf (drop (i + 1) hs)))
 values-around name buf hs i d h e =
     ap (λ (xs : List HeaderSpan). values_of name (lines_of buf xs)) (sym (take-append-drop (i + 1) hs))
     ∙ ap (values_of name) (map-append (header_bytes buf) (take (i + 1) hs) (drop (i + 1) hs))
@@ -91,6 +91,6 @@ two-at-least buf seen more whole v Several e h n = (h.0, h.1, h.2 ++ v ∷ more,
 
 -- a second line of the name
 pub only-several : (name buf : List ℕ) (hs : List HeaderSpan) (i : ℕ) (d : HeaderSpan) (only : Only) → i < length hs
-  → true ≡ are_same_name (span_bytes buf (get_or hs i d).name) name → (only ≡ Nothing → ⊥)
-  → IsOnly buf (values_of name (lines_of buf (take i hs))) only → IsOnly buf (values_of name (lines_of buf hs)) Several
+    → true ≡ are_same_name (span_bytes buf (get_or hs i d).name) name → (only ≡ Nothing → ⊥)
+    → IsOnly buf (values_of name (lines_of buf (take i hs))) only → IsOnly buf (values_of name (lines_of buf hs)) Several
 only-several name buf hs i d only h e n k = two-at-least buf _ _ _ _ only (values-around name buf hs i d h e) k n

@@ -73,14 +73,14 @@ over-none got more o h rest k =
 
 -- one read more, behind the first bytes of a buffer
 pub read-consumes : (a b c : Option (List ℕ)) (n m i k : ℕ) (old new : List ℕ) → ReadTo a b n m (take i old) → take i new ≡ take i old
-  → Consumes b c (take k (drop i new)) → Consumes a c (take (i + k) new)
+    → Consumes b c (take k (drop i new)) → Consumes a c (take (i + k) new)
 read-consumes a b c n m i k old new s e h =
     let P : List ℕ → Type 0 = λ t. Consumes a b t in
     rw (take-add i k new) (Consumes-append a b c (take i new) (take k (drop i new)) (subst P (sym e) s.consumes) h)
 
 -- the same, where no head has come
 pub read-more : (a b c : Option (List ℕ)) (n m p i k : ℕ) (old new : List ℕ) → ReadTo a b n m (take i old) → take i new ≡ take i old
-  → Consumes b c (take k (drop i new)) → p ≡ m → HasNoRequest (take (i + k) new) → ReadTo a c n p (take (i + k) new)
+    → Consumes b c (take k (drop i new)) → p ≡ m → HasNoRequest (take (i + k) new) → ReadTo a c n p (take (i + k) new)
 read-more a b c n m p i k old new s e h q none = record {
   consumes = read-consumes a b c n m i k old new s e h;
   count = q ∙ s.count;
@@ -88,7 +88,7 @@ read-more a b c n m p i k old new s e h q none = record {
 }
 
 known-none : (a b : Option (List ℕ)) (got : List ℕ) → Consumes a b got → 0 < length got → ((more : List ℕ) → HasNoHead (got ++ more))
-  → IfSome a (λ input. (0 < length input) × HasNoHead input)
+    → IfSome a (λ input. (0 < length input) × HasNoHead input)
 known-none None b got h n none = tt
 known-none (Some xs) None got h n none = absurd h
 known-none (Some xs) (Some ys) got h n none =
@@ -97,10 +97,10 @@ known-none (Some xs) (Some ys) got h n none =
 
 -- the buffer is full, and no head has come
 pub full-refused : (a b : Option (List ℕ)) (n m : ℕ) (got : List ℕ) → ReadTo a b n m got → length got ≡ 8192
-  → IfSome a (λ input. (0 < length input) × HasNoHead input)
+    → IfSome a (λ input. (0 < length input) × HasNoHead input)
 full-refused a b n m got s e = known-none a b got s.consumes (omega arith) (λ more. full-none got more e (s.none (omega arith)))
 
 -- the bytes that were read begin no head
 pub head-refused : (a b : Option (List ℕ)) (got : List ℕ) → Consumes a b got → 0 < length got → RequestOverflows 2731 got
-  → IfSome a (λ input. (0 < length input) × HasNoHead input)
+    → IfSome a (λ input. (0 < length input) × HasNoHead input)
 head-refused a b got h n o = known-none a b got h n (λ more. over-none got more o)

@@ -20,9 +20,9 @@ use Rattle.fab_program_base.specs.declared.hear.Heard.TheVariants as heard
 
 -- a head that has been read, and what it asks for, spell for the whole input
 pub spells-read : (got more : List ℕ) (headers : List HeaderSpan) (spans : RequestSpans) (asking : Asking) (s : Spelling)
-  → IsRequestOf got headers spans → length got ≤ 8192 → spans.len ≤ length got
-  → HeadAsks (span_bytes got spans.method) (span_bytes got spans.path) (lines_of got (take spans.headers headers)) asking
-  → SpellsBehind (span_bytes got spans.path) (drop spans.len got ++ more) asking s → Spells (got ++ more) s
+    → IsRequestOf got headers spans → length got ≤ 8192 → spans.len ≤ length got
+    → HeadAsks (span_bytes got spans.method) (span_bytes got spans.path) (lines_of got (take spans.headers headers)) asking
+    → SpellsBehind (span_bytes got spans.path) (drop spans.len got ++ more) asking s → Spells (got ++ more) s
 spells-read got more headers spans asking s (h, at) small within asks_it behind =
     let short : length (print_request h) ≤ 8192 = omega (arith, at.len) in
     let same : HeadAsks h.method h.target (lines_of got (take spans.headers headers)) asking = rw (at.method, at.path) at asks_it in
@@ -41,7 +41,7 @@ IfSome-map (Some x) P Q f h = f x h
 
 -- what is heard behind a head is heard of the input
 pub heard-behind : {A : Type 0} (answer : Heard A) (input token : List ℕ) (r : Route) (target body : List ℕ)
-  → ((s : Spelling) → SpellsCommand token r target body s → Spells input s) → IsHeardBehind r target body answer → IsHeard input answer
+    → ((s : Spelling) → SpellsCommand token r target body s → Spells input s) → IsHeardBehind r target body answer → IsHeard input answer
 heard-behind heard.Nothing input token r target body f h = absurd h
 heard-behind (heard.Refused why) input token r target body f h = f (refused why) (h token)
 heard-behind heard.Unnamed input token r target body f h = f unnamed (h token)
@@ -51,23 +51,23 @@ heard-behind heard.Memory input token r target body f h = tt
 
 -- all of a body is there
 pub behind-whole : (token : List ℕ) (r : Route) (target rest : List ℕ) (size : ℕ) (s : Spelling) → size ≤ length rest
-  → SpellsCommand token r target (take size rest) s → SpellsBehind target rest (asks token r (Some size)) s
+    → SpellsCommand token r target (take size rest) s → SpellsBehind target rest (asks token r (Some size)) s
 behind-whole token r target rest size s h k = let e : nat_le size (length rest) ≡ true = grind (arith, nat_tests) in rw e k
 
 -- a body is too short
 pub behind-short : (token : List ℕ) (r : Route) (target rest : List ℕ) (size : ℕ) → length rest < size
-  → SpellsBehind target rest (asks token r (Some size)) (refused (no.BadBody 0))
+    → SpellsBehind target rest (asks token r (Some size)) (refused (no.BadBody 0))
 behind-short token r target rest size h = let e : nat_le size (length rest) ≡ false = grind (arith, nat_tests) in rw e refl
 
 -- what is heard behind a head and a body is heard of the input
 pub heard-whole : {A : Type 0} (answer : Heard A) (got more : List ℕ) (headers : List HeaderSpan) (spans : RequestSpans) (token : List ℕ) (r : Route) (size : ℕ) (body : List ℕ)
-  → IsRequestOf got headers spans → length got ≤ 8192 → spans.len ≤ length got
-  → HeadAsks (span_bytes got spans.method) (span_bytes got spans.path) (lines_of got (take spans.headers headers)) (asks token r (Some size))
-  → size ≤ length (drop spans.len got ++ more) → body ≡ take size (drop spans.len got ++ more)
-  → IsHeardBehind r (span_bytes got spans.path) body answer → IsHeardOf got more answer
+    → IsRequestOf got headers spans → length got ≤ 8192 → spans.len ≤ length got
+    → HeadAsks (span_bytes got spans.method) (span_bytes got spans.path) (lines_of got (take spans.headers headers)) (asks token r (Some size))
+    → size ≤ length (drop spans.len got ++ more) → body ≡ take size (drop spans.len got ++ more)
+    → IsHeardBehind r (span_bytes got spans.path) body answer → IsHeardOf got more answer
 heard-whole answer got more headers spans token r size body head short within judged fits whole behind =
     heard-behind answer (got ++ more) token r (span_bytes got spans.path) body
     (λ s k. spells-read got more headers spans (asks token r (Some size)) s head short within judged
-      (behind-whole token r (span_bytes got spans.path) (drop spans.len got ++ more) size s fits
-        (subst (λ (b : List ℕ). SpellsCommand token r (span_bytes got spans.path) b s) whole k)))
+    (behind-whole token r (span_bytes got spans.path) (drop spans.len got ++ more) size s fits
+    (subst (λ (b : List ℕ). SpellsCommand token r (span_bytes got spans.path) b s) whole k)))
     behind

@@ -27,7 +27,7 @@ table-suc table (x ∷ rs) (suc i) d h = table-suc table rs i d (omega arith)
 
 -- one route more is in the table
 pub table-more : (old new all : Table) (rs : List Route) (i : ℕ) (d : Route) → i < length rs
-  → new ≡ with_route (get_or rs i d) old → table_from old (drop i rs) ≡ all → table_from new (drop (i + 1) rs) ≡ all
+    → new ≡ with_route (get_or rs i d) old → table_from old (drop i rs) ≡ all → table_from new (drop (i + 1) rs) ≡ all
 table-more old new all rs i d h e k = rw (e, add-one) (sym (table-suc old rs i d h) ∙ k)
 
 drop-all : (i : ℕ) (rs : List Route) → length rs ≤ i → drop i rs ≡ []

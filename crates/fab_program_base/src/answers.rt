@@ -161,7 +161,11 @@ fn put_reply<W: Write>(writer: &mut Counted<W>, reply: &Reply) -> Result<(), Wri
         Reply::Revision(revision) => put_message(
             writer,
             reply,
-            &[b"{\"revision\":".as_slice(), digits.format(*revision).as_bytes(), b"}".as_slice()],
+            &[
+                b"{\"revision\":".as_slice(),
+                digits.format(*revision).as_bytes(),
+                b"}".as_slice(),
+            ],
         ),
         Reply::JoinedByZone(zone) => put_message(
             writer,
@@ -270,14 +274,29 @@ fn printed_port(port: Wwn) -> [u8; 23]
 {
     let b = port.number().to_be_bytes();
     [
-        hex(b[0] / 16), hex(b[0] % 16), b':',
-        hex(b[1] / 16), hex(b[1] % 16), b':',
-        hex(b[2] / 16), hex(b[2] % 16), b':',
-        hex(b[3] / 16), hex(b[3] % 16), b':',
-        hex(b[4] / 16), hex(b[4] % 16), b':',
-        hex(b[5] / 16), hex(b[5] % 16), b':',
-        hex(b[6] / 16), hex(b[6] % 16), b':',
-        hex(b[7] / 16), hex(b[7] % 16),
+        hex(b[0] / 16),
+        hex(b[0] % 16),
+        b':',
+        hex(b[1] / 16),
+        hex(b[1] % 16),
+        b':',
+        hex(b[2] / 16),
+        hex(b[2] % 16),
+        b':',
+        hex(b[3] / 16),
+        hex(b[3] % 16),
+        b':',
+        hex(b[4] / 16),
+        hex(b[4] % 16),
+        b':',
+        hex(b[5] / 16),
+        hex(b[5] % 16),
+        b':',
+        hex(b[6] / 16),
+        hex(b[6] % 16),
+        b':',
+        hex(b[7] / 16),
+        hex(b[7] % 16),
     ]
 }
 
@@ -286,7 +305,11 @@ fn hex(digit: u8) -> u8
     requires { digit < 16 }
     ensures { result ≡ names.hex_digit digit }
 {
-    if digit < 10 { b'0' + digit } else { b'a' + (digit - 10) }
+    if digit < 10 {
+        b'0' + digit
+    } else {
+        b'a' + (digit - 10)
+    }
 }
 
 /// The phrases of the answers are those of the crate `http`.

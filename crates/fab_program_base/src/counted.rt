@@ -50,7 +50,8 @@ impl<T> Counted<T> {
         ensures inner { inner_of self.new ≡ inner_of self.old }
         ensures count { failures_of self.new ≡ one_more (failures_of self.old) }
     {
-        self.failures = self.failures.saturating_add(1);
+        let Counted { inner: _, failures } = self;
+        *failures = failures.saturating_add(1);
     }
 }
 

@@ -119,12 +119,7 @@ fn command_of<A: Allocator + Copy>(
 }
 
 /// The command Import: the rows of the body, and then the fabric that the path names.
-fn import_of<A: Allocator + Copy>(
-    alloc: A,
-    global: Global,
-    target: &[u8],
-    body: &[u8],
-) -> Heard<A>
+fn import_of<A: Allocator + Copy>(alloc: A, global: Global, target: &[u8], body: &[u8]) -> Heard<A>
     ensures { IsHeardBehind Route.Imports target.now body.now result }
 {
     let rows = match read_ports(alloc, global, body) {

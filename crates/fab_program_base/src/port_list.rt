@@ -5,9 +5,9 @@ ghost use Rattle.csv.specs.Records.{fields_of, field_at};
 ghost use Rattle.fab_inventory.specs.declared.port.PortRow.{PortRow};
 ghost use Rattle.fab_program_base.specs.PortLists.{header, four_of, texts_of, SpellsRow, ListsPorts, IsFileFault};
 
+use crate::parts::read_wwn;
 use csv::{ByteRecord, ReaderBuilder};
 use fab_inventory::PortRow;
-use crate::parts::read_wwn;
 use fab_names::Place;
 use std::alloc::{Allocator, Global};
 
@@ -57,7 +57,11 @@ pub fn read_ports<A: Allocator + Copy>(
             headed = true;
         }
     }
-    if headed { Ok(rows) } else { Err(FileFault::Line(1)) }
+    if headed {
+        Ok(rows)
+    } else {
+        Err(FileFault::Line(1))
+    }
 }
 
 /// The row of a record, if its fields spell one.

@@ -43,9 +43,17 @@ pub loop-item-preserved : goal.loop-item-preserved
 loop-item-preserved g c =
     let inv = c.loop-item.invariant in
     let s = rw (c.in-Some.is, c.in-Ok.is) at ((c.next.ensures.steps inv.2 inv.0).0 inv.1) in
-    let m = rows-more (λ (s : Bor (List ℕ)). Some s.now) c.loop-item.item-iterator.rdr c.next.new.self.rdr (fields_of c.in-Ok.fields) default_config state.StartRecord (strip_bom c.args.text.now) inv.4 inv.6 inv.3 inv.5 inv.7 s.0 in
-    (s.0.3 ∙ inv.0, inl s.1, s.2, s.0.2 ∙ inv.3, m.0, m.1, inv.6 ++ fields_of c.in-Ok.fields ∷ [], m.2,
+    let m = rows-more (λ (s : Bor (List ℕ)). Some s.now) c.loop-item.item-iterator.rdr c.next.new.self.rdr (fields_of c.in-Ok.fields) default_config state.StartRecord (strip_bom c.args.text.now) inv.4 inv.6 inv.3 inv.5 inv.7 s.0 in (
+      s.0.3 ∙ inv.0,
+      inl s.1,
+      s.2,
+      s.0.2 ∙ inv.3,
+      m.0,
+      m.1,
+      inv.6 ++ fields_of c.in-Ok.fields ∷ [],
+      m.2,
       elim c.if-headed.branch [
-        then-headed+in-Some-read_row+else-is_err w ↦ read-row c.loop-item.headed c.if-headed.headed inv.6 c.loop-item.rows.items c.if-headed.rows.items (fields_of c.in-Ok.fields) w.in-Some-read_row.row inv.8 w.if-headed.true w.headed-is w.in-Some-read_row.ensures (ap (λ (v : Vec PortRow g.row.A.Denot). v.items) w.rows-is ∙ (rw w.if-is_err.ensures.negation at w.push.ensures.items))
+        | then-headed+in-Some-read_row+else-is_err w ↦ read-row c.loop-item.headed c.if-headed.headed inv.6 c.loop-item.rows.items c.if-headed.rows.items (fields_of c.in-Ok.fields) w.in-Some-read_row.row inv.8 w.if-headed.true w.headed-is w.in-Some-read_row.ensures (ap (λ (v : Vec PortRow g.row.A.Denot). v.items) w.rows-is ∙ (rw w.if-is_err.ensures.negation at w.push.ensures.items))
         | else-headed+else-not-has_header w ↦ read-header c.loop-item.headed c.if-headed.headed inv.6 c.loop-item.rows.items c.if-headed.rows.items (fields_of c.in-Ok.fields) inv.8 w.if-headed.false w.headed-is w.if-not-has_header.ensures (ap (λ (v : Vec PortRow g.row.A.Denot). v.items) w.rows-is)
-      ])
+      ],
+    )
