@@ -1,18 +1,17 @@
 -- One header line more.
-use Rattle.std.proofs.Common.{◌≡◌, ◌≢◌, ℕ, ◌+◌, ◌<◌, ◌≤◌, List, [], ◌∷◌, ◌++◌, length, take, drop, take-append-drop, append_assoc, get_or, map, refl, ap, sym, ◌∙◌, subst, add-one, arith, true, false, Some, None, All, option_map}
+use Rattle.std.proofs.Common.{◌≡◌, ℕ, ◌+◌, ◌<◌, ◌≤◌, List, [], ◌∷◌, ◌++◌, length, take, drop, take-append-drop, append_assoc, get_or, map, refl, ap, sym, ◌∙◌, add-one, arith, true, false, Some, All}
 use Rattle.std.specs.List.{filter}
 use Rattle.std.proofs.Math.Seq.{take-suc}
 use Rattle.std.proofs.lemmas.List.{map-append}
-use Rattle.std.proofs.lemmas.List.Elements.{filter-append, All-head, All-pop}
+use Rattle.std.proofs.lemmas.List.Elements.{filter-append, All-pop}
 use Rattle.std.proofs.lemmas.Grind.{common_steps}
 use Rattle.httparse.specs.Spans.{span_bytes, header_bytes}
 use Rattle.httparse.specs.declared.spans.HeaderSpan.{HeaderSpan}
 use Rattle.fab_names.specs.Numbers.{SpellsNumber}
-use Rattle.fab_names.proofs.Numerals.{one_number}
 use Rattle.fab_program_base.specs.Lines.{Line, are_same_name, values_of, lines_of}
 use Rattle.fab_program_base.specs.Fields.{IsLengthOf, IsOnly}
 use Rattle.fab_program_base.specs.declared.fields.Length.{Length}
-use Rattle.fab_program_base.specs.declared.fields.Length.TheVariants.{Missing, Is, Bad}
+use Rattle.fab_program_base.specs.declared.fields.Length.TheVariants.{Bad}
 use Rattle.fab_program_base.specs.declared.fields.Only.{Only}
 use Rattle.fab_program_base.specs.declared.fields.Only.TheVariants.{Nothing, One, Several}
 
@@ -43,15 +42,6 @@ values-other name buf hs i d h e = lines-more name buf hs i d h ∙ rw (← e) (
 -- a number that each of some values spells and one value more spells too
 last-spelled : (values : List (List ℕ)) (value : List ℕ) (n : ℕ) → All (λ v. SpellsNumber v n) (values ++ value ∷ []) → All (λ v. SpellsNumber v n) values × SpellsNumber value n
 last-spelled values value n h = All-pop (λ v. SpellsNumber v n) (values ++ value ∷ []) values (Some value) refl h
-
--- a value with another number makes the length bad
-pub length-differs : (values : List (List ℕ)) (value : List ℕ) (n m : ℕ) → IsLengthOf values (Is n) → SpellsNumber value m → (n ≡ m → ⊥) → IsLengthOf (values ++ value ∷ []) Bad
-length-differs [] value n m h s d k all = h.0 refl
-length-differs (v ∷ values) value n m h s d k all =
-    let both = last-spelled (v ∷ values) value k all in
-    let first : n ≡ k = one_number v n k (All-head (λ x. SpellsNumber x n) v values h.1) (All-head (λ x. SpellsNumber x k) v values both.0) in
-    let last : k ≡ m = one_number value k m both.1 s in
-    d (first ∙ last)
 
 -- a bad length stays bad
 pub length-stays : (values : List (List ℕ)) (value : List ℕ) → IsLengthOf values Bad → IsLengthOf (values ++ value ∷ []) Bad

@@ -1,5 +1,5 @@
 -- Reading an input in parts, and when it has no head.
-use Rattle.std.proofs.Common.{◌≡◌, ℕ, ◌+◌, ◌*◌, ◌<◌, ◌≤◌, List, [], ◌∷◌, ◌++◌, length, take, drop, refl, ap, sym, ◌∙◌, subst, append_assoc, arith, Option, Some, None, All, length-append, IfSome, length-take, length-drop}
+use Rattle.std.proofs.Common.{◌≡◌, ℕ, ◌+◌, ◌*◌, ◌<◌, ◌≤◌, List, [], ◌∷◌, ◌++◌, length, take, drop, refl, ap, sym, ◌∙◌, subst, append_assoc, arith, Option, Some, None, All, length-append, IfSome}
 use Rattle.std.proofs.Math.Seq.{take-add}
 use Rattle.std.proofs.lemmas.List.Elements.{All-head, All-tail}
 use Rattle.std.specs.Io.KnownBytes.{Consumes}
@@ -7,11 +7,6 @@ use Rattle.std.specs.List.{flat_map}
 use Rattle.httparse.specs.Grammar.{LineEnd, print_end, crlf, lf, Field, IsField, print_field, RequestHead, IsRequestHead, print_request, HasNoRequest}
 use Rattle.httparse.specs.Spans.{RequestOverflows}
 use Rattle.fab_program_base.specs.Heads.{HasNoHead}
-
--- nothing is consumed where nothing changes
-pub Consumes-none : (a : Option (List ℕ)) → Consumes a a []
-Consumes-none None = tt
-Consumes-none (Some xs) = refl
 
 -- what is consumed in two turns is consumed as one
 pub Consumes-append : (a b c : Option (List ℕ)) (x y : List ℕ) → Consumes a b x → Consumes b c y → Consumes a c (x ++ y)
@@ -55,10 +50,6 @@ pub record ReadTo (old new : Option (List ℕ)) (before after : ℕ) (got : List
   pub consumes : Consumes old new got
   pub count : after ≡ before
   pub none : 0 < length got → HasNoRequest got
-
--- before the first read
-pub read-start : (a : Option (List ℕ)) (count : ℕ) → ReadTo a a count count []
-read-start a count = record { consumes = Consumes-none a; count = refl; none = λ h. absurd (omega arith) }
 
 full-none : (got more : List ℕ) → length got ≡ 8192 → HasNoRequest got → HasNoHead (got ++ more)
 full-none got more e n h rest k =

@@ -1,19 +1,17 @@
 -- What an input spells, from its head and the bytes behind it.
-use Rattle.std.proofs.Common.{◌≡◌, ℕ, ◌<◌, ◌≤◌, ◌⊎◌, inl, inr, List, [], ◌++◌, length, take, drop, Option, Some, None, IfSome, refl, sym, ◌∙◌, subst, true, false, arith, map}
+use Rattle.std.proofs.Common.{◌≡◌, ℕ, ◌<◌, ◌≤◌, inr, List, ◌++◌, length, take, drop, Option, Some, None, IfSome, refl, subst, true, false, arith, map}
 use Rattle.std.specs.Prelude.{nat_le}
-use Rattle.std.specs.Io.KnownBytes.{Consumes}
 use Rattle.std.proofs.lemmas.Bool.Decides.{nat_tests}
-use Rattle.httparse.specs.Grammar.{RequestHead, print_request}
-use Rattle.httparse.specs.Spans.{IsRequestOf, IsRequestAt, span_bytes, name_and_value}
+use Rattle.httparse.specs.Grammar.{print_request}
+use Rattle.httparse.specs.Spans.{IsRequestOf, span_bytes, name_and_value}
 use Rattle.httparse.proofs.GrammarLemmas.{ReadsRequest-append}
 use Rattle.httparse.specs.declared.spans.HeaderSpan.{HeaderSpan}
 use Rattle.httparse.specs.declared.spans.RequestSpans.{RequestSpans}
 use Rattle.fab_program_base.specs.Lines.{Line, lines_of}
-use Rattle.fab_program_base.specs.Asking.{Asking, refuses, asks, HeadAsks}
-use Rattle.fab_program_base.specs.Spelling.{Spelling, Order, nothing, refused, unnamed, asked, SpellsCommand, SpellsBehind, SpellsRequest, Spells}
+use Rattle.fab_program_base.specs.Asking.{Asking, asks, HeadAsks}
+use Rattle.fab_program_base.specs.Spelling.{Spelling, refused, unnamed, asked, SpellsCommand, SpellsBehind, Spells}
 use Rattle.fab_program_base.specs.Hearing.{IsHeard, IsHeardOf, IsHeardBehind, order_of}
 use Rattle.fab_program_base.specs.declared.routes.Route.{Route}
-use Rattle.fab_program_base.specs.declared.requests.Refusal.{Refusal}
 use Rattle.fab_program_base.specs.declared.requests.Refusal.TheVariants as no
 use Rattle.fab_program_base.specs.declared.hear.Heard.{Heard}
 use Rattle.fab_program_base.specs.declared.hear.Heard.TheVariants as heard

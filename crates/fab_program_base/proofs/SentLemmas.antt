@@ -1,6 +1,6 @@
 -- A text that goes out in parts.
 use Rattle.std.proofs.Common.{◌≡◌, ℕ, zero, suc, ◌+◌, ◌<◌, List, [], ◌∷◌, ◌++◌, length, take, drop, get_or, refl, ap, sym, ◌∙◌, subst, append_assoc, add-one, arith, Option, Some, None, Result, Ok, Err, OnErr}
-use Rattle.std.specs.Io.KnownBytes.{Appends, Keeps}
+use Rattle.std.specs.Io.KnownBytes.{Appends}
 use Rattle.std.specs.List.{flat_map}
 use Rattle.std.proofs.lemmas.Grind.{common_steps}
 use Rattle.std.proofs.lemmas.Bool.Decides.{nat_tests}
@@ -17,17 +17,6 @@ pub record SentTo (old new : Option (List ℕ)) (before after : ℕ) (text rest 
 -- one failure more is a rise, or the greatest count
 pub rose-one_more : (count : ℕ) → Rose count (one_more count)
 rose-one_more count = grind (arith, nat_tests)
-
--- nothing is appended where nothing changes
-pub Appends-none : (a : Option (List ℕ)) → Appends a a []
-Appends-none None = tt
-Appends-none (Some xs) = grind (arith, common_steps)
-
--- what keeps the bytes appends nothing
-pub Appends-keeps : (a b : Option (List ℕ)) → Keeps a b → Appends a b []
-Appends-keeps None b h = tt
-Appends-keeps (Some xs) None h = absurd h
-Appends-keeps (Some xs) (Some ys) h = grind (arith, common_steps)
 
 -- what is appended in two turns is appended as one
 pub Appends-append : (a b c : Option (List ℕ)) (x y : List ℕ) → Appends a b x → Appends b c y → Appends a c (x ++ y)

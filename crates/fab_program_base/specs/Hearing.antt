@@ -1,5 +1,5 @@
 -- What is heard of an input.
-use Rattle.std.specs.Prelude.{ℕ, ◌≡◌, List, ◌++◌}
+use Rattle.std.specs.Prelude.{ℕ, List, ◌++◌}
 use Rattle.fab_program_base.specs.Failures.{one_more}
 use Rattle.fab_program_base.specs.Spelling.{Order, imports, joined, Spelling, nothing, refused, unnamed, asked, SpellsCommand, Spells}
 use Rattle.fab_program_base.specs.declared.routes.Route.{Route}

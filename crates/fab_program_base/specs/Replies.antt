@@ -1,12 +1,11 @@
 -- The answers of replies, as bytes (RFC 9112).
-use Rattle.std.specs.Prelude.{ℕ, Bool, true, false, ◌≡◌, ◌+◌, List, [], ◌∷◌, ◌++◌, length, codes, decimal, Option, Some, None, unwrap_or}
+use Rattle.std.specs.Prelude.{ℕ, Bool, true, false, ◌≡◌, List, [], ◌∷◌, ◌++◌, length, codes, decimal, unwrap_or}
 use Rattle.std.specs.List.{flat_map}
 use Rattle.http.specs.StatusCode.{reason_phrase}
 use Rattle.fab_names.specs.WorldWideNames.{wwn_text}
 use Rattle.fab_program_base.specs.Routes.{allow_line_of}
 use Rattle.fab_program_base.specs.declared.requests.Refusal.{Refusal}
 use Rattle.fab_program_base.specs.declared.requests.Refusal.TheVariants as no
-use Rattle.fab_program_base.specs.declared.answers.Limit.{Limit}
 use Rattle.fab_program_base.specs.declared.answers.Limit.TheVariants as limit
 use Rattle.fab_program_base.specs.declared.answers.Reply.{Reply}
 use Rattle.fab_program_base.specs.declared.answers.Reply.TheVariants as reply

@@ -1,9 +1,9 @@
 -- The routes of the desk, as matchit keeps and finds them.
-use Rattle.std.specs.Prelude.{ℕ, List, [], ◌∷◌, ◌++◌, Option, Result, Ok, Err, codes, option_map}
+use Rattle.std.specs.Prelude.{ℕ, List, [], ◌∷◌, ◌++◌, Option, Result, Ok, Err, codes, option_map, Bool, false, is_none}
 use Rattle.matchit.specs.Rows.{RowsOf}
 use Rattle.matchit.specs.Order.{placed}
 use Rattle.matchit.specs.Route.{Scan, parse_route}
-use Rattle.matchit.specs.Router.{RouteOf, route_from}
+use Rattle.matchit.specs.Router.{RouteOf, nearest, route_from}
 use Rattle.matchit.specs.Seek.{first}
 use Rattle.fab_program_base.specs.declared.routes.TheConstants.{ROUTES}
 use Rattle.fab_program_base.specs.declared.routes.Route.{Route}
@@ -46,6 +46,15 @@ with_route r table = with_scan (parse_route (path_of r)) r table
 unfoldable pub table_from : Table → List Route → Table
 table_from table [] = table
 table_from table (r ∷ routes) = table_from (with_route r table) routes
+
+-- whether no route of a table conflicts with a path
+abbrev pub fits_scan : {E : Type 0} → Result Scan E → Table → Bool
+fits_scan (Ok scan) table = is_none (nearest scan.pattern table)
+fits_scan (Err fault) table = false
+
+-- whether a route fits a table
+unfoldable pub fits : Route → Table → Bool
+fits r table = fits_scan (parse_route (path_of r)) table
 
 -- the route of a path, by matchit's own look-up
 abbrev pub route_of : List ℕ → Option Route

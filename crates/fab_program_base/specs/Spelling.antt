@@ -1,5 +1,5 @@
 -- What the input of a connection spells.
-use Rattle.std.specs.Prelude.{ℕ, ◌≡◌, ◌<◌, ◌⊎◌, List, [], Option, Some, None, length, take, map, nat_le, MatchBool}
+use Rattle.std.specs.Prelude.{ℕ, ◌≡◌, ◌<◌, ◌⊎◌, List, [], Some, None, length, take, map, nat_le, MatchBool}
 use Rattle.httparse.specs.Grammar.{RequestHead}
 use Rattle.httparse.specs.Spans.{name_and_value}
 use Rattle.fab_names.specs.Fabrics.{SpellsFabric}
@@ -7,7 +7,6 @@ use Rattle.fab_names.specs.WorldWideNames.{SpellsWwn}
 use Rattle.fab_names.specs.declared.fabric.Fabric.{Fabric}
 use Rattle.fab_inventory.specs.declared.port.PortRow.{PortRow}
 use Rattle.fab_program_base.specs.Heads.{IsHead, HasNoHead}
-use Rattle.fab_program_base.specs.Lines.{Line}
 use Rattle.fab_program_base.specs.Parts.{part_at}
 use Rattle.fab_program_base.specs.Asking.{Asking, refuses, asks, HeadAsks}
 use Rattle.fab_program_base.specs.PortLists.{ListsPorts, IsFaultAt}
@@ -64,3 +63,7 @@ Spells input spelling =
     ((input ≡ []) × (spelling ≡ nothing))
     ⊎ (((0 < length input) × HasNoHead input × (spelling ≡ refused no.BadHead))
     ⊎ ((head : RequestHead) × (rest : List ℕ) × IsHead input head rest × SpellsRequest head rest spelling))
+
+-- an input spells one thing
+abbrev pub SpellsOne : Type 0
+SpellsOne = (input : List ℕ) (s t : Spelling) → Spells input s → Spells input t → s ≡ t

@@ -65,7 +65,8 @@ pub enum Outcome {
 /// Writes the answer of a reply: `Answered` with its status and all its bytes, or `Unsent` at the
 /// first write that fails.
 pub fn tell<W: Write>(writer: &mut Counted<W>, reply: &Reply) -> Outcome
-    ensures told { Tells (W.contents (inner_of writer.old)) (W.contents (inner_of writer.new)) reply.now result }
+    ensures told { Tells (W.contents (inner_of writer.old))
+        (W.contents (inner_of writer.new)) reply.now result }
     ensures count { failures_of writer.new ≡ failures_after_told result (failures_of writer.old) }
 {
     match put_reply(writer, reply) {
@@ -152,8 +153,10 @@ fn fixed_refusal_body(why: Refusal) -> &'static str
 
 /// Writes the answer of a reply.
 fn put_reply<W: Write>(writer: &mut Counted<W>, reply: &Reply) -> Result<(), WriteFailed>
-    ensures ok { OnOk result (Appends (W.contents (inner_of writer.old)) (W.contents (inner_of writer.new)) (text reply.now)) }
-    ensures err { OnErr result (AppendsBeginning (W.contents (inner_of writer.old)) (W.contents (inner_of writer.new)) (text reply.now)) }
+    ensures ok { OnOk result (Appends (W.contents (inner_of writer.old))
+        (W.contents (inner_of writer.new)) (text reply.now)) }
+    ensures err { OnErr result (AppendsBeginning (W.contents (inner_of writer.old))
+        (W.contents (inner_of writer.new)) (text reply.now)) }
     ensures count { failures_of writer.new ≡ failures_after result (failures_of writer.old) }
 {
     let mut digits = Buffer::new();
@@ -197,8 +200,10 @@ fn put_refusal<W: Write>(
     why: Refusal,
 ) -> Result<(), WriteFailed>
     requires { reply.now ≡ Reply.Refused why }
-    ensures ok { OnOk result (Appends (W.contents (inner_of writer.old)) (W.contents (inner_of writer.new)) (text reply.now)) }
-    ensures err { OnErr result (AppendsBeginning (W.contents (inner_of writer.old)) (W.contents (inner_of writer.new)) (text reply.now)) }
+    ensures ok { OnOk result (Appends (W.contents (inner_of writer.old))
+        (W.contents (inner_of writer.new)) (text reply.now)) }
+    ensures err { OnErr result (AppendsBeginning (W.contents (inner_of writer.old))
+        (W.contents (inner_of writer.new)) (text reply.now)) }
     ensures count { failures_of writer.new ≡ failures_after result (failures_of writer.old) }
 {
     let mut digits = Buffer::new();
@@ -223,9 +228,11 @@ fn put_message<W: Write>(
     body: &[&[u8]],
 ) -> Result<(), WriteFailed>
     requires { length (flat_map (λ piece. piece.now) body.now) < 2 ^ 64 }
-    ensures ok { OnOk result (Appends (W.contents (inner_of writer.old)) (W.contents (inner_of writer.new))
+    ensures ok { OnOk result (Appends (W.contents (inner_of writer.old))
+        (W.contents (inner_of writer.new))
         (message reply.now (flat_map (λ piece. piece.now) body.now))) }
-    ensures err { OnErr result (AppendsBeginning (W.contents (inner_of writer.old)) (W.contents (inner_of writer.new))
+    ensures err { OnErr result (AppendsBeginning (W.contents (inner_of writer.old))
+        (W.contents (inner_of writer.new))
         (message reply.now (flat_map (λ piece. piece.now) body.now))) }
     ensures count { failures_of writer.new ≡ failures_after result (failures_of writer.old) }
 {

@@ -63,7 +63,8 @@ enum Filled {
 fn fill_from<R: Read>(reader: &mut Counted<R>, buf: &mut [u8], at: usize) -> Filled
     requires { at ≤ length buf.old }
     ensures front { take at buf.new ≡ take at buf.old }
-    ensures rest { Fills (R.remaining (inner_of reader.old)) (R.remaining (inner_of reader.new)) (drop at buf.new) result }
+    ensures rest { Fills (R.remaining (inner_of reader.old))
+        (R.remaining (inner_of reader.new)) (drop at buf.new) result }
     ensures count { failures_of reader.new ≡ failures_after_fill result (failures_of reader.old) }
 {
     fill(reader, &mut buf[at..])
@@ -71,7 +72,8 @@ fn fill_from<R: Read>(reader: &mut Counted<R>, buf: &mut [u8], at: usize) -> Fil
 
 /// Reads until the buffer is full or the input ends.
 fn fill<R: Read>(reader: &mut Counted<R>, buf: &mut [u8]) -> Filled
-    ensures bytes { Fills (R.remaining (inner_of reader.old)) (R.remaining (inner_of reader.new)) buf.new result }
+    ensures bytes { Fills (R.remaining (inner_of reader.old))
+        (R.remaining (inner_of reader.new)) buf.new result }
     ensures count { failures_of reader.new ≡ failures_after_fill result (failures_of reader.old) }
 {
     let mut filled = 0;

@@ -64,8 +64,10 @@ impl<W: Write> Counted<W> {
     ///
     /// `WriteFailed` comes at the first write that fails, with a beginning of the text written.
     pub fn put(&mut self, text: &[u8]) -> Result<(), WriteFailed>
-        ensures ok { OnOk result (Appends (W.contents (inner_of self.old)) (W.contents (inner_of self.new)) text.now) }
-        ensures err { OnErr result (AppendsBeginning (W.contents (inner_of self.old)) (W.contents (inner_of self.new)) text.now) }
+        ensures ok { OnOk result (Appends (W.contents (inner_of self.old))
+            (W.contents (inner_of self.new)) text.now) }
+        ensures err { OnErr result (AppendsBeginning (W.contents (inner_of self.old))
+            (W.contents (inner_of self.new)) text.now) }
         ensures count { failures_of self.new ≡ failures_after result (failures_of self.old) }
     {
         let mut rest = text;
@@ -82,7 +84,8 @@ impl<W: Write> Counted<W> {
     /// One write, which takes a byte or has failed.
     fn put_some(&mut self, text: &[u8]) -> Result<usize, WriteFailed>
         requires { 0 < length text.now }
-        ensures bytes { AppendsSome (W.contents (inner_of self.old)) (W.contents (inner_of self.new)) text.now result }
+        ensures bytes { AppendsSome (W.contents (inner_of self.old))
+            (W.contents (inner_of self.new)) text.now result }
         ensures count { failures_of self.new ≡ failures_after result (failures_of self.old) }
     {
         match self.write(text) {
@@ -94,8 +97,10 @@ impl<W: Write> Counted<W> {
 
     /// Writes texts one after the other, as `put` writes one.
     pub fn put_all(&mut self, texts: &[&[u8]]) -> Result<(), WriteFailed>
-        ensures ok { OnOk result (Appends (W.contents (inner_of self.old)) (W.contents (inner_of self.new)) (flat_map (λ text. text.now) texts.now)) }
-        ensures err { OnErr result (AppendsBeginning (W.contents (inner_of self.old)) (W.contents (inner_of self.new)) (flat_map (λ text. text.now) texts.now)) }
+        ensures ok { OnOk result (Appends (W.contents (inner_of self.old))
+            (W.contents (inner_of self.new)) (flat_map (λ text. text.now) texts.now)) }
+        ensures err { OnErr result (AppendsBeginning (W.contents (inner_of self.old))
+            (W.contents (inner_of self.new)) (flat_map (λ text. text.now) texts.now)) }
         ensures count { failures_of self.new ≡ failures_after result (failures_of self.old) }
     {
         for text in texts {
@@ -108,9 +113,11 @@ impl<W: Write> Counted<W> {
 
     /// Writes texts one after the other and then others, as `put` writes one.
     pub fn put_both(&mut self, texts: &[&[u8]], others: &[&[u8]]) -> Result<(), WriteFailed>
-        ensures ok { OnOk result (Appends (W.contents (inner_of self.old)) (W.contents (inner_of self.new))
+        ensures ok { OnOk result (Appends (W.contents (inner_of self.old))
+            (W.contents (inner_of self.new))
             (flat_map (λ text. text.now) texts.now ++ flat_map (λ text. text.now) others.now)) }
-        ensures err { OnErr result (AppendsBeginning (W.contents (inner_of self.old)) (W.contents (inner_of self.new))
+        ensures err { OnErr result (AppendsBeginning (W.contents (inner_of self.old))
+            (W.contents (inner_of self.new))
             (flat_map (λ text. text.now) texts.now ++ flat_map (λ text. text.now) others.now)) }
         ensures count { failures_of self.new ≡ failures_after result (failures_of self.old) }
     {
@@ -122,11 +129,13 @@ impl<W: Write> Counted<W> {
 }
 
 impl<R: Read> Counted<R> {
-    /// One read, into `buf` from `at` on, as large as there is room. `Ok(0)` is the end of the input.
+    /// One read, into `buf` from `at` on, as large as there is room. `Ok(0)` is the end of the
+    /// input.
     pub fn read_at(&mut self, buf: &mut [u8], at: usize) -> io::Result<usize>
         requires { at < length buf.old }
         ensures front { take at buf.new ≡ take at buf.old }
-        ensures bytes { ReadsInto (R.remaining (inner_of self.old)) (R.remaining (inner_of self.new)) (drop at buf.new) result }
+        ensures bytes { ReadsInto (R.remaining (inner_of self.old))
+            (R.remaining (inner_of self.new)) (drop at buf.new) result }
         ensures count { failures_of self.new ≡ failures_after result (failures_of self.old) }
     {
         self.read(&mut buf[at..])
@@ -139,7 +148,8 @@ impl<R: Read> Read for Counted<R> {
     /// One read, whose error is counted and handed on.
     fn read(&mut self, buf: &mut [u8]) -> io::Result<usize>
         ensures bound { ReadsAtMost result buf.new }
-        ensures bytes { ReadConsumes (R.remaining (inner_of self.old)) (R.remaining (inner_of self.new)) result buf.new }
+        ensures bytes { ReadConsumes (R.remaining (inner_of self.old))
+            (R.remaining (inner_of self.new)) result buf.new }
         ensures count { failures_of self.new ≡ failures_after result (failures_of self.old) }
     {
         let outcome = self.inner.read(buf);
@@ -156,8 +166,10 @@ impl<W: Write> Write for Counted<W> {
     /// One write, whose error is counted and handed on; `Ok(0)` is counted where there were bytes.
     fn write(&mut self, buf: &[u8]) -> io::Result<usize>
         ensures bound { WritesAtMost result buf.now }
-        ensures bytes { WriteAppends (W.contents (inner_of self.old)) (W.contents (inner_of self.new)) result buf.now }
-        ensures count { failures_of self.new ≡ failures_after_write result (length buf.now) (failures_of self.old) }
+        ensures bytes { WriteAppends (W.contents (inner_of self.old))
+            (W.contents (inner_of self.new)) result buf.now }
+        ensures count { failures_of self.new ≡ failures_after_write result (length buf.now)
+            (failures_of self.old) }
     {
         let outcome = self.inner.write(buf);
         match &outcome {

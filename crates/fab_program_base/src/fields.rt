@@ -21,7 +21,8 @@ pub enum Length {
 /// The length that a head gives its body.
 pub fn content_length(buf: &[u8], headers: &[HeaderSpan]) -> Length
     requires { AreWithin buf.now headers.now }
-    ensures { IsLengthOf (values_of (codes "content-length") (lines_of buf.now headers.now)) result }
+    ensures { IsLengthOf
+        (values_of (codes "content-length") (lines_of buf.now headers.now)) result }
 {
     let mut length = Length::Missing;
     for header in headers {
@@ -34,18 +35,22 @@ pub fn content_length(buf: &[u8], headers: &[HeaderSpan]) -> Length
 
 /// What the lengths say with one more value.
 fn after_value(before: Length, value: &[u8]) -> Length
-    ensures { (values : List (List ℕ)) → IsLengthOf values before → IsLengthOf (values ++ value.now ∷ []) result }
+    ensures { (values : List (List ℕ)) → IsLengthOf values before →
+        IsLengthOf (values ++ value.now ∷ []) result }
 {
-    match (before, read_number(value)) {
-        (Length::Missing, Some(number)) => Length::Is(number),
-        (Length::Is(length), Some(number)) => {
+    let Some(number) = read_number(value) else {
+        return Length::Bad;
+    };
+    match before {
+        Length::Missing => Length::Is(number),
+        Length::Is(length) => {
             if length == number {
                 Length::Is(length)
             } else {
                 Length::Bad
             }
         }
-        _ => Length::Bad,
+        Length::Bad => Length::Bad,
     }
 }
 
@@ -53,7 +58,8 @@ fn after_value(before: Length, value: &[u8]) -> Length
 /// is `Bearer` in any case, one or more spaces, and the token (RFC 6750, section 2.1).
 pub fn authorization<'b>(buf: &'b [u8], headers: &[HeaderSpan]) -> Option<&'b [u8]>
     requires { AreWithin buf.now headers.now }
-    ensures { option_map (λ token. token.now) result ≡ token_of (values_of (codes "authorization") (lines_of buf.now headers.now)) }
+    ensures { option_map (λ token. token.now) result ≡ token_of
+        (values_of (codes "authorization") (lines_of buf.now headers.now)) }
 {
     match only_value(buf, headers, b"authorization") {
         Only::One(value) => bearer_token(value.of(buf)),
@@ -64,7 +70,8 @@ pub fn authorization<'b>(buf: &'b [u8], headers: &[HeaderSpan]) -> Option<&'b [u
 /// Whether a Transfer-Encoding line stands in the head.
 pub fn has_transfer_encoding(buf: &[u8], headers: &[HeaderSpan]) -> bool
     requires { AreWithin buf.now headers.now }
-    ensures { result ≡ is_given (values_of (codes "transfer-encoding") (lines_of buf.now headers.now)) }
+    ensures { result ≡ is_given
+        (values_of (codes "transfer-encoding") (lines_of buf.now headers.now)) }
 {
     match only_value(buf, headers, b"transfer-encoding") {
         Only::Nothing => false,

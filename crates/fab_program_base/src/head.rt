@@ -37,7 +37,8 @@ pub fn read_head<R: Read>(
 ) -> HeadRead
     requires room { length buf.old ≡ MOST_HEAD }
     requires lines { length headers.old ≡ MOST_LINES }
-    ensures head { ReadsHead (R.remaining (inner_of reader.old)) (R.remaining (inner_of reader.new)) buf.new headers.new result }
+    ensures head { ReadsHead (R.remaining (inner_of reader.old))
+        (R.remaining (inner_of reader.new)) buf.new headers.new result }
     ensures count { failures_of reader.new ≡ failures_after_head result (failures_of reader.old) }
 {
     let mut filled = 0;

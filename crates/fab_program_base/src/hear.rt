@@ -3,6 +3,7 @@
 ghost use Rattle.std.specs.Prelude.{ℕ, ◌≡◌, ◌≤◌, List, length, IfSome};
 ghost use Rattle.httparse.specs.Spans.{IsRequestOf, IsRequestWithin};
 ghost use Rattle.fab_program_base.specs.Counting.{inner_of, failures_of};
+ghost use Rattle.fab_program_base.specs.Spelling.{SpellsOne};
 ghost use Rattle.fab_program_base.specs.Hearing.{IsHeard, IsHeardOf, IsHeardBehind, failures_after_heard};
 
 use crate::bodies::{Body, take_body};
@@ -55,7 +56,8 @@ pub fn hear<A: Allocator + Copy, R: Read>(
     reader: &mut Counted<R>,
 ) -> Heard<A>
     ensures spelled { IfSome (R.remaining (inner_of reader.old)) (λ input. IsHeard input result) }
-    ensures count { failures_of reader.new ≡ failures_after_heard result (failures_of reader.old) }
+    ensures count { failures_of reader.new
+        ≡ failures_after_heard result (failures_of reader.old) }
 {
     let mut buf = [0u8; MOST_HEAD];
     let mut headers = [EMPTY_HEADER_SPAN; MOST_LINES];
@@ -81,8 +83,10 @@ fn hear_request<A: Allocator + Copy, R: Read>(
     requires within { IsRequestWithin got.now headers.now spans }
     requires head { IsRequestOf got.now headers.now spans }
     requires short { length got.now ≤ 8192 }
-    ensures spelled { IfSome (R.remaining (inner_of reader.old)) (λ more. IsHeardOf got.now more result) }
-    ensures count { failures_of reader.new ≡ failures_after_heard result (failures_of reader.old) }
+    ensures spelled { IfSome (R.remaining (inner_of reader.old))
+        (λ more. IsHeardOf got.now more result) }
+    ensures count { failures_of reader.new
+        ≡ failures_after_heard result (failures_of reader.old) }
 {
     let target = spans.path.of(got);
     let lines = &headers[..spans.headers];
@@ -152,3 +156,8 @@ fn joined_of<A: Allocator + Copy>(alloc: A, target: &[u8]) -> Heard<A>
         None => Heard::Unnamed,
     }
 }
+
+/// An input spells one thing.
+pub fn inputs_spell_one_thing()
+    ensures { SpellsOne }
+{}

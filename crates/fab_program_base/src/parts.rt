@@ -4,7 +4,7 @@ ghost use Rattle.std.specs.Prelude.{ℕ, IfOk, MatchOption};
 ghost use Rattle.fab_names.specs.WorldWideNames.{SpellsWwn};
 ghost use Rattle.fab_names.specs.Fabrics.{SpellsFabric};
 ghost use Rattle.fab_names.specs.declared.fabric.Fabric as fabrics;
-ghost use Rattle.fab_program_base.specs.Parts.{part_at};
+ghost use Rattle.fab_program_base.specs.Parts.{IsWwnPart, IsFabricPart};
 
 use crate::routes::decoded_segment;
 use fab_names::{Fabric, Wwn};
@@ -26,7 +26,8 @@ pub fn read_wwn(bytes: &[u8]) -> Option<Wwn>
 
 /// The fabric that bytes spell, if they spell one.
 pub fn read_fabric(bytes: &[u8]) -> Option<Fabric>
-    ensures { MatchOption result ((fabric : fabrics.Fabric) → ¬ (SpellsFabric bytes.now fabric)) (SpellsFabric bytes.now) }
+    ensures { MatchOption result ((fabric : fabrics.Fabric) → ¬ (SpellsFabric bytes.now fabric))
+        (SpellsFabric bytes.now) }
 {
     let Ok(text) = str::from_utf8(bytes) else {
         return None;
@@ -43,7 +44,7 @@ pub fn wwn_part<A: Allocator>(
     path: &[u8],
     slashes: usize,
 ) -> Result<Option<Wwn>, AllocError>
-    ensures { IfOk result (λ found. MatchOption found ((n : ℕ) → ¬ (SpellsWwn (part_at slashes path.now) n)) (SpellsWwn (part_at slashes path.now))) }
+    ensures { IfOk result (IsWwnPart slashes path.now) }
 {
     let part = decoded_segment(alloc, path, slashes)?;
     Ok(read_wwn(part.as_slice()))
@@ -55,7 +56,7 @@ pub fn fabric_part<A: Allocator>(
     path: &[u8],
     slashes: usize,
 ) -> Result<Option<Fabric>, AllocError>
-    ensures { IfOk result (λ found. MatchOption found ((fabric : fabrics.Fabric) → ¬ (SpellsFabric (part_at slashes path.now) fabric)) (SpellsFabric (part_at slashes path.now))) }
+    ensures { IfOk result (IsFabricPart slashes path.now) }
 {
     let part = decoded_segment(alloc, path, slashes)?;
     Ok(read_fabric(part.as_slice()))

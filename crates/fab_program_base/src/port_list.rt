@@ -66,7 +66,8 @@ pub fn read_ports<A: Allocator + Copy>(
 
 /// The row of a record, if its fields spell one.
 fn read_row(fields: &ByteRecord) -> Option<PortRow>
-    ensures { MatchOption result ((row : PortRow) → ¬ (SpellsRow (fields_of fields.now) row)) (SpellsRow (fields_of fields.now)) }
+    ensures { MatchOption result ((row : PortRow) → ¬ (SpellsRow (fields_of fields.now) row))
+        (SpellsRow (fields_of fields.now)) }
 {
     match texts_in(fields) {
         Some(texts) => row_of(texts),
@@ -76,7 +77,8 @@ fn read_row(fields: &ByteRecord) -> Option<PortRow>
 
 /// The row that four texts spell, if they spell one.
 fn row_of(texts: Texts<'_>) -> Option<PortRow>
-    ensures { MatchOption result ((row : PortRow) → ¬ (SpellsRow (texts_of texts.entry) row)) (SpellsRow (texts_of texts.entry)) }
+    ensures { MatchOption result ((row : PortRow) → ¬ (SpellsRow (texts_of texts.entry) row))
+        (SpellsRow (texts_of texts.entry)) }
 {
     let Some(name) = read_wwn(texts.name) else {
         return None;

@@ -159,7 +159,8 @@ fn caller<'b>(buf: &'b [u8], headers: &[HeaderSpan]) -> Option<&'b [u8]>
 
 /// A token, if it is known.
 fn known(token: Option<&[u8]>) -> Option<&[u8]>
-    ensures { option_map (λ found. found.now) result ≡ known_token (option_map (λ given. given.now) token.entry) }
+    ensures { option_map (λ found. found.now) result
+        ≡ known_token (option_map (λ given. given.now) token.entry) }
 {
     match token {
         Some(token) => {

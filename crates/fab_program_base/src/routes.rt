@@ -1,9 +1,9 @@
 //! The routes of the desk: their paths, their methods, and the parts that a path captures.
 
-ghost use Rattle.std.specs.Prelude.{◌≡◌, OnOk, IfOk, []};
+ghost use Rattle.std.specs.Prelude.{◌≡◌, OnOk, IfOk, IfErr, true, []};
 ghost use Rattle.std.specs.List.{list_any};
 ghost use Rattle.std.specs.Str.{bytes_eq};
-ghost use Rattle.fab_program_base.specs.Routes.{path_of, methods_of, allow_line_of, with_route, table_from, route_of};
+ghost use Rattle.fab_program_base.specs.Routes.{path_of, methods_of, allow_line_of, fits, with_route, table_from, route_of};
 ghost use Rattle.fab_program_base.specs.Parts.{part_at};
 ghost use Rattle.fab_program_base.specs.Segments.{segment_at, from_slash_on, to_slash};
 
@@ -65,9 +65,10 @@ fn is_method(method: &Method, name: &[u8]) -> bool
 
 /// A router over `ROUTES`.
 ///
-/// An error is a failed allocation, since no route conflicts with those before it.
+/// `OutOfMemory` is its only error, since no route conflicts with those before it.
 pub fn make_router(alloc: Global) -> Result<Router<Route>, InsertError>
-    ensures { IfOk result (λ router. router ≡ table_from [] ROUTES) }
+    ensures ok { IfOk result (λ router. router ≡ table_from [] ROUTES) }
+    ensures err { IfErr result (λ fault. fault ≡ InsertError.OutOfMemory) }
 {
     let mut router = Router::new(alloc);
     for route in ROUTES.as_slice() {
@@ -78,7 +79,9 @@ pub fn make_router(alloc: Global) -> Result<Router<Route>, InsertError>
 
 /// Adds one route to a router.
 fn add(router: &mut Router<Route>, route: Route) -> Result<(), InsertError>
-    ensures { OnOk result (router.new ≡ with_route route router.old) }
+    requires { fits route router.old ≡ true }
+    ensures ok { OnOk result (router.new ≡ with_route route router.old) }
+    ensures err { IfErr result (λ fault. fault ≡ InsertError.OutOfMemory) }
 {
     router.insert(route.path(), route)
 }

@@ -1,6 +1,5 @@
 use Rattle.std.proofs.Common.{codes, ap, ◌∙◌}
-use Rattle.fab_program_base.specs.Lines.{are_same_name, values_of, lines_of}
-use Rattle.fab_program_base.specs.Fields.{IsLengthOf}
+use Rattle.fab_program_base.specs.Lines.{are_same_name}
 use Rattle.fab_program_base.proofs.FieldLemmas.{length-named, length-other, take-whole}
 use Rattle.fab_program_base.proofs.fields.content_length.Goals.{then-is_named, else-is_named}
 use Rattle.fab_program_base.proofs.fields.content_length.Goals as goal

@@ -1,4 +1,4 @@
-use Rattle.std.proofs.Common.{◌≤◌, ◌+◌, length, arith, length-take, length-drop, ◌∙◌}
+use Rattle.std.proofs.Common.{◌+◌, arith, length-take, length-drop}
 use Rattle.fab_program_base.proofs.HeadLemmas.{read-consumes, read-more, full-refused, head-refused}
 use Rattle.fab_program_base.proofs.head.read_head.Goals as goal
 
