@@ -3,7 +3,6 @@
 ghost use Rattle.std.specs.Prelude.{◌≡◌, ◌<◌, ◌≤◌, ◌^◌, true, false, length, OnOk, OnErr};
 ghost use Rattle.std.specs.List.{flat_map};
 ghost use Rattle.std.specs.Io.KnownBytes.{Appends};
-ghost use Rattle.fab_names.specs.WorldWideNames as names;
 ghost use Rattle.fab_program_base.specs.Counting.{inner_of, failures_of};
 ghost use Rattle.fab_program_base.specs.Failures.{failures_after};
 ghost use Rattle.fab_program_base.specs.Sent.{AppendsBeginning};
@@ -185,7 +184,7 @@ fn put_reply<W: Write>(writer: &mut Counted<W>, reply: &Reply) -> Result<(), Wri
             reply,
             &[
                 b"{\"code\":20,\"error\":\"port-clash\",\"port\":\"".as_slice(),
-                printed_port(*port).as_slice(),
+                port.letters().as_slice(),
                 b"\"}".as_slice(),
             ],
         ),
@@ -273,50 +272,6 @@ fn total_len(texts: &[&[u8]]) -> usize
         total += text.len();
     }
     total
-}
-
-/// The printed form of a port name: eight pairs of lower-case digits joined by colons.
-fn printed_port(port: Wwn) -> [u8; 23]
-    ensures { result ≡ names.wwn_text port }
-{
-    let b = port.number().to_be_bytes();
-    [
-        hex(b[0] / 16),
-        hex(b[0] % 16),
-        b':',
-        hex(b[1] / 16),
-        hex(b[1] % 16),
-        b':',
-        hex(b[2] / 16),
-        hex(b[2] % 16),
-        b':',
-        hex(b[3] / 16),
-        hex(b[3] % 16),
-        b':',
-        hex(b[4] / 16),
-        hex(b[4] % 16),
-        b':',
-        hex(b[5] / 16),
-        hex(b[5] % 16),
-        b':',
-        hex(b[6] / 16),
-        hex(b[6] % 16),
-        b':',
-        hex(b[7] / 16),
-        hex(b[7] % 16),
-    ]
-}
-
-/// The lower-case hexadecimal digit of a number below sixteen.
-fn hex(digit: u8) -> u8
-    requires { digit < 16 }
-    ensures { result ≡ names.hex_digit digit }
-{
-    if digit < 10 {
-        b'0' + digit
-    } else {
-        b'a' + (digit - 10)
-    }
 }
 
 /// The phrases of the answers are those of the crate `http`.

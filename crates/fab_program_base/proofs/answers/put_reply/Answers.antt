@@ -17,10 +17,10 @@ returns-in-JoinedByZone-clause-err g c =
 
 pub returns-in-PortClash-clause-ok : goal.returns-in-PortClash-clause-ok
 returns-in-PortClash-clause-ok g c =
-    let told = rw (c.as_slice-in-PortClash.ensures, c.as_slice-in-PortClash-2.ensures, c.printed_port.ensures, c.as_slice-in-PortClash-3.ensures) at c.put_message-in-PortClash.ensures.ok in
+    let told = rw (c.as_slice-in-PortClash.ensures, c.as_slice-in-PortClash-2.ensures, c.letters.ensures, c.as_slice-in-PortClash-3.ensures) at c.put_message-in-PortClash.ensures.ok in
     rw c.in-PortClash.is (rw c.in-PortClash.is at told)
 
 pub returns-in-PortClash-clause-err : goal.returns-in-PortClash-clause-err
 returns-in-PortClash-clause-err g c =
-    let told = rw (c.as_slice-in-PortClash.ensures, c.as_slice-in-PortClash-2.ensures, c.printed_port.ensures, c.as_slice-in-PortClash-3.ensures) at c.put_message-in-PortClash.ensures.err in
+    let told = rw (c.as_slice-in-PortClash.ensures, c.as_slice-in-PortClash-2.ensures, c.letters.ensures, c.as_slice-in-PortClash-3.ensures) at c.put_message-in-PortClash.ensures.err in
     rw c.in-PortClash.is (rw c.in-PortClash.is at told)
