@@ -1,0 +1,4 @@
+pub mod Searches
+pub mod RowSets
+pub mod PortZoneLemmas
+pub mod Reasons

@@ -1,0 +1,115 @@
+//! The rows of the active set, kept by member.
+ghost use Rattle.std.specs.Prelude.{◌≡◌, ℕ, ◌≤◌, ◌↔◌, List, true, OnOk, OnErr, IfOk, not};
+ghost use Rattle.std.specs.FinSet as set;
+ghost use Rattle.std.specs.BTreeMap.{IsOrdered, IsUnchanged};
+ghost use Rattle.fab_names.specs.Orders.{member_cmp};
+ghost use Rattle.fab_zoning.specs.Views.{seen_rows};
+ghost use Rattle.fab_zoning.specs.PortZones.{in_zones};
+ghost use Rattle.fab_zoning.specs.Joins.{Holds};
+
+use crate::port_zones::PortZones;
+use fab_inventory::Port;
+use fab_names::{Member, Name};
+use std::alloc::{AllocError, Allocator};
+use std::collections::{BTreeMap, BTreeSet};
+use std::marker::Model;
+
+/// The rows (zone, member) of an active set. A contract sees their set.
+///
+/// They are kept as the zones of each member, so that the zones of a port are found by its names
+/// and its place, however many rows there are.
+#[derive(Drop)]
+pub struct ActiveRows<A: Allocator + Copy> {
+    alloc: A,
+    zones_by_member: BTreeMap<Member, BTreeSet<Name, A>, A>,
+    len: usize,
+}
+
+impl<A: Allocator + Copy> Model for ActiveRows<A> {
+    ghost use Rattle.std.specs.Prelude.{◌≡◌};
+    ghost use Rattle.std.specs.FinSet as set;
+    ghost use Rattle.std.specs.BTreeMap.{IsOrdered};
+    ghost use Rattle.fab_names.specs.Orders.{member_cmp};
+    ghost use Rattle.fab_zoning.specs.Rows.{Rows, row_code};
+    ghost use Rattle.fab_zoning.specs.Views.{seen_rows};
+
+    ghost Value = { Rows };
+
+    ghost coded = { set.code row_code };
+
+    ghost view = { λ a. seen_rows a.zones_by_member.entries };
+
+    ghost invariant = { λ a. IsOrdered member_cmp a.zones_by_member × (a.len ≡ set.len (seen_rows a.zones_by_member.entries)) };
+}
+
+/// Adds the zone to those of the member, and says whether it is new there.
+fn add_zone<A: Allocator + Copy>(
+    alloc: A,
+    zones_by_member: &mut BTreeMap<Member, BTreeSet<Name, A>, A>,
+    member: Member,
+    zone: Name,
+) -> Result<bool, AllocError>
+    ensures is_new { IfOk result (λ is_new. is_new ≡ not (set.contains (seen_rows zones_by_member.old.entries) (zone, member))) }
+    ensures ok { OnOk result (seen_rows zones_by_member.new.entries ≡ set.insert (seen_rows zones_by_member.old.entries) (zone, member)) }
+    ensures err { OnErr result (IsUnchanged zones_by_member.old zones_by_member.new) }
+    ensures ordered { IsOrdered member_cmp zones_by_member.new }
+{
+    match zones_by_member.get_mut(&member) {
+        Some(zones) => Ok(zones.insert(zone)?),
+        None => {
+            let mut zones = BTreeSet::new(alloc);
+            zones.insert(zone)?;
+            zones_by_member.insert(member, zones)?;
+            Ok(true)
+        }
+    }
+}
+
+impl<A: Allocator + Copy> ActiveRows<A> {
+    /// No row.
+    pub fn new(alloc: A) -> Self
+        ensures { result ≡ set.empty }
+    {
+        ActiveRows {
+            alloc,
+            zones_by_member: BTreeMap::new(alloc),
+            len: 0,
+        }
+    }
+
+    /// How many rows there are.
+    pub fn len(&self) -> usize
+        ensures { result ≡ set.len self.now }
+    {
+        self.len
+    }
+
+    /// Adds a row, if it is not there.
+    ///
+    /// # Errors
+    /// `AllocError` where there is no memory. The rows are then as they were.
+    pub fn insert(&mut self, zone: Name, member: Member) -> Result<(), AllocError>
+        requires { set.len self.old ≤ 65536 }
+        ensures ok { OnOk result (self.new ≡ set.insert self.old (zone, member)) }
+        ensures err { OnErr result (self.new ≡ self.old) }
+    {
+        if add_zone(self.alloc, &mut self.zones_by_member, member, zone)? {
+            self.len += 1;
+        }
+        Ok(())
+    }
+
+    /// The zones that have the port.
+    pub fn zones_of<'a>(&'a self, port: &Port) -> PortZones<'a, A>
+        ensures { (z : List ℕ) → (in_zones result z ≡ true) ↔ Holds self.now port.now z }
+    {
+        PortZones {
+            by_port: self.zones_by_member.get(&Member::Port(port.name)),
+            by_node: self.zones_by_member.get(&Member::Node(port.node)),
+            by_place: match port.at {
+                Some((_, place)) => self.zones_by_member.get(&Member::Place(place)),
+                None => None,
+            },
+        }
+    }
+}
