@@ -1,0 +1,4 @@
+pub mod World
+pub mod Acting
+pub mod Answering
+pub mod Exits

@@ -1,0 +1,97 @@
+//! The words of the command line, and the exit status.
+ghost use Rattle.std.specs.Prelude.{◌≡◌, ◌⊎◌};
+ghost use Rattle.fab_program.specs.Exits.{IsExitStatus, exit_status};
+
+use crate::answering::answer_one;
+use crate::first::First;
+use clap::error::ErrorKind;
+use clap::{Command, Error};
+use fab_program_base::answers::Outcome;
+use fab_program_base::counted::Counted;
+use std::alloc::{AllocError, Global};
+use std::io::{Read, Write};
+
+/// Done: an answer was written, or the input was empty.
+pub const DONE: u8 = 0;
+
+/// The words of the command line are wrong, or ask for help.
+pub const WRONG_WORDS: u8 = 2;
+
+/// The program could not do what was asked; the standard error has a line that says why.
+pub const FAILED: u8 = 3;
+
+/// The words that are understood.
+fn command_line<'a>(alloc: Global) -> Result<Command<'a>, AllocError> {
+    let once = Command::new(alloc, "once").about(
+        "Answers one HTTP request from standard input over a new desk in memory",
+    );
+    Command::new(alloc, "sandesk")
+        .about("A change desk for SAN zoning and volume mapping")
+        .subcommand_required(true)
+        .subcommand(once)
+}
+
+/// Runs the program: reads the words (the first is the program's name), answers one request of the
+/// reader to the writer, and gives the exit status. What goes wrong is told to `errors`.
+pub fn run<R: Read + Drop, W: Write + Drop, E: Write>(
+    alloc: Global,
+    words: &[String],
+    reader: R,
+    writer: W,
+    errors: &mut E,
+) -> u8
+    ensures { IsExitStatus result }
+{
+    let Ok(command) = command_line(alloc) else {
+        return fail(errors, "memory");
+    };
+    match command.try_get_matches_from(words) {
+        Ok(_) => once(alloc, reader, writer, errors),
+        Err(error) => refuse_words(errors, &error),
+    }
+}
+
+/// Answers one request over a new desk.
+fn once<R: Read + Drop, W: Write + Drop, E: Write>(
+    alloc: Global,
+    reader: R,
+    writer: W,
+    errors: &mut E,
+) -> u8
+    ensures { IsExitStatus result }
+{
+    let mut first = First::new(alloc);
+    let mut reader = Counted::new(reader);
+    let mut writer = Counted::new(writer);
+    let outcome = answer_one(alloc, &mut first, &mut reader, &mut writer);
+    exit_of(errors, outcome)
+}
+
+/// The exit status of what came of the request.
+fn exit_of<E: Write>(errors: &mut E, outcome: Outcome) -> u8
+    ensures { result ≡ exit_status outcome }
+{
+    match outcome {
+        Outcome::Answered(_) | Outcome::Empty => DONE,
+        Outcome::Unsent | Outcome::ReadFailed => fail(errors, "stream"),
+    }
+}
+
+/// Tells what clap says of the words.
+fn refuse_words<E: Write>(errors: &mut E, error: &Error) -> u8
+    ensures { IsExitStatus result }
+{
+    if error.kind() == ErrorKind::OutOfMemory {
+        return fail(errors, "memory");
+    }
+    let _ = write!(errors, "{error}");
+    WRONG_WORDS
+}
+
+/// Tells in one line what failed.
+fn fail<E: Write>(errors: &mut E, what: &str) -> u8
+    ensures { result ≡ 3 }
+{
+    let _ = writeln!(errors, "sandesk: {what}");
+    FAILED
+}
