@@ -26,6 +26,7 @@ fn command_line<'a>(alloc: Global) -> Result<Command<'a>, AllocError> {
         "Answers one HTTP request from standard input over a new desk in memory",
     );
     Command::new(alloc, "sandesk")
+        .bin_name("sandesk")?
         .about("A change desk for SAN zoning and volume mapping")
         .subcommand_required(true)
         .subcommand(once)
