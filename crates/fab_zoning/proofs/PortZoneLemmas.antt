@@ -9,7 +9,7 @@ use Rattle.std.specs.List.{list_any}
 use Rattle.std.specs.BTreeSet.{BTreeSet, contains}
 use Rattle.std.specs.Borrow.{Bor}
 use Rattle.std.specs.Option.{option_copied}
-use Rattle.fab_zoning.specs.Views.{has_in}
+use Rattle.fab_zoning.specs.MapsOfSets.{in_tree}
 use Rattle.fab_names.specs.Orders.{name_cmp}
 use Rattle.std.proofs.lemmas.Cmp.{upto}
 use Rattle.fab_names.proofs.OrderLaws.{name_total}
@@ -76,6 +76,6 @@ lesser_stays x y e = ap is_gt (name_total.antisymm x y) ∙ by (name_cmp y x) e
     by Greater h = refl
 
 -- a test on a set that is lent is that on the set
-pub in_set_copied : (o : Option (Bor (BTreeSet (List ℕ)))) (z : List ℕ) → in_set o z ≡ has_in name_cmp (option_copied o) z
+pub in_set_copied : (o : Option (Bor (BTreeSet (List ℕ)))) (z : List ℕ) → in_set o z ≡ in_tree name_cmp (option_copied o) z
 in_set_copied None z = refl
 in_set_copied (Some s) z = refl

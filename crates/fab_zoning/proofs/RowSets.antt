@@ -18,7 +18,8 @@ use Rattle.fab_names.specs.declared.member.Member.{Member}
 use Rattle.fab_names.specs.Orders.{name_cmp, member_cmp}
 use Rattle.fab_names.proofs.OrderLaws.{name_total, name_exact, member_total, member_exact}
 use Rattle.fab_zoning.specs.Rows.{Row, Rows, row_cmp}
-use Rattle.fab_zoning.specs.Views.{listed_rows, seen_rows, has_in, tree_has}
+use Rattle.fab_zoning.specs.Views.{listed_rows, seen_rows}
+use Rattle.fab_zoning.specs.MapsOfSets.{in_tree, tree_has}
 
 abbrev pub ByMember : Type 0
 ByMember = BTreeMap Member (BTreeSet (List ℕ))
@@ -65,7 +66,7 @@ or_false true = refl
 or_false false = refl
 
 listed : (es : List (Member × BTreeSet (List ℕ))) → IsStrictlySortedBy member_cmp (keys_of es) → (z : List ℕ) (k : Member)
-    → list_any (eq_by_cmp row_cmp (z, k)) (listed_rows es) ≡ has_in name_cmp (lookup (is_at (member_cmp k)) es) z
+    → list_any (eq_by_cmp row_cmp (z, k)) (listed_rows es) ≡ in_tree name_cmp (lookup (is_at (member_cmp k)) es) z
 listed [] sorted z k = refl
 listed (e ∷ es) sorted z k =
     list_any-append (eq_by_cmp row_cmp (z, k)) (map {B = Row} (λ y. (y, e.0)) e.1.keys) (listed_rows es)
@@ -73,11 +74,11 @@ listed (e ∷ es) sorted z k =
     ∙ by (is_at (member_cmp k) e.0) refl
   where
     by : (b : Bool) → is_at (member_cmp k) e.0 ≡ b
-        → (cond b (list_any (eq_by_cmp name_cmp z) e.1.keys) false || has_in name_cmp (lookup (is_at (member_cmp k)) es) z) ≡ has_in name_cmp (cond b (Some e.1) (lookup (is_at (member_cmp k)) es)) z
+        → (cond b (list_any (eq_by_cmp name_cmp z) e.1.keys) false || in_tree name_cmp (lookup (is_at (member_cmp k)) es) z) ≡ in_tree name_cmp (cond b (Some e.1) (lookup (is_at (member_cmp k)) es)) z
     by true is =
         let same : e.0 ≡ k = sym (member_exact k e.0 ((Equal-is (member_cmp k e.0)).0 is)) in
         let none : lookup (is_at (member_cmp k)) es ≡ None = none_above k es (subst (λ m. AllByRecursion (λ y. member_cmp m y ≡ Less) (keys_of es)) same (sorted_head member_cmp e.0 (keys_of es) sorted)) in
-        ap (λ o. list_any (eq_by_cmp name_cmp z) e.1.keys || has_in name_cmp o z) none ∙ or_false (list_any (eq_by_cmp name_cmp z) e.1.keys)
+        ap (λ o. list_any (eq_by_cmp name_cmp z) e.1.keys || in_tree name_cmp o z) none ∙ or_false (list_any (eq_by_cmp name_cmp z) e.1.keys)
     by false is = refl
 
 -- a row is seen where the member has the zone
@@ -87,7 +88,7 @@ contains_seen t sorted z k = set.contains-from_list row_total (listed_rows t.ent
 -- the rows after the zones of k, which were those of o, have become those of w, with z among them
 pub insert_seen : (t u : ByMember) (z : List ℕ) (k : Member) (o : Option (BTreeSet (List ℕ))) (w : BTreeSet (List ℕ)) → tree.IsOrdered member_cmp t → tree.IsOrdered member_cmp u
     → tree.get member_cmp t k ≡ o
-    → ((y : List ℕ) → contains name_cmp w y ≡ cond (is_at (name_cmp z) y) true (has_in name_cmp o y))
+    → ((y : List ℕ) → contains name_cmp w y ≡ cond (is_at (name_cmp z) y) true (in_tree name_cmp o y))
     → ((q : Member) → tree.get member_cmp u q ≡ cond (is_at (member_cmp k) q) (Some w) (tree.get member_cmp t q))
     → seen_rows u.entries ≡ set.insert (seen_rows t.entries) (z, k)
 insert_seen t u z k o w sorted after at adds updates =
@@ -100,15 +101,15 @@ insert_seen t u z k o w sorted after at adds updates =
     tests false c d = refl
 
     case : (q : Member) (y : List ℕ) (b : Bool) → is_at (member_cmp k) q ≡ b
-        → has_in name_cmp (cond b (Some w) (tree.get member_cmp t q)) y ≡ (cond b (eq_by_cmp name_cmp y z) false || tree_has member_cmp name_cmp t q y)
+        → in_tree name_cmp (cond b (Some w) (tree.get member_cmp t q)) y ≡ (cond b (eq_by_cmp name_cmp y z) false || tree_has member_cmp name_cmp t q y)
     case q y true is =
         let same : k ≡ q = member_exact k q ((Equal-is (member_cmp k q)).0 is) in
-        adds y ∙ tests (is_at (name_cmp z) y) true (has_in name_cmp o y)
-        ∙ (λ i. (eq_by_cmp_equiv name_total).symm z y i || has_in name_cmp (sym (ap (λ m. tree.get member_cmp t m) (sym same) ∙ at) i) y)
+        adds y ∙ tests (is_at (name_cmp z) y) true (in_tree name_cmp o y)
+        ∙ (λ i. (eq_by_cmp_equiv name_total).symm z y i || in_tree name_cmp (sym (ap (λ m. tree.get member_cmp t m) (sym same) ∙ at) i) y)
     case q y false is = refl
 
     step : (q : Member) (y : List ℕ) → tree_has member_cmp name_cmp u q y ≡ (cond (is_eq (member_cmp q k)) (eq_by_cmp name_cmp y z) false || tree_has member_cmp name_cmp t q y)
-    step q y = ap (λ x. has_in name_cmp x y) (updates q) ∙ case q y (is_at (member_cmp k) q) refl ∙ ap (λ b. cond b (eq_by_cmp name_cmp y z) false || tree_has member_cmp name_cmp t q y) ((eq_by_cmp_equiv member_total).symm k q)
+    step q y = ap (λ x. in_tree name_cmp x y) (updates q) ∙ case q y (is_at (member_cmp k) q) refl ∙ ap (λ b. cond b (eq_by_cmp name_cmp y z) false || tree_has member_cmp name_cmp t q y) ((eq_by_cmp_equiv member_total).symm k q)
 
 -- a set of nothing that has gained a zone
 pub one_key : (s t : BTreeSet (List ℕ)) (z : List ℕ) → s.keys ≡ [] → ((y : List ℕ) → contains name_cmp t y ≡ cond (is_at (name_cmp z) y) true (contains name_cmp s y))

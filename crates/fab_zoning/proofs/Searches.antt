@@ -1,12 +1,16 @@
 -- Searches through keys and entries in their order.
-use Rattle.std.proofs.Common.{◌≡◌, Bool, true, false, ◌||◌, ◌⊎◌, inl, inr, List, [], ◌∷◌, ◌++◌, sym, ap, ◌∙◌, subst, refl, append_assoc}
+use Rattle.std.proofs.Common.{◌≡◌, Bool, true, false, ◌||◌, ◌⊎◌, inl, inr, cond, Option, Some, None, List, [], ◌∷◌, ◌++◌, sym, ap, ◌∙◌, subst, refl, append_assoc}
 use mathlib.Core.Bool.{true≢false}
 use Rattle.std.specs.List.{AllByRecursion, list_any}
 use Rattle.std.specs.List.Sorted.{IsStrictlySortedBy}
 use Rattle.std.specs.Ordering.{is_eq, is_gt, eq_by_cmp}
 use Rattle.std.specs.declared.cmp.Ordering.{Ordering}
 use Rattle.std.specs.declared.cmp.Ordering.TheVariants.{Less}
-use Rattle.std.specs.Cmp.{IsTotalOrder, Equal-is, tied_itself}
+use Rattle.std.specs.Cmp.{IsTotalOrder, Equal-is, tied_itself, eq_by_cmp_equiv}
+use Rattle.std.specs.BTreeMap.{is_at}
+use Rattle.std.specs.Map.{lookup, keys_of}
+use Rattle.std.specs.Option.{is_some}
+use Rattle.std.proofs.lemmas.Map.Made.{is_some-lookup}
 use Rattle.std.specs.FinSet as set
 use Rattle.std.proofs.lemmas.Map.Keys.{sorted_head, sorted_tail}
 
@@ -78,3 +82,55 @@ module _ {K : Type 0} {R : K → K → Ordering} (o : IsTotalOrder R) (exact : s
       among : (xs : List K) → list_any (eq_by_cmp R k) (xs ++ k ∷ more) ≡ true
       among [] = ap (λ r. is_eq r || list_any (eq_by_cmp R k) more) (tied_itself o k)
       among (x ∷ xs) = or_right (eq_by_cmp R k x) (list_any (eq_by_cmp R k) (xs ++ k ∷ more)) (among xs)
+
+  -- the same among entries: what a look-up finds has what each value has
+  pub value_found : {X : Type 0} (P : X → Type 0) (es : List (K × X)) (k : K) (v : X) → AllByRecursion (λ e. P e.1) es → lookup (is_at (R k)) es ≡ Some v → P v
+  value_found P [] k v h e = absurd cc
+  value_found P (x ∷ es) k v h e =
+      elim (is_at (R k) x.0) as (λ b. cond b (Some x.1) (lookup (is_at (R k)) es) ≡ Some v → P v) [
+        | true ↦ λ i. let same : x.1 ≡ v = cc in subst P same h.0
+        | false ↦ λ i. value_found P es k v h.1 i
+      ] e
+
+  above : {X : Type 0} (k : K) (es : List (K × X)) → AllByRecursion (λ y. R k y ≡ Less) (keys_of es) → lookup (is_at (R k)) es ≡ None
+  above k [] h = refl
+  above k (e ∷ es) h = ap (λ r. cond (is_eq r) (Some e.1) (lookup (is_at (R k)) es)) h.0 ∙ above k es h.1
+
+  key_of : {X : Type 0} (es : List (K × X)) (k : K) (v : X) → lookup (is_at (R k)) es ≡ Some v → list_any (eq_by_cmp R k) (keys_of es) ≡ true
+  key_of es k v e = sym (is_some-lookup (is_at (R k)) es) ∙ ap is_some e
+
+  -- no entry whose value has P is below the first that has it
+  least_entry : {X : Type 0} (P : X → Type 0) (before : List (K × X)) (e : K × X) (more : List (K × X)) → IsStrictlySortedBy R (keys_of (before ++ e ∷ more)) → AllByRecursion (λ r. ¬ P r.1) before
+      → (y : K) (v : X) → lookup (is_at (R y)) (before ++ e ∷ more) ≡ Some v → P v → is_gt (R e.0 y) ≡ false
+  least_entry P [] e more sorted none y v found has = elim (or_true (eq_by_cmp R y e.0) (list_any (eq_by_cmp R y) (keys_of more)) (key_of (e ∷ more) y v found)) [
+    | inl is ↦ ap (λ x. is_gt (R e.0 x)) (same_key y e.0 is) ∙ ap is_gt (tied_itself o e.0)
+    | inr later ↦ ap is_gt (all_found (λ x. R e.0 x ≡ Less) (keys_of more) y (sorted_head R e.0 (keys_of more) sorted) later)
+  ]
+  least_entry P (b ∷ before) e more sorted none y v found has =
+      elim (is_at (R y) b.0) as (λ t. cond t (Some b.1) (lookup (is_at (R y)) (before ++ e ∷ more)) ≡ Some v → is_gt (R e.0 y) ≡ false) [
+        | true ↦ λ i. let same : v ≡ b.1 = cc in absurd (none.0 (subst P same has))
+        | false ↦ λ i. least_entry P before e more (sorted_tail R b.0 (keys_of (before ++ e ∷ more)) sorted) none.1 y v i has
+      ] found
+
+  lookup_there : {X : Type 0} (before : List (K × X)) (e : K × X) (more : List (K × X)) → IsStrictlySortedBy R (keys_of (before ++ e ∷ more)) → lookup (is_at (R e.0)) (before ++ e ∷ more) ≡ Some e.1
+  lookup_there [] e more sorted = ap (λ r. cond (is_eq r) (Some e.1) (lookup (is_at (R e.0)) more)) (tied_itself o e.0)
+  lookup_there (b ∷ before) e more sorted =
+      ap (λ t. cond t (Some b.1) (lookup (is_at (R e.0)) (before ++ e ∷ more))) (ahead (keys_of (before ++ e ∷ more)) (sorted_head R b.0 (keys_of (before ++ e ∷ more)) sorted) (among before))
+      ∙ lookup_there before e more (sorted_tail R b.0 (keys_of (before ++ e ∷ more)) sorted)
+    where
+      among : (xs : List (K × _)) → list_any (eq_by_cmp R e.0) (keys_of (xs ++ e ∷ more)) ≡ true
+      among [] = ap (λ r. is_eq r || list_any (eq_by_cmp R e.0) (keys_of more)) (tied_itself o e.0)
+      among (x ∷ xs) = or_right (eq_by_cmp R e.0 x.0) (list_any (eq_by_cmp R e.0) (keys_of (xs ++ e ∷ more))) (among xs)
+
+      ahead : (ks : List K) → AllByRecursion (λ y. R b.0 y ≡ Less) ks → list_any (eq_by_cmp R e.0) ks ≡ true → is_at (R e.0) b.0 ≡ false
+      ahead ks all there = (eq_by_cmp_equiv o).symm e.0 b.0 ∙ ap is_eq (all_found (λ y. R b.0 y ≡ Less) ks e.0 all there)
+
+  -- the entry of a step is the first whose value has P
+  pub first_entry : {X : Type 0} (P : X → Type 0) (es before it more : List (K × X)) (e : K × X) → es ≡ before ++ it → it ≡ e ∷ more → IsStrictlySortedBy R (keys_of es) → AllByRecursion (λ r. ¬ P r.1) before
+      → (lookup (is_at (R e.0)) es ≡ Some e.1) × ((y : K) (v : X) → lookup (is_at (R y)) es ≡ Some v → P v → is_gt (R e.0 y) ≡ false)
+  first_entry P es before it more e so_far next sorted none =
+      let is : es ≡ before ++ e ∷ more = so_far ∙ ap (λ x. before ++ x) next in
+      let inner : IsStrictlySortedBy R (keys_of (before ++ e ∷ more)) = subst (λ x. IsStrictlySortedBy R (keys_of x)) is sorted in (
+        ap (lookup (is_at (R e.0))) is ∙ lookup_there before e more inner,
+        λ y v at has. least_entry P before e more inner none y v (ap (lookup (is_at (R y))) (sym is) ∙ at) has,
+      )

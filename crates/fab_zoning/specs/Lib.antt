@@ -1,5 +1,9 @@
+pub mod MapsOfSets
 pub mod Rows
 pub mod Zonings
 pub mod Views
 pub mod PortZones
 pub mod Joins
+pub mod Resolved
+pub mod Steps
+pub mod Adding

@@ -9,11 +9,12 @@ use Rattle.fab_names.specs.Orders.{name_cmp, member_cmp}
 use Rattle.fab_names.specs.Codes.{name_code, fabric_code, member_code}
 use Rattle.fab_zoning.specs.declared.flag.DefaultFlag.{DefaultFlag}
 use Rattle.fab_zoning.specs.declared.flag.DefaultFlag.TheVariants.{Permit, Deny}
+use Rattle.fab_zoning.specs.MapsOfSets.{MapOfSets}
 use Rattle.fab_zoning.specs.Rows.{Rows, row_code}
 
 -- a finite set at each of finitely many names
 abbrev pub NamedSets : {K : Type 0} → (K → K → Ordering) → Type 0
-NamedSets R = map.FinMap name_cmp (set.FinSet R)
+NamedSets R = MapOfSets name_cmp R
 
 -- the aliases and zones with their members, the zone sets with their zones, the active set's name
 -- and rows, and what the default zone permits

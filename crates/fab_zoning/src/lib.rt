@@ -2,14 +2,18 @@
 //! lets communicate (FC-GS, Fabric Zone Server).
 #![tactic(auto)]
 
+mod fault;
 mod flag;
+mod named;
 mod port_zones;
+mod resolve;
 mod rows;
 #[cfg(test)]
 mod tests;
 mod why;
 mod zoning;
 
+pub use fault::{ZoningFault, ZoningLimit};
 pub use flag::DefaultFlag;
 pub use why::Why;
-pub use zoning::{MOST_ROWS, Zoning};
+pub use zoning::{MOST_ALIASES, MOST_MEMBERS, MOST_ROWS, MOST_SETS, MOST_ZONES, Zoning};

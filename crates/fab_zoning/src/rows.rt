@@ -112,4 +112,19 @@ impl<A: Allocator + Copy> ActiveRows<A> {
             },
         }
     }
+
+    /// Equal rows.
+    ///
+    /// # Errors
+    /// `AllocError` where there is no memory.
+    pub fn copy(&self) -> Result<ActiveRows<A>, AllocError>
+        ensures { IfOk result (λ copy. copy ≡ self.now) }
+    {
+        let zones_by_member = self.zones_by_member.clone()?;
+        Ok(ActiveRows {
+            alloc: self.alloc,
+            zones_by_member,
+            len: self.len,
+        })
+    }
 }

@@ -1,17 +1,34 @@
 //! The zoning of one fabric.
-ghost use Rattle.std.specs.Prelude.{◌≡◌, ◌<◌, ◌≤◌, ◌↔◌, ◌∷◌, Some, None, length, All, IsTrue, IsSome, IfSome, IfOk, OnOk, OnErr};
+ghost use Rattle.std.specs.Prelude.{◌≡◌, ◌<◌, ◌≤◌, ◌↔◌, Some, None, true, length, All, MatchOption, IsTrue, IsSome, IfSome, IfOk, OnOk, IfErr, OnErr};
+ghost use Rattle.std.specs.FinMap as map;
 ghost use Rattle.std.specs.FinSet as set;
 ghost use Rattle.fab_zoning.specs.Rows.{IsPlain};
 ghost use Rattle.fab_zoning.specs.Zonings.{new_zoning};
 ghost use Rattle.fab_zoning.specs.Joins.{IsLoggedInAt, Joined, Explains};
+ghost use Rattle.fab_zoning.specs.Resolved.{AreResolved};
+ghost use Rattle.fab_zoning.specs.Steps.{IsListing, IsListingFault, CanPutAlias, IsPutAliasFault, CanPutZone, IsPutZoneFault, CanPutSet, IsPutSetFault, CanDropAlias, IsDropAliasFault, CanDropZone, IsDropZoneFault, IsDropSetFault, IsActivateFault};
 
+use crate::named::{first_unknown, first_unknown_alias, first_user, is_full, set_of};
+use crate::resolve::resolved;
 use crate::rows::ActiveRows;
-use crate::{DefaultFlag, Why};
+use crate::{DefaultFlag, Why, ZoningFault, ZoningLimit};
 use fab_inventory::Port;
 use fab_names::{Fabric, Member, Name};
 use std::alloc::{AllocError, Allocator};
 use std::collections::{BTreeMap, BTreeSet};
 use std::marker::Model;
+
+/// How many aliases a fabric may have.
+pub const MOST_ALIASES: usize = 2048;
+
+/// How many zones a fabric may have.
+pub const MOST_ZONES: usize = 2048;
+
+/// How many zone sets a fabric may have.
+pub const MOST_SETS: usize = 64;
+
+/// How many members may be listed for an alias, a zone or a zone set, equal ones counted.
+pub const MOST_MEMBERS: usize = 255;
 
 /// How many rows may be active.
 pub const MOST_ROWS: usize = 65536;
@@ -40,7 +57,7 @@ pub struct Zoning<A: Allocator + Copy> {
 impl<A: Allocator + Copy> Model for Zoning<A> {
     ghost use Rattle.fab_names.specs.Orders.{name_cmp, member_cmp};
     ghost use Rattle.fab_zoning.specs.Zonings.{FabricZoning, zoning_code};
-    ghost use Rattle.fab_zoning.specs.Views.{seen_sets};
+    ghost use Rattle.fab_zoning.specs.MapsOfSets.{seen_sets};
 
     ghost Value = { FabricZoning };
 
@@ -48,9 +65,9 @@ impl<A: Allocator + Copy> Model for Zoning<A> {
 
     ghost view = { λ a. record {
       fabric = a.fabric;
-      aliases = seen_sets member_cmp a.aliases.entries;
-      zones = seen_sets member_cmp a.zones.entries;
-      sets = seen_sets name_cmp a.sets.entries;
+      aliases = seen_sets name_cmp member_cmp a.aliases.entries;
+      zones = seen_sets name_cmp member_cmp a.zones.entries;
+      sets = seen_sets name_cmp name_cmp a.sets.entries;
       active = a.active;
       rows = a.rows;
       flag = a.flag;
@@ -64,6 +81,19 @@ fn is_logged_in_at(fabric: Fabric, port: &Port) -> bool
     match port.at {
         Some((here, _)) => here == fabric,
         None => false,
+    }
+}
+
+/// What refuses a list of so many members.
+fn listing_fault(count: usize) -> Option<ZoningFault>
+    ensures { MatchOption result (IsListing count) (IsListingFault count) }
+{
+    if count == 0 {
+        Some(ZoningFault::Empty)
+    } else if count > MOST_MEMBERS {
+        Some(ZoningFault::Limit(ZoningLimit::Members))
+    } else {
+        None
     }
 }
 
@@ -105,6 +135,171 @@ impl<A: Allocator + Copy> Zoning<A> {
         ensures { self.new ≡ record self.old { flag = flag } }
     {
         self.flag = flag;
+    }
+
+    /// Makes an alias, or replaces the members of one.
+    ///
+    /// # Errors
+    /// `Empty` where no member is listed, `Limit(Members)` where more than 255 are,
+    /// `Limit(Aliases)` where the alias is new and there are 2048, and `Memory`. The zoning is then
+    /// as it was.
+    pub fn put_alias(&mut self, name: Name, members: &[Member]) -> Result<(), ZoningFault>
+        requires plain { All IsPlain members.now }
+        ensures accepted { OnOk result (CanPutAlias self.old name members.now) }
+        ensures ok { OnOk result (self.new ≡ record self.old { aliases = map.insert self.old.aliases name (set.from_list members.now) }) }
+        ensures refused { IfErr result (IsPutAliasFault self.old name members.now) }
+        ensures err { OnErr result (self.new ≡ self.old) }
+    {
+        if let Some(fault) = listing_fault(members.len()) {
+            return Err(fault);
+        }
+        if is_full(&self.aliases, &name, MOST_ALIASES) {
+            return Err(ZoningFault::Limit(ZoningLimit::Aliases));
+        }
+        let members = set_of(self.alloc, members)?;
+        self.aliases.insert(name, members)?;
+        Ok(())
+    }
+
+    /// Drops an alias.
+    ///
+    /// # Errors
+    /// `Unknown` where there is none of this name, and `InUse` with the first zone that names it.
+    /// The zoning is then as it was.
+    pub fn drop_alias(&mut self, name: &Name) -> Result<(), ZoningFault>
+        ensures accepted { OnOk result (CanDropAlias self.old name.now) }
+        ensures ok { OnOk result (self.new ≡ record self.old { aliases = map.remove self.old.aliases name.now }) }
+        ensures refused { IfErr result (IsDropAliasFault self.old name.now) }
+        ensures err { OnErr result (self.new ≡ self.old) }
+    {
+        if !self.aliases.contains_key(name) {
+            return Err(ZoningFault::Unknown(*name));
+        }
+        if let Some(zone) = first_user(&self.zones, &Member::Alias(*name)) {
+            return Err(ZoningFault::InUse(*name, *zone));
+        }
+        self.aliases.remove(name);
+        Ok(())
+    }
+
+    /// Makes a zone, or replaces the members of one.
+    ///
+    /// # Errors
+    /// `Empty` where no member is listed, `Limit(Members)` where more than 255 are, `Unknown` with
+    /// the first alias that is not there, `Limit(Zones)` where the zone is new and there are 2048,
+    /// and `Memory`. The zoning is then as it was.
+    pub fn put_zone(&mut self, name: Name, members: &[Member]) -> Result<(), ZoningFault>
+        ensures accepted { OnOk result (CanPutZone self.old name members.now) }
+        ensures ok { OnOk result (self.new ≡ record self.old { zones = map.insert self.old.zones name (set.from_list members.now) }) }
+        ensures refused { IfErr result (IsPutZoneFault self.old name members.now) }
+        ensures err { OnErr result (self.new ≡ self.old) }
+    {
+        if let Some(fault) = listing_fault(members.len()) {
+            return Err(fault);
+        }
+        if let Some(alias) = first_unknown_alias(&self.aliases, members) {
+            return Err(ZoningFault::Unknown(alias));
+        }
+        if is_full(&self.zones, &name, MOST_ZONES) {
+            return Err(ZoningFault::Limit(ZoningLimit::Zones));
+        }
+        let members = set_of(self.alloc, members)?;
+        self.zones.insert(name, members)?;
+        Ok(())
+    }
+
+    /// Drops a zone.
+    ///
+    /// # Errors
+    /// `Unknown` where there is none of this name, and `InUse` with the first zone set that names
+    /// it. The zoning is then as it was.
+    pub fn drop_zone(&mut self, name: &Name) -> Result<(), ZoningFault>
+        ensures accepted { OnOk result (CanDropZone self.old name.now) }
+        ensures ok { OnOk result (self.new ≡ record self.old { zones = map.remove self.old.zones name.now }) }
+        ensures refused { IfErr result (IsDropZoneFault self.old name.now) }
+        ensures err { OnErr result (self.new ≡ self.old) }
+    {
+        if !self.zones.contains_key(name) {
+            return Err(ZoningFault::Unknown(*name));
+        }
+        if let Some(zone_set) = first_user(&self.sets, name) {
+            return Err(ZoningFault::InUse(*name, *zone_set));
+        }
+        self.zones.remove(name);
+        Ok(())
+    }
+
+    /// Makes a zone set, or replaces the zones of one. What is active stays as it is.
+    ///
+    /// # Errors
+    /// `Empty` where no zone is listed, `Limit(Members)` where more than 255 are, `Unknown` with
+    /// the first zone that is not there, `Limit(Sets)` where the set is new and there are 64, and
+    /// `Memory`. The zoning is then as it was.
+    pub fn put_set(&mut self, name: Name, zones: &[Name]) -> Result<(), ZoningFault>
+        ensures accepted { OnOk result (CanPutSet self.old name zones.now) }
+        ensures ok { OnOk result (self.new ≡ record self.old { sets = map.insert self.old.sets name (set.from_list zones.now) }) }
+        ensures refused { IfErr result (IsPutSetFault self.old name zones.now) }
+        ensures err { OnErr result (self.new ≡ self.old) }
+    {
+        if let Some(fault) = listing_fault(zones.len()) {
+            return Err(fault);
+        }
+        if let Some(zone) = first_unknown(&self.zones, zones) {
+            return Err(ZoningFault::Unknown(zone));
+        }
+        if is_full(&self.sets, &name, MOST_SETS) {
+            return Err(ZoningFault::Limit(ZoningLimit::Sets));
+        }
+        let zones = set_of(self.alloc, zones)?;
+        self.sets.insert(name, zones)?;
+        Ok(())
+    }
+
+    /// Drops a zone set, also while a copy of it is active: what is active stays as it is.
+    ///
+    /// # Errors
+    /// `Unknown` where there is none of this name. The zoning is then as it was.
+    pub fn drop_set(&mut self, name: &Name) -> Result<(), ZoningFault>
+        ensures known { OnOk result (map.contains_key self.old.sets name.now ≡ true) }
+        ensures ok { OnOk result (self.new ≡ record self.old { sets = map.remove self.old.sets name.now }) }
+        ensures refused { IfErr result (IsDropSetFault self.old name.now) }
+        ensures err { OnErr result (self.new ≡ self.old) }
+    {
+        if !self.sets.contains_key(name) {
+            return Err(ZoningFault::Unknown(*name));
+        }
+        self.sets.remove(name);
+        Ok(())
+    }
+
+    /// Makes a zone set the active one, in place of what was active: a copy of its zones, with
+    /// their aliases replaced by the members that they have now.
+    ///
+    /// # Errors
+    /// `Unknown` where there is no set of this name, `Limit(Active)` where it has more than 65536
+    /// rows, and `Memory`. The zoning is then as it was.
+    pub fn activate(&mut self, name: &Name) -> Result<(), ZoningFault>
+        ensures known { OnOk result (map.contains_key self.old.sets name.now ≡ true) }
+        ensures rows { OnOk result (AreResolved self.old name.now self.new.rows) }
+        ensures few { OnOk result (set.len self.new.rows ≤ 65536) }
+        ensures rest { OnOk result (self.new ≡ record self.old { active = Some name.now; rows = self.new.rows }) }
+        ensures refused { IfErr result (IsActivateFault self.old name.now) }
+        ensures err { OnErr result (self.new ≡ self.old) }
+    {
+        let Some(zone_set) = self.sets.get(name) else {
+            return Err(ZoningFault::Unknown(*name));
+        };
+        self.rows = resolved(self.alloc, &self.aliases, &self.zones, zone_set)?;
+        self.active = Some(*name);
+        Ok(())
+    }
+
+    /// Leaves no zone set active, also where none was.
+    pub fn deactivate(&mut self)
+        ensures { self.new ≡ record self.old { active = None; rows = set.empty } }
+    {
+        self.rows = ActiveRows::new(self.alloc);
+        self.active = None;
     }
 
     /// Sets the active set: its name, and its rows in place of those that were there. Rows that
@@ -151,5 +346,24 @@ impl<A: Allocator + Copy> Zoning<A> {
             return None;
         }
         Some(Why::Default)
+    }
+
+    /// An equal zoning.
+    ///
+    /// # Errors
+    /// `AllocError` where there is no memory.
+    pub fn copy(&self) -> Result<Zoning<A>, AllocError>
+        ensures { IfOk result (λ copy. copy ≡ self.now) }
+    {
+        Ok(Zoning {
+            alloc: self.alloc,
+            fabric: self.fabric,
+            aliases: self.aliases.clone()?,
+            zones: self.zones.clone()?,
+            sets: self.sets.clone()?,
+            active: self.active,
+            rows: self.rows.copy()?,
+            flag: self.flag,
+        })
     }
 }

@@ -4,7 +4,7 @@ use Rattle.std.specs.BTreeMap.{is_at}
 use Rattle.std.proofs.lemmas.Result.{err_from_is_err_and}
 use Rattle.std.proofs.lemmas.Map.Steps.{set_value_same}
 use Rattle.fab_names.specs.Orders.{name_cmp, member_cmp}
-use Rattle.fab_zoning.specs.Views.{has_in}
+use Rattle.fab_zoning.specs.MapsOfSets.{in_tree}
 use Rattle.fab_zoning.proofs.RowSets.{ByMember, insert_seen, contains_seen, one_key}
 use Rattle.fab_zoning.proofs.rows.add_zone.Goals as goal
 
@@ -20,7 +20,7 @@ returns-in_err-insert-in-Some-clause-err g c =
 pub returns-in_ok-insert-in-Some-clause-is_new : goal.returns-in_ok-insert-in-Some-clause-is_new
 returns-in_ok-insert-in-Some-clause-is_new g c =
     c.in_ok-insert-in-Some.ensures.added
-    ∙ ap not (ap (λ o. has_in name_cmp o c.args.zone) c.in-Some.ensures.value ∙ sym (contains_seen c.args.zones_by_member.now c.get_mut.ensures.ordered c.args.zone c.args.member))
+    ∙ ap not (ap (λ o. in_tree name_cmp o c.args.zone) c.in-Some.ensures.value ∙ sym (contains_seen c.args.zones_by_member.now c.get_mut.ensures.ordered c.args.zone c.args.member))
 
 pub returns-in_ok-insert-in-Some-clause-ok : goal.returns-in_ok-insert-in-Some-clause-ok
 returns-in_ok-insert-in-Some-clause-ok g c =
@@ -31,7 +31,7 @@ returns-in_ok-insert-in-Some-clause-ok g c =
 
 pub returns-in_ok-insert-in-None-2-clause-is_new : goal.returns-in_ok-insert-in-None-2-clause-is_new
 returns-in_ok-insert-in-None-2-clause-is_new g c =
-    ap not (sym (contains_seen c.args.zones_by_member.now c.get_mut.ensures.ordered c.args.zone c.args.member ∙ ap (λ o. has_in name_cmp o c.args.zone) (sym c.in-None.ensures.value)))
+    ap not (sym (contains_seen c.args.zones_by_member.now c.get_mut.ensures.ordered c.args.zone c.args.member ∙ ap (λ o. in_tree name_cmp o c.args.zone) (sym c.in-None.ensures.value)))
 
 pub returns-in_ok-insert-in-None-2-clause-ok : goal.returns-in_ok-insert-in-None-2-clause-ok
 returns-in_ok-insert-in-None-2-clause-ok g c =

@@ -8,7 +8,8 @@ use Rattle.fab_names.specs.declared.member.Member.{Member}
 use Rattle.fab_names.specs.declared.member.Member.TheVariants as member
 use Rattle.fab_names.specs.Orders.{name_cmp, member_cmp}
 use Rattle.fab_zoning.specs.Rows.{Rows}
-use Rattle.fab_zoning.specs.Views.{has_in, seen_rows}
+use Rattle.fab_zoning.specs.Views.{seen_rows}
+use Rattle.fab_zoning.specs.MapsOfSets.{in_tree}
 use Rattle.fab_zoning.specs.PortZones.{in_set}
 use Rattle.fab_zoning.proofs.RowSets.{ByMember, contains_seen}
 use Rattle.fab_zoning.proofs.PortZoneLemmas.{in_set_copied}
@@ -19,7 +20,7 @@ use Rattle.fab_zoning.proofs.rows.ActiveRows.zones_of.Goals.{in-Some, in-None}
 -- what was found at a member tells which of its rows are there
 found_at : (rows : Rows) (t : ByMember) → seen_rows t.entries ≡ rows → tree.IsOrdered member_cmp t → (z : List ℕ) (m : Member) (o : Option (Bor (BTreeSet (List ℕ)))) → option_copied o ≡ tree.get member_cmp t m
     → set.contains rows (z, m) ≡ in_set o z
-found_at rows t seen sorted z m o is = sym (ap (λ (r : Rows). set.contains r (z, m)) seen) ∙ contains_seen t sorted z m ∙ sym (in_set_copied o z ∙ ap (λ x. has_in name_cmp x z) is)
+found_at rows t seen sorted z m o is = sym (ap (λ (r : Rows). set.contains r (z, m)) seen) ∙ contains_seen t sorted z m ∙ sym (in_set_copied o z ∙ ap (λ x. in_tree name_cmp x z) is)
 
 pub returns : goal.returns
 returns g c z =

@@ -1,0 +1,34 @@
+use Rattle.std.proofs.Common.{◌≡◌, ℕ, List, Bool, sym, ◌∙◌, subst, arith}
+use Rattle.std.specs.FinMap as map
+use Rattle.fab_names.specs.declared.member.Member.{Member}
+use Rattle.fab_names.specs.declared.member.Member.TheVariants as member
+use Rattle.fab_names.specs.Orders.{name_cmp, member_cmp}
+use Rattle.fab_names.proofs.OrderLaws.{name_total}
+use Rattle.fab_zoning.specs.MapsOfSets.{seen_sets}
+use Rattle.fab_zoning.specs.Steps.{NamesKnown, IsFirstWithout}
+use Rattle.fab_zoning.proofs.MapsOfSets.{knows_seen}
+use Rattle.fab_zoning.proofs.Scans.{scan_more, scan_end, scan_hit, known_alias, unknown_alias}
+use Rattle.fab_zoning.proofs.named.first_unknown_alias.Goals as goal
+use Rattle.fab_zoning.proofs.named.first_unknown_alias.Goals.{in-Alias+else-not-contains_key, in_default}
+
+pub returns-then-not-contains_key : goal.returns-then-not-contains_key
+returns-then-not-contains_key g c =
+    let known : List ℕ → Bool = map.contains_key (seen_sets name_cmp member_cmp c.args.aliases.now.entries) in
+    let absent = knows_seen member_cmp name_total c.args.aliases.now c.in-Alias.alias ∙ sym c.contains_key.ensures ∙ c.if-not-contains_key.true in
+    subst (IsFirstWithout (NamesKnown known) c.args.members.now) c.in-Alias.is
+    (scan_hit (NamesKnown known) c.args.members.now c.loop-member.member-index c.member-item.result c.loop-member-test.true c.member-item.is c.loop-member.invariant
+    (subst (λ (m : Member). ¬ NamesKnown known m) (sym c.in-Alias.is) (unknown_alias known c.in-Alias.alias absent)))
+
+pub loop-member-preserved : goal.loop-member-preserved
+loop-member-preserved g c =
+    let known : List ℕ → Bool = map.contains_key (seen_sets name_cmp member_cmp c.args.aliases.now.entries) in
+    scan_more (NamesKnown known) c.args.members.now c.loop-member.member-index c.member-item.result c.loop-member-test.true c.member-item.is c.loop-member.invariant
+    (elim c.match-member.branch [
+      | in-Alias+else-not-contains_key w ↦
+          known_alias known c.member-item.result w.in-Alias.alias w.in-Alias.is (knows_seen member_cmp name_total c.args.aliases.now w.in-Alias.alias ∙ sym w.contains_key.ensures ∙ w.if-not-contains_key.false)
+      | in_default w ↦ λ a is. absurd (w.in_default.not-Alias a is)
+    ])
+
+pub returns : goal.returns
+returns g c =
+    scan_end (NamesKnown (map.contains_key (seen_sets name_cmp member_cmp c.args.aliases.now.entries))) c.args.members.now c.loop-member.member-index (omega arith) c.loop-member.invariant

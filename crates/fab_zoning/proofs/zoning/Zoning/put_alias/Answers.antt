@@ -1,0 +1,9 @@
+use Rattle.fab_names.specs.Orders.{member_cmp}
+use Rattle.fab_names.proofs.OrderLaws.{member_total, member_exact}
+use Rattle.fab_zoning.proofs.Changes.{put_listed, aliases_put}
+use Rattle.fab_zoning.proofs.zoning.Zoning.put_alias.Goals as goal
+
+pub returns-clause-ok : goal.returns-clause-ok
+returns-clause-ok g c =
+    aliases_put _ _ c.self.view_is c.args.name _ _
+    (put_listed member_cmp member_total member_exact c.self.inside.aliases c.insert.new.self c.args.name c.in_ok-members.members c.args.members.now c.in_ok-insert.ensures.updates.0 c.in_ok-members.ensures)
