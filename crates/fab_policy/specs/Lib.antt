@@ -1,0 +1,5 @@
+pub mod Policies
+pub mod Words
+pub mod Callers
+pub mod Windows
+pub mod Verdicts
