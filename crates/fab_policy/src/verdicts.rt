@@ -1,6 +1,6 @@
 //! The verdict of a policy on an act.
-ghost use Rattle.std.specs.Prelude.{◌≡◌, ◌≤◌, ◌↔◌, IsTrue, true, Bool, MatchOption, Contains, codes, option_copied, count_by, slice_get, length, map, take};
-ghost use Rattle.std.specs.List.{list_any, list_all};
+ghost use Rattle.std.specs.Prelude.{◌≡◌, ◌≤◌, ◌↔◌, IsTrue, true, Bool, MatchOption, Contains, codes, option_copied, count_by, slice_get, length, map, take, ◌&&◌, if◌then◌else◌};
+ghost use Rattle.std.specs.List.{list_any, list_all, zip};
 ghost use Rattle.fab_policy.specs.Callers as callers;
 ghost use Rattle.fab_policy.specs.Verdicts as verdicts;
 
@@ -9,6 +9,9 @@ use crate::caller::{has_name, has_tenant};
 use crate::policy::{Action, Caller, Policy, Quorum, Rule};
 use crate::window::some_is_open;
 use fab_names::{Fabric, Name};
+
+/// How many callers a policy has at most.
+const CALLERS: usize = 256;
 
 /// Whether the action is among these.
 fn has_action(actions: &[Action], action: Action) -> bool
@@ -118,42 +121,83 @@ fn is_approver(act: &Act, quorum: &Quorum, caller: &Caller) -> bool
     !is_author(&act.author, &caller.name) && has_role(caller, &quorum.approver)
 }
 
-/// How many callers have approved and are counted by a quorum.
-fn count_approvers(act: &Act, quorum: &Quorum, callers: &[Caller]) -> usize
-    ensures { result ≡ count_by (verdicts.counts act.now quorum.now) callers.now }
+/// For each caller, whether some approval is theirs, at the present revision where it has to be
+/// fresh.
+fn find_approved(act: &Act, callers: &[Caller], fresh: bool) -> [bool; CALLERS]
+    requires { length callers.now ≤ 256 }
+    ensures { take (length callers.now) result ≡ map (verdicts.has_approved act.now fresh) callers.now }
+{
+    let mut approved = [false; CALLERS];
+    for (i, caller) in callers.iter().enumerate() {
+        approved[i] = has_approved(act, caller, fresh);
+    }
+    approved
+}
+
+/// What rules ask of an act that does not hang on the rule, found once for all of them.
+#[derive(Clone, Copy)]
+struct Findings<'a> {
+    /// Whether each touched tenant is the caller's.
+    own: bool,
+    /// For each caller of the policy, whether some approval is theirs,
+    approved: &'a [bool],
+    /// and whether one at the present revision is.
+    fresh: &'a [bool],
+}
+
+/// How many callers are counted by a quorum, of those of whom `approved` tells that they approved.
+fn count_approvers(act: &Act, quorum: &Quorum, callers: &[Caller], approved: &[bool]) -> usize
+    ensures { result ≡ count_by (λ p. p.1 && verdicts.is_approver act.now quorum.now p.0) (zip callers.now approved.now) }
 {
     callers
         .iter()
-        .filter(|c| has_approved(act, c, quorum.fresh) && is_approver(act, quorum, c))
+        .zip(approved)
+        .filter(|(caller, approved)| **approved && is_approver(act, quorum, caller))
         .count()
 }
 
-/// Whether enough callers approved, where approvals are asked for.
-fn meets_approvals(policy: &Policy, act: &Act, approvals: &Option<Quorum>) -> bool
-    ensures { result ≡ verdicts.meets_approvals policy.now.callers act.now approvals.now }
-{
-    match approvals {
-        Some(quorum) => quorum.count <= count_approvers(act, quorum, &policy.callers),
-        None => true,
+impl<'a> Findings<'a> {
+    /// For each caller, whether some approval is theirs, at the present revision where it has to
+    /// be fresh.
+    fn approved(&self, fresh: bool) -> &'a [bool]
+        ensures { result.now ≡ (if fresh then self.now.fresh.now else self.now.approved.now) }
+    {
+        if fresh { self.fresh } else { self.approved }
     }
 }
 
-/// The first need of the rule that is not met. `own` tells whether each touched tenant is the
-/// caller's.
-fn first_failing(policy: &Policy, act: &Act, own: bool, rule: &Rule) -> Option<Need>
-    requires { own ≡ verdicts.is_own act.now.touched.now (slice_get policy.now.callers act.now.caller) }
+/// Whether enough callers approved, where approvals are asked for.
+fn meets_approvals(
+    policy: &Policy,
+    act: &Act,
+    findings: &Findings,
+    approvals: &Option<Quorum>,
+) -> bool
+    requires { verdicts.AreFound policy.now act.now findings.now }
+    ensures { result ≡ verdicts.meets_approvals policy.now.callers act.now approvals.now }
+{
+    let Some(quorum) = approvals else {
+        return true;
+    };
+    let approved = findings.approved(quorum.fresh);
+    quorum.count <= count_approvers(act, quorum, &policy.callers, approved)
+}
+
+/// The first need of the rule that is not met.
+fn first_failing(policy: &Policy, act: &Act, findings: &Findings, rule: &Rule) -> Option<Need>
+    requires { verdicts.AreFound policy.now act.now findings.now }
     ensures { MatchOption result (verdicts.Holds policy.now act.now rule.now) (verdicts.FailsFirst policy.now act.now rule.now) }
 {
     if !meets_role(policy.row(act.caller), &rule.role) {
         return Some(Need::Role);
     }
-    if rule.scope.is_some() && !own {
+    if rule.scope.is_some() && !findings.own {
         return Some(Need::Scope);
     }
     if !meets_window(policy, &rule.window, act.moment) {
         return Some(Need::Window);
     }
-    if !meets_approvals(policy, act, &rule.approvals) {
+    if !meets_approvals(policy, act, findings, &rule.approvals) {
         return Some(Need::Approvals);
     }
     None
@@ -169,19 +213,15 @@ fn no_rule() -> Name
     }
 }
 
-/// The verdict of the policy on the act: allowed where some rule applies and all that apply
-/// hold; else denied by the first rule that applies and does not hold, with the first of its
-/// needs that is not met; by rule 0, `no-rule`, need `rule`, where none applies.
-///
-/// It takes no memory and cannot fail.
-pub fn decide(policy: &Policy, act: &Act) -> Verdict
+/// The verdict of the policy on the act, rule by rule.
+fn judge(policy: &Policy, act: &Act, findings: &Findings) -> Verdict
+    requires { verdicts.AreFound policy.now act.now findings.now }
     ensures { verdicts.IsVerdict policy.now act.now result }
 {
-    let own = is_own(policy.row(act.caller), act.touched);
     let mut applied = false;
     for (i, rule) in policy.rules.iter().enumerate() {
         if applies(rule, act) {
-            if let Some(need) = first_failing(policy, act, own, rule) {
+            if let Some(need) = first_failing(policy, act, findings, rule) {
                 return Verdict::Denied {
                     rule: i + 1,
                     name: rule.name,
@@ -200,4 +240,24 @@ pub fn decide(policy: &Policy, act: &Act) -> Verdict
             need: Need::Rule,
         }
     }
+}
+
+/// The verdict of the policy on the act: allowed where some rule applies and all that apply
+/// hold; else denied by the first rule that applies and does not hold, with the first of its
+/// needs that is not met; by rule 0, `no-rule`, need `rule`, where none applies.
+///
+/// It takes no memory and cannot fail.
+pub fn decide(policy: &Policy, act: &Act) -> Verdict
+    ensures { verdicts.IsVerdict policy.now act.now result }
+{
+    let callers = policy.callers.as_slice();
+    let own = is_own(policy.row(act.caller), act.touched);
+    let all = find_approved(act, callers, false);
+    let fresh = find_approved(act, callers, true);
+    let findings = Findings {
+        own,
+        approved: &all[..callers.len()],
+        fresh: &fresh[..callers.len()],
+    };
+    judge(policy, act, &findings)
 }

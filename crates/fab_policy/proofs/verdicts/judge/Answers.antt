@@ -1,8 +1,8 @@
 use mathlib.Core.Bool.{true≢false}
 use Rattle.std.proofs.Common.{◌≡◌, ◌<◌, ◌∙◌, length, get_or, ap, sym, subst}
 use Rattle.fab_policy.proofs.Walk.{holding, not_applying}
-use Rattle.fab_policy.proofs.verdicts.decide.Goals.{then-applies+in_default, else-applies}
-use Rattle.fab_policy.proofs.verdicts.decide.Goals as goal
+use Rattle.fab_policy.proofs.verdicts.judge.Goals.{then-applies+in_default, else-applies}
+use Rattle.fab_policy.proofs.verdicts.judge.Goals as goal
 
 pub loop-i-preserved : goal.loop-i-preserved
 loop-i-preserved c =
