@@ -6,6 +6,8 @@
 
 mod act;
 mod caller;
+mod fault;
+mod key;
 mod policy;
 mod text;
 mod verdicts;
@@ -13,6 +15,8 @@ mod window;
 
 pub use act::{Act, Approval, Need, Verdict};
 pub use caller::CallerId;
+pub use fault::PolicyFault;
+pub use key::Key;
 pub use policy::{Action, Policy};
 pub use text::Text;
 pub use verdicts::decide;
