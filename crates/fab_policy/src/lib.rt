@@ -7,8 +7,11 @@
 mod act;
 mod caller;
 mod fault;
+mod forms;
 mod key;
 mod policy;
+mod read;
+mod tables;
 mod text;
 mod verdicts;
 mod window;
