@@ -1,8 +1,9 @@
 -- What the tables of a policy's text mean, and the whole text.
-use Rattle.std.specs.Prelude.{◌≡◌, ℕ, ◌<◌, List, [], ◌∷◌, map, Option, Some, None, Contains, slice_get}
+use Rattle.std.specs.Prelude.{◌≡◌, ℕ, ◌<◌, true, false, List, [], ◌∷◌, map, Option, Some, None, Contains, slice_get, if◌then◌else◌}
 use Rattle.fab_names.specs.Fabrics.{fabric_text}
 use Rattle.toml.specs.Data.{Data, Members}
 use Rattle.toml.specs.Parse.{parse_document}
+use Rattle.fab_policy.specs.Callers.{has_name}
 use Rattle.fab_policy.specs.Forms.{IsName, IsToken, AreTenants, TenantsFault, IsWeekSpan, IsFreeze, IsRuleName, RuleNameFault, AreActions, ActionsFault, QuorumIn, QuorumFault}
 use Rattle.fab_policy.specs.Policies.{CallerRow, WindowRow, RuleRow, PolicyRows}
 use Rattle.fab_policy.specs.Shapes.{At, MaybeAt, IsList, ListAt, IsTable, IsWord, HasOnly, MeansNothing, FaultAt, FaultIn, ListFault, TableFault, WordFault, HasOther}
@@ -96,16 +97,22 @@ pub record IsRepeated (texts names : List (List ℕ)) (e : PolicyFault) : Type 0
   pub named : slice_get names place ≡ Some name
   pub repeated : e ≡ fault.Repeated name
 
--- each window that a rule names is there
+-- each window that is asked for is there
 abbrev pub HaveWindows : List (Option (List ℕ)) → List (List ℕ) → Type 0
-HaveWindows asked names = (name : List ℕ) → Contains asked (Some name) → Contains names name
+HaveWindows asked names = (name : List ℕ) → Contains asked (Some name) → has_name names name ≡ true
 
--- a window that a rule names is not there
-pub record LacksWindow (asked : List (Option (List ℕ))) (names : List (List ℕ)) (e : PolicyFault) : Type 0 where
-  pub name : List ℕ
-  pub asked_for : Contains asked (Some name)
-  pub not_there : ¬ Contains names name
-  pub unknown : e ≡ fault.Unknown name
+-- the name of a window that is asked for and is not there
+abbrev pub missing_window : List (List ℕ) → Option (List ℕ) → Option (List ℕ)
+missing_window names None = None
+missing_window names (Some name) = if has_name names name then None else Some name
+
+-- a window of the name is asked for, and is not there
+abbrev pub IsMissing : List (Option (List ℕ)) → List (List ℕ) → List ℕ → Type 0
+IsMissing asked names name = Contains asked (Some name) × (has_name names name ≡ false)
+
+-- the fault names such a window
+abbrev pub LacksWindow : List (Option (List ℕ)) → List (List ℕ) → PolicyFault → Type 0
+LacksWindow asked names e = (name : List ℕ) × IsMissing asked names name × (e ≡ fault.Unknown name)
 
 -- names, tokens, and the windows that rules name
 abbrev pub caller_names : List CallerRow → List (List ℕ)

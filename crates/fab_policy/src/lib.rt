@@ -6,6 +6,7 @@
 
 mod act;
 mod caller;
+mod distinct;
 mod fault;
 mod forms;
 mod key;
