@@ -1,5 +1,5 @@
 -- The keys of a table, as entries of a map and as members.
-use Rattle.std.proofs.Common.{◌≡◌, ℕ, Bool, true, false, not, List, [], ◌∷◌, Option, Some, None, cond, String, Global, string_bytes, Ordering, Less, Equal, Greater, nat_cmp, is_eq, refl, sym, subst, ap, ◌∙◌}
+use Rattle.std.proofs.Common.{◌≡◌, ℕ, Bool, true, false, not, List, [], ◌∷◌, Option, Some, None, cond, String, Global, string_bytes, Ordering, Less, Equal, Greater, nat_cmp, is_eq, refl, sym, ap, ◌∙◌}
 use Rattle.std.specs.Prelude.{find, is_some}
 use Rattle.std.specs.Map.{keys_of}
 use Rattle.std.specs.Ordering.{match_ordering}
@@ -27,8 +27,8 @@ pub all_pass : (t : List ℕ → Bool) (k : List ℕ) (es : List Entry) → find
 all_pass t k [] none there = cc
 all_pass t k (e ∷ es) none there =
     passes_here (slice_cmp nat_cmp k (string_bytes e.0)) (t (string_bytes e.0)) e.0 _ (view e.1) (get_member k (members_view es)) none there
-      (all_pass t k es)
-      (λ equal yes. ap t (same_text k (string_bytes e.0) (sym (ap is_eq equal) ∙ is_eq-slice_cmp k (string_bytes e.0))) ∙ yes)
+    (all_pass t k es)
+    (λ equal yes. ap t (same_text k (string_bytes e.0) (sym (ap is_eq equal) ∙ is_eq-slice_cmp k (string_bytes e.0))) ∙ yes)
 
 found_here : (o : Ordering) (d : Data) (rest : Option Data) → o ≡ Equal → is_some (match_ordering o rest (Some d) rest) ≡ true
 found_here Equal d rest e = refl
@@ -50,5 +50,5 @@ one_fails t s [] h = cc
 one_fails t s (e ∷ es) h =
     let o = slice_cmp nat_cmp (string_bytes s) (string_bytes e.0) in
     fails_here (t (string_bytes e.0)) e.0 s _ h
-      (λ later. let more = one_fails t s es later in (found_later o (view e.1) _ more.0, more.1))
-      (λ same no. (found_here o (view e.1) _ (ap (λ x. slice_cmp nat_cmp (string_bytes s) (string_bytes x)) same ∙ tied_itself nat_list_cmp_total (string_bytes s)), ap (λ x. t (string_bytes x)) (sym same) ∙ no))
+    (λ later. let more = one_fails t s es later in (found_later o (view e.1) _ more.0, more.1))
+    (λ same no. (found_here o (view e.1) _ (ap (λ x. slice_cmp nat_cmp (string_bytes s) (string_bytes x)) same ∙ tied_itself nat_list_cmp_total (string_bytes s)), ap (λ x. t (string_bytes x)) (sym same) ∙ no))

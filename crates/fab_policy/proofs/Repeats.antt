@@ -1,6 +1,6 @@
 -- Names and tokens that stand once, and windows that are there.
-use Rattle.std.proofs.Common.{◌≡◌, ℕ, ◌<◌, ◌≤◌, ◌+◌, zero, suc, Bool, true, false, ◌||◌, List, [], ◌∷◌, length, take, get_or, map, Option, Some, None, sym, ap, ◌∙◌, refl, arith}
-use Rattle.std.specs.Prelude.{slice_get, Contains, if◌then◌else◌}
+use Rattle.std.proofs.Common.{◌≡◌, ℕ, ◌<◌, ◌≤◌, zero, suc, Bool, true, false, ◌||◌, List, [], ◌∷◌, length, take, get_or, map, Option, Some, None, sym, ap, ◌∙◌, refl, arith}
+use Rattle.std.specs.Prelude.{slice_get, if◌then◌else◌}
 use Rattle.std.specs.List.{list_any, AllWithin}
 use Rattle.std.specs.Cmp.Lexicographic.{same_text, nat_list_eq_equiv}
 use Rattle.std.proofs.lemmas.Bool.{or_parts}
@@ -43,8 +43,8 @@ some_before f text [] (suc i) h = absurd (true≢false (sym h))
 some_before f text (x ∷ xs) zero h = absurd (true≢false (sym h))
 some_before f text (x ∷ xs) (suc i) h =
     or_cases (is_same (f x) text) (list_any (λ x. is_same (f x) text) (take i xs)) h
-      (λ e. (0, omega arith, ap Some (same_text (f x) text (sym e))))
-      (λ e. let more = some_before f text xs i e in (suc more.0, omega (arith, more.1), more.2))
+    (λ e. (0, omega arith, ap Some (same_text (f x) text (sym e))))
+    (λ e. let more = some_before f text xs i e in (suc more.0, omega (arith, more.1), more.2))
 
 -- the text at i stands before it too
 pub repeated : {X : Type 0} (f g : X → List ℕ) (xs : List X) (i : ℕ) (x : X) (text name : List ℕ) → i < length xs → x ≡ get_or xs i x → text ≡ f x → name ≡ g x → list_any (λ y. is_same (f y) text) (take i xs) ≡ true → IsRepeated (map f xs) (map g xs) (fault.Repeated name)

@@ -4,7 +4,7 @@ use Rattle.std.specs.List.{list_all}
 use Rattle.fab_names.specs.Names.{IsNameText, is_letter}
 use Rattle.toml.specs.Data.{Data, Items, no_items, item, Members, get_member, as_str, as_integer, as_array, as_bool}
 use Rattle.fab_policy.specs.Policies.{TenantNames}
-use Rattle.fab_policy.specs.Shapes.{At, MaybeAt, EachMeans, IsList, IsWord, MeansNothing, FaultAt, FaultIn, ItemFault, ListFault, WordFault}
+use Rattle.fab_policy.specs.Shapes.{At, MaybeAt, EachMeans, IsList, IsWord, MeansNothing, FaultIn, ItemFault, ListFault, WordFault}
 use Rattle.fab_policy.specs.Words.{key_word, action_word}
 use Rattle.fab_policy.specs.declared.fault.PolicyFault.{PolicyFault}
 use Rattle.fab_policy.specs.declared.fault.PolicyFault.TheVariants.{Missing, WrongType, Repeated}

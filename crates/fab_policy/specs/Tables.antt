@@ -1,7 +1,7 @@
 -- What the tables of a policy's text mean, and the whole text.
 use Rattle.std.specs.Prelude.{◌≡◌, ℕ, ◌<◌, true, false, List, [], ◌∷◌, map, Option, Some, None, Contains, slice_get, if◌then◌else◌}
 use Rattle.fab_names.specs.Fabrics.{fabric_text}
-use Rattle.toml.specs.Data.{Data, Members}
+use Rattle.toml.specs.Data.{Members}
 use Rattle.toml.specs.Parse.{parse_document}
 use Rattle.fab_policy.specs.Callers.{has_name}
 use Rattle.fab_policy.specs.Forms.{IsName, IsToken, AreTenants, TenantsFault, IsWeekSpan, IsFreeze, IsRuleName, RuleNameFault, AreActions, ActionsFault, QuorumIn, QuorumFault}

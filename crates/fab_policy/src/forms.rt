@@ -113,13 +113,7 @@ fn natural(value: &Value) -> Option<u64>
     ensures { MatchOption result ((n : ℕ) → ¬ (as_integer (view value.now) ≡ Some (pos n))) (λ n. as_integer (view value.now) ≡ Some (pos n)) }
 {
     match value.as_integer() {
-        Some(n) => {
-            if n < 0 {
-                None
-            } else {
-                Some(n as u64)
-            }
-        }
+        Some(n) => { if n < 0 { None } else { Some(n as u64) } }
         None => None,
     }
 }

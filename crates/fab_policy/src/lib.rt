@@ -12,6 +12,7 @@ mod forms;
 mod key;
 mod policy;
 mod read;
+mod reading;
 mod tables;
 mod text;
 mod verdicts;

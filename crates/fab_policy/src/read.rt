@@ -48,7 +48,11 @@ pub(crate) fn field<T: Read>(alloc: Global, table: &Table, key: Key) -> Result<T
 }
 
 /// What the value at a key means, where the key is there.
-pub(crate) fn optional<T: Read>(alloc: Global, table: &Table, key: Key) -> Result<Option<T>, PolicyFault>
+pub(crate) fn optional<T: Read>(
+    alloc: Global,
+    table: &Table,
+    key: Key,
+) -> Result<Option<T>, PolicyFault>
     ensures ok { IfOk result (shapes.MaybeAt key T.means (table_view table.now)) }
     ensures fault { IfErr result (λ e. ¬ shapes.IsMemory e → shapes.FaultIn key T.wrong (table_view table.now) e) }
 {
@@ -62,7 +66,11 @@ pub(crate) fn optional<T: Read>(alloc: Global, table: &Table, key: Key) -> Resul
 }
 
 /// What each item of an array means.
-pub(crate) fn each<T: Read + Drop>(alloc: Global, items: &Array, key: Key) -> Result<Vec<T>, PolicyFault>
+pub(crate) fn each<T: Read + Drop>(
+    alloc: Global,
+    items: &Array,
+    key: Key,
+) -> Result<Vec<T>, PolicyFault>
     ensures ok { IfOk result (λ v. shapes.EachMeans T.means (array_view items.now) v.items) }
     ensures fault { IfErr result (λ e. ¬ shapes.IsMemory e → shapes.ItemFault T.wrong key (array_view items.now) e) }
 {

@@ -21,7 +21,11 @@ fn caller_of(alloc: Global, table: &Table) -> Result<Caller, PolicyFault>
     ensures ok { IfOk result (tables.IsCallerTable (table_view table.now)) }
     ensures fault { IfErr result (λ e. ¬ IsMemory e → tables.CallerFault (table_view table.now) e) }
 {
-    only(alloc, table, &[Key::Name, Key::Token, Key::Roles, Key::Tenants])?;
+    only(
+        alloc,
+        table,
+        &[Key::Name, Key::Token, Key::Roles, Key::Tenants],
+    )?;
     let name = field(alloc, table, Key::Name)?;
     let token = field(alloc, table, Key::Token)?;
     let roles = list_at(alloc, table, Key::Roles, 16)?;

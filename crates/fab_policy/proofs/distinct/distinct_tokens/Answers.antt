@@ -10,7 +10,7 @@ returns-then-some_has_token-clause-fault c =
 pub loop-i-preserved : goal.loop-i-preserved
 loop-i-preserved c =
     below_more _ _ c.loop-i.invariant
-      (not_repeated (λ r. r.token) c.args.callers.now c.loop-i.i c.index-callers-i.result c.token.result.now c.loop-i-test.true c.index-callers-i.is c.token.ensures (sym c.some_has_token.ensures ∙ c.if-some_has_token.false))
+    (not_repeated (λ r. r.token) c.args.callers.now c.loop-i.i c.index-callers-i.result c.token.result.now c.loop-i-test.true c.index-callers-i.is c.token.ensures (sym c.some_has_token.ensures ∙ c.if-some_has_token.false))
 
 pub returns-clause-ok : goal.returns-clause-ok
 returns-clause-ok c = all_distinct (λ r. r.token) c.args.callers.now c.loop-i.i c.loop-i-test.false c.loop-i.invariant

@@ -1,4 +1,4 @@
-use Rattle.std.proofs.Common.{◌≡◌, ◌∙◌, sym, ap, subst, Some, None, true, false}
+use Rattle.std.proofs.Common.{◌≡◌, ◌∙◌, sym, ap, Some, None, true, false}
 use Rattle.std.specs.Prelude.{if◌then◌else◌}
 use Rattle.fab_policy.specs.Callers.{has_name}
 use Rattle.fab_policy.specs.Tables.{missing_window, window_names}

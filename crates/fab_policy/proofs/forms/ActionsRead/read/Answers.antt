@@ -13,8 +13,8 @@ returns-in-Ok-clause-ok c = record {
   array = sym c.in-Some.ensures;
   each = c.in-Ok.ensures.ok;
   some = λ none.
-    let same = each_length (IsWord action_word) c.in-Some.items.now.items _ c.in-Ok.ensures.ok in
-    let empty : length c.in-Some.items.now.items ≡ 0 = sym same ∙ ap length none in
-    let zero : vec_len c.in-Some.items.now ≡ 0 = omega arith in
-    true≢false (sym (ap (λ n. n == 0) zero) ∙ sym c.if-is_empty.ensures);
+      let same = each_length (IsWord action_word) c.in-Some.items.now.items _ c.in-Ok.ensures.ok in
+      let empty : length c.in-Some.items.now.items ≡ 0 = sym same ∙ ap length none in
+      let zero : vec_len c.in-Some.items.now ≡ 0 = omega arith in
+      true≢false (sym (ap (λ n. n == 0) zero) ∙ sym c.if-is_empty.ensures);
 }
