@@ -1,0 +1,94 @@
+//! What is asked of a policy, and what it answers.
+ghost use Rattle.std.specs.Prelude.{◌≡◌, Some};
+ghost use Rattle.fab_policy.specs.Words as words;
+
+use crate::caller::CallerId;
+use crate::policy::Action;
+use fab_names::{Fabric, Name};
+use std::fmt;
+
+/// An approval of a plan.
+#[derive(Clone, Copy)]
+pub struct Approval {
+    /// The name of the caller who approved.
+    pub caller: Name,
+    /// The revision at which it was given.
+    pub revision: u64,
+}
+
+/// A command as a policy judges it.
+#[derive(Clone, Copy)]
+pub struct Act<'a> {
+    /// Who sends it.
+    pub caller: CallerId,
+    /// What it does.
+    pub action: Action,
+    /// The fabrics that it names.
+    pub fabrics: &'a [Fabric],
+    /// The tenants whose things it touches.
+    pub touched: &'a [Name],
+    /// When it comes, in Unix seconds.
+    pub moment: u64,
+    /// The name of its plan's author, where it has a plan.
+    pub author: Option<Name>,
+    /// The approvals of its plan.
+    pub approvals: &'a [Approval],
+    /// The present revision.
+    pub revision: u64,
+}
+
+/// What a rule asks for, in the order in which it is judged.
+#[derive(Clone, Copy, Debug, PartialEq, Eq)]
+pub enum Need {
+    /// A rule at all.
+    Rule,
+    /// The caller has the role.
+    Role,
+    /// Every touched tenant is the caller's.
+    Scope,
+    /// The window is open.
+    Window,
+    /// Enough others approved.
+    Approvals,
+}
+
+impl Need {
+    /// The word for the need: `rule`, `role`, `scope`, `window` or `approvals`.
+    pub fn word(self) -> &'static str
+        ensures { result.now ≡ words.need_word self }
+    {
+        match self {
+            Need::Rule => "rule",
+            Need::Role => "role",
+            Need::Scope => "scope",
+            Need::Window => "window",
+            Need::Approvals => "approvals",
+        }
+    }
+}
+
+impl fmt::Display for Need {
+    ghost use Rattle.fab_policy.specs.Words.{need_word};
+
+    ghost output = { λ n. Some (need_word n) };
+
+    fn fmt<W: fmt::Write>(&self, f: &mut fmt::Formatter<W>) -> fmt::Result {
+        f.pad(self.word())
+    }
+}
+
+/// What a policy says of an act.
+#[derive(Clone, Copy, Debug)]
+pub enum Verdict {
+    /// Some rule applies, and each that applies holds.
+    Allowed,
+    /// A rule is in the way.
+    Denied {
+        /// Its number among the rules, from 1; 0 where no rule applies.
+        rule: usize,
+        /// Its name; `no-rule` where no rule applies.
+        name: Name,
+        /// The first of its needs that is not met.
+        need: Need,
+    },
+}
