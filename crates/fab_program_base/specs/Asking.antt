@@ -7,7 +7,7 @@ use Rattle.fab_program_base.specs.Fields.{IsLengthOf, is_given}
 use Rattle.fab_program_base.specs.Callers.{caller_of}
 use Rattle.fab_program_base.specs.Routes.{route_of, methods_of}
 use Rattle.fab_program_base.specs.declared.fields.Length.{Length}
-use Rattle.fab_program_base.specs.declared.fields.Length.TheVariants as length
+use Rattle.fab_program_base.specs.declared.fields.Length.TheVariants as lengths
 use Rattle.fab_program_base.specs.declared.routes.Route.{Route}
 use Rattle.fab_program_base.specs.declared.routes.Route.TheVariants as route
 use Rattle.fab_program_base.specs.declared.requests.Refusal.{Refusal}
@@ -41,9 +41,9 @@ target_route target = if is_path target then route_of target else None
 
 -- the size of a body: 1048576 bytes at most
 abbrev pub by_size : List ℕ → Route → Length → Asking
-by_size token r length.Missing = refuses no.NoLength
-by_size token r (length.Is size) = if nat_le size 1048576 then asks token r (Some size) else refuses no.TooLarge
-by_size token r length.Bad = refuses no.BadHead
+by_size token r lengths.Missing = refuses no.NoLength
+by_size token r (lengths.Is size) = if nat_le size 1048576 then asks token r (Some size) else refuses no.TooLarge
+by_size token r lengths.Bad = refuses no.BadHead
 
 -- the length: a route that takes a body wants one, and no transfer coding
 abbrev pub by_length : List ℕ → Route → Bool → Length → Asking
@@ -63,9 +63,9 @@ by_caller (Some token) r method coded length = by_route token r method coded len
 
 -- the lengths, which are judged on every request, and before all else
 abbrev pub by_head : Length → Option (List ℕ) → Option Route → List ℕ → Bool → Asking
-by_head length.Bad caller r method coded = refuses no.BadHead
-by_head length.Missing caller r method coded = by_caller caller r method coded length.Missing
-by_head (length.Is size) caller r method coded = by_caller caller r method coded (length.Is size)
+by_head lengths.Bad caller r method coded = refuses no.BadHead
+by_head lengths.Missing caller r method coded = by_caller caller r method coded lengths.Missing
+by_head (lengths.Is size) caller r method coded = by_caller caller r method coded (lengths.Is size)
 
 -- a head of this method, target and lines comes to this
 abbrev pub HeadAsks : List ℕ → List ℕ → List Line → Asking → Type 0
