@@ -14,6 +14,8 @@ mod policy;
 mod read;
 mod reading;
 mod tables;
+#[cfg(test)]
+mod tests;
 mod text;
 mod verdicts;
 mod window;
