@@ -4,7 +4,8 @@ use Rattle.std.specs.Prelude.{if◌then◌else◌}
 use Rattle.std.specs.List.{zip}
 use Rattle.std.proofs.lemmas.List.Sums.{sum_by-cons}
 use Rattle.fab_policy.specs.Policies.{CallerRow, PolicyRows}
-use Rattle.fab_policy.specs.Verdicts.{AreFound, has_approved, is_approver, counts}
+use Rattle.fab_policy.specs.Found.{AreFound}
+use Rattle.fab_policy.specs.Verdicts.{has_approved, is_approver, counts}
 use Rattle.fab_policy.specs.declared.act.Act.{Act}
 use Rattle.fab_policy.specs.declared.policy.Quorum.{Quorum}
 use Rattle.fab_policy.specs.declared.verdicts.Findings.{Findings}

@@ -3,6 +3,7 @@ pub mod Callers
 pub mod Words
 pub mod Windows
 pub mod Verdicts
+pub mod Found
 pub mod Shapes
 pub mod Forms
 pub mod Tables

@@ -1,5 +1,5 @@
 -- Values at the keys of a table, whatever they mean, and what is wrong with them where they mean nothing.
-use Rattle.std.specs.Prelude.{◌≡◌, ℕ, ◌≤◌, true, false, List, [], ◌∷◌, length, Option, Some, None, IsSome, MatchOption, IsSomeAnd, ◌⊎◌}
+use Rattle.std.specs.Prelude.{◌≡◌, ℕ, ◌≤◌, true, false, List, [], ◌∷◌, length, Option, Some, None, IsSome, MatchOption, IsSomeAnd, Result, IfErr, ◌⊎◌}
 use Rattle.toml.specs.Data.{Data, Items, no_items, item, Members, get_member, get_item, as_array, as_str, as_table}
 use Rattle.fab_policy.specs.Words.{key_word, is_word_of}
 use Rattle.fab_policy.specs.declared.fault.PolicyFault.{PolicyFault}
@@ -9,6 +9,10 @@ use Rattle.fab_policy.specs.declared.key.Key.{Key}
 -- there was no memory: such a fault says nothing of the text
 abbrev pub IsMemory : PolicyFault → Type 0
 IsMemory e = e ≡ Memory
+
+-- what is so of the fault, where the text was refused and not for memory
+abbrev pub IfRefused : {X : Type 0} → Result X PolicyFault → (PolicyFault → Type 0) → Type 0
+IfRefused r P = IfErr r (λ e. ¬ IsMemory e → P e)
 
 -- the key is there, and its value means x
 abbrev pub At : {X : Type 0} → Key → (Data → X → Type 0) → Members → X → Type 0

@@ -1,5 +1,5 @@
 -- What a policy says of an act.
-use Rattle.std.specs.Prelude.{◌≡◌, ℕ, ◌<◌, suc, zero, Bool, true, false, not, ◌&&◌, ◌||◌, nat_eq, nat_le, List, map, length, Option, Some, None, is_some, IfSome, Contains, All, Any, count_by, codes, slice_get, slice_index_or}
+use Rattle.std.specs.Prelude.{◌≡◌, ℕ, ◌<◌, suc, zero, Bool, true, false, not, ◌&&◌, ◌||◌, nat_eq, nat_le, List, length, Option, Some, None, is_some, IfSome, Contains, All, Any, count_by, codes, slice_get, slice_index_or}
 use Rattle.std.specs.List.{list_any, list_all, AllWithin}
 use Rattle.fab_policy.specs.Callers.{is_same, has_name, has_tenant}
 use Rattle.fab_policy.specs.Policies.{CallerRow, WindowRow, RuleRow, PolicyRows}
@@ -11,7 +11,6 @@ use Rattle.fab_policy.specs.declared.act.Need.TheVariants as need
 use Rattle.fab_policy.specs.declared.act.Verdict.{Verdict}
 use Rattle.fab_policy.specs.declared.act.Verdict.TheVariants.{Allowed, Denied}
 use Rattle.fab_policy.specs.declared.policy.Quorum.{Quorum}
-use Rattle.fab_policy.specs.declared.verdicts.Findings.{Findings}
 
 -- the action is among the rule's, and the rule's fabric, where it has one, is one that the act names
 abbrev pub Applies : RuleRow → Act → Type 0
@@ -87,12 +86,6 @@ Holds p a r = (n : Need) → meets p a r n ≡ true
 -- the need is not met, and each before it is
 abbrev pub FailsFirst : PolicyRows → Act → RuleRow → Need → Type 0
 FailsFirst p a r n = (meets p a r n ≡ false) × ((m : Need) → place_of m < place_of n → meets p a r m ≡ true)
-
--- what is found of an act is so
-pub record AreFound (p : PolicyRows) (a : Act) (f : Findings) : Type 0 where
-  pub own : f.own ≡ is_own a.touched.now (slice_get p.callers a.caller)
-  pub approved : f.approved.now ≡ map (has_approved a false) p.callers
-  pub fresh : f.fresh.now ≡ map (has_approved a true) p.callers
 
 -- some rule applies, and all that apply hold
 pub record IsAllowed (p : PolicyRows) (a : Act) : Type 0 where

@@ -1,7 +1,7 @@
 //! Names and tokens that stand once, and windows that are there.
-ghost use Rattle.std.specs.Prelude.{◌≡◌, ℕ, IfErr, OnOk, MatchOption, List, map, Contains, Some, true, false};
+ghost use Rattle.std.specs.Prelude.{◌≡◌, ℕ, IfErr, OnOk, MatchOption, List, map};
 ghost use Rattle.std.specs.List.{list_any};
-ghost use Rattle.fab_policy.specs.Callers.{is_same, has_name, has_token};
+ghost use Rattle.fab_policy.specs.Callers.{is_same, has_token};
 ghost use Rattle.fab_policy.specs.Tables as tables;
 
 use crate::fault::PolicyFault;
@@ -117,7 +117,9 @@ fn missing_window_of(windows: &[Window], rule: &Rule) -> Option<Name>
 
 /// The name of a window that some rule asks for and that is not there.
 pub(crate) fn unknown_window(windows: &[Window], rules: &[Rule]) -> Option<Name>
-    ensures { MatchOption result (tables.HaveWindows (tables.rule_windows rules.now) (tables.window_names windows.now)) (tables.IsMissing (tables.rule_windows rules.now) (tables.window_names windows.now)) }
+    ensures { let asked = tables.rule_windows rules.now in
+        let names = tables.window_names windows.now in
+        MatchOption result (tables.HaveWindows asked names) (tables.IsMissing asked names) }
 {
     for rule in rules {
         if let Some(name) = missing_window_of(windows, rule) {

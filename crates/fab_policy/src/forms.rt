@@ -1,11 +1,10 @@
 //! What single values of a policy's text mean.
-ghost use Rattle.std.specs.Prelude.{◌≡◌, ℕ, ◌<◌, ◌≤◌, IfOk, IfErr, OnErr, MatchOption, List, Option, Some, None, Bool, pos, IsTrue, ◌↔◌};
+ghost use Rattle.std.specs.Prelude.{◌≡◌, ℕ, IfOk, MatchOption, Some, pos, IsTrue, ◌↔◌};
 ghost use Rattle.std.specs.List.{list_all};
 ghost use Rattle.toml.specs.Data.{Data, as_integer, item, no_items};
 ghost use Rattle.toml.specs.View.{view, table_view, array_view};
 ghost use Rattle.fab_policy.specs.Forms as forms;
-ghost use Rattle.fab_policy.specs.Shapes as shapes;
-ghost use Rattle.fab_policy.specs.Shapes.{IsMemory};
+ghost use Rattle.fab_policy.specs.Shapes.{IfRefused};
 ghost use Rattle.fab_policy.specs.Words.{action_word};
 ghost use Rattle.fab_policy.specs.declared.policy.Action.{Action};
 
@@ -110,7 +109,9 @@ impl Read for Tenants {
 
 /// The number, where the value is one and not negative.
 fn natural(value: &Value) -> Option<u64>
-    ensures { MatchOption result ((n : ℕ) → ¬ (as_integer (view value.now) ≡ Some (pos n))) (λ n. as_integer (view value.now) ≡ Some (pos n)) }
+    ensures { MatchOption result
+        ((n : ℕ) → ¬ (as_integer (view value.now) ≡ Some (pos n)))
+        (λ n. as_integer (view value.now) ≡ Some (pos n)) }
 {
     match value.as_integer() {
         Some(n) => { if n < 0 { None } else { Some(n as u64) } }
@@ -120,7 +121,9 @@ fn natural(value: &Value) -> Option<u64>
 
 /// The two items, where there are two.
 fn two(items: &Array) -> Option<(&Value, &Value)>
-    ensures { MatchOption result ((a b : Data) → ¬ (array_view items.now ≡ item a (item b no_items))) (λ p. array_view items.now ≡ item (view p.0.now) (item (view p.1.now) no_items)) }
+    ensures { MatchOption result
+        ((a b : Data) → ¬ (array_view items.now ≡ item a (item b no_items)))
+        (λ p. array_view items.now ≡ item (view p.0.now) (item (view p.1.now) no_items)) }
 {
     if items.len() == 2 {
         Some((&items[0], &items[1]))
@@ -131,7 +134,9 @@ fn two(items: &Array) -> Option<(&Value, &Value)>
 
 /// The two numbers of a span, where the value is one.
 fn span(value: &Value) -> Option<(u64, u64)>
-    ensures { MatchOption result ((from until : ℕ) → ¬ forms.IsSpan (view value.now) from until) (λ p. forms.IsSpan (view value.now) p.0 p.1) }
+    ensures { MatchOption result
+        ((from until : ℕ) → ¬ forms.IsSpan (view value.now) from until)
+        (λ p. forms.IsSpan (view value.now) p.0 p.1) }
 {
     let Some(items) = value.as_array() else {
         return None;
@@ -192,7 +197,9 @@ impl Read for Freeze {
 
 /// The action of a word.
 fn action_of(text: &str) -> Option<Action>
-    ensures { MatchOption result ((a : Action) → ¬ (text.now ≡ action_word a)) (λ a. text.now ≡ action_word a) }
+    ensures { MatchOption result
+        ((a : Action) → ¬ (text.now ≡ action_word a))
+        (λ a. text.now ≡ action_word a) }
 {
     match text {
         "import" => Some(Action::Import),
@@ -364,7 +371,7 @@ impl Read for bool {
 /// The approvals that a rule's table asks for.
 pub(crate) fn quorum(alloc: Global, table: &Table) -> Result<Option<Quorum>, PolicyFault>
     ensures ok { IfOk result (forms.QuorumIn (table_view table.now)) }
-    ensures fault { IfErr result (λ e. ¬ IsMemory e → forms.QuorumFault (table_view table.now) e) }
+    ensures fault { IfRefused result (forms.QuorumFault (table_view table.now)) }
 {
     let count: Option<Count> = optional(alloc, table, Key::Approvals)?;
     let approver: Option<Name> = optional(alloc, table, Key::Approver)?;

@@ -51,7 +51,12 @@ impl Model for Caller {
 
     ghost Value = { CallerRow };
 
-    ghost view = { λ c. record { name = c.name; token = c.token; roles = c.roles.items; tenants = tenants_of c.tenants } };
+    ghost view = { λ c. record {
+      name = c.name;
+      token = c.token;
+      roles = c.roles.items;
+      tenants = tenants_of c.tenants;
+    } };
 }
 
 /// A part of each week, in minutes from Monday 00:00 UTC: from the first on, before the second.
@@ -133,7 +138,15 @@ impl Model for Rule {
 
     ghost Value = { RuleRow };
 
-    ghost view = { λ r. record { name = r.name; actions = r.actions.items; fabric = r.fabric; role = r.role; scope = r.scope; window = r.window; approvals = r.approvals } };
+    ghost view = { λ r. record {
+      name = r.name;
+      actions = r.actions.items;
+      fabric = r.fabric;
+      role = r.role;
+      scope = r.scope;
+      window = r.window;
+      approvals = r.approvals;
+    } };
 }
 
 /// Who may change what, and when: callers, windows, and rules in their order.

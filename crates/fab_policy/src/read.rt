@@ -1,11 +1,11 @@
 //! Values at the keys of a table, whatever they mean.
-ghost use Rattle.std.specs.Prelude.{◌≡◌, IfOk, IfErr, OnOk, List, Option, not, option_map, option_copied, string_bytes, find, MatchOption, Some};
+ghost use Rattle.std.specs.Prelude.{◌≡◌, IfOk, OnOk, not, option_map, option_copied, string_bytes, find};
 ghost use Rattle.std.specs.Map.{keys_of};
-ghost use Rattle.toml.specs.Data.{Data, Items, get_member, as_array};
+ghost use Rattle.toml.specs.Data.{get_member};
 ghost use Rattle.toml.specs.View.{view, table_view, array_view};
 ghost use Rattle.fab_policy.specs.Shapes as shapes;
 ghost use Rattle.fab_policy.specs.Words.{key_word, is_word_of};
-ghost use Rattle.fab_policy.specs.declared.fault.PolicyFault.{PolicyFault};
+ghost use Rattle.fab_policy.specs.Shapes.{IfRefused};
 
 use crate::fault::{PolicyFault, unknown};
 use crate::key::{Key, is_word_of};
@@ -26,7 +26,7 @@ pub(crate) trait Read {
     /// Reads the value that stands at the key.
     fn read(alloc: Global, value: &Value, key: Key) -> Result<Self, PolicyFault>
         ensures ok { IfOk result (means (view value.now)) }
-        ensures fault { IfErr result (λ e. ¬ shapes.IsMemory e → wrong key (view value.now) e) };
+        ensures fault { IfRefused result (wrong key (view value.now)) };
 }
 
 /// The value at a key.
@@ -39,7 +39,7 @@ pub(crate) fn member(table: &Table, key: Key) -> Option<&Value>
 /// What the value at a key means.
 pub(crate) fn field<T: Read>(alloc: Global, table: &Table, key: Key) -> Result<T, PolicyFault>
     ensures ok { IfOk result (shapes.At key T.means (table_view table.now)) }
-    ensures fault { IfErr result (λ e. ¬ shapes.IsMemory e → shapes.FaultAt key T.wrong (table_view table.now) e) }
+    ensures fault { IfRefused result (shapes.FaultAt key T.wrong (table_view table.now)) }
 {
     match member(table, key) {
         Some(value) => T::read(alloc, value, key),
@@ -54,7 +54,7 @@ pub(crate) fn optional<T: Read>(
     key: Key,
 ) -> Result<Option<T>, PolicyFault>
     ensures ok { IfOk result (shapes.MaybeAt key T.means (table_view table.now)) }
-    ensures fault { IfErr result (λ e. ¬ shapes.IsMemory e → shapes.FaultIn key T.wrong (table_view table.now) e) }
+    ensures fault { IfRefused result (shapes.FaultIn key T.wrong (table_view table.now)) }
 {
     let Some(value) = member(table, key) else {
         return Ok(None);
@@ -72,7 +72,7 @@ pub(crate) fn each<T: Read + Drop>(
     key: Key,
 ) -> Result<Vec<T>, PolicyFault>
     ensures ok { IfOk result (λ v. shapes.EachMeans T.means (array_view items.now) v.items) }
-    ensures fault { IfErr result (λ e. ¬ shapes.IsMemory e → shapes.ItemFault T.wrong key (array_view items.now) e) }
+    ensures fault { IfRefused result (shapes.ItemFault T.wrong key (array_view items.now)) }
 {
     let mut read = Vec::new(alloc);
     for item in items {
@@ -96,7 +96,7 @@ pub(crate) fn list<T: Read + Drop>(
     limit: usize,
 ) -> Result<Vec<T>, PolicyFault>
     ensures ok { IfOk result (λ v. shapes.IsList T.means limit (view value.now) v.items) }
-    ensures fault { IfErr result (λ e. ¬ shapes.IsMemory e → shapes.ListFault T.wrong limit key (view value.now) e) }
+    ensures fault { IfRefused result (shapes.ListFault T.wrong limit key (view value.now)) }
 {
     let Some(items) = value.as_array() else {
         return Err(PolicyFault::WrongType(key));
@@ -118,7 +118,7 @@ pub(crate) fn list_at<T: Read + Drop>(
     limit: usize,
 ) -> Result<Vec<T>, PolicyFault>
     ensures ok { IfOk result (λ v. shapes.At key (shapes.IsList T.means limit) (table_view table.now) v.items) }
-    ensures fault { IfErr result (λ e. ¬ shapes.IsMemory e → shapes.FaultAt key (shapes.ListFault T.wrong limit) (table_view table.now) e) }
+    ensures fault { IfRefused result (shapes.FaultAt key (shapes.ListFault T.wrong limit) (table_view table.now)) }
 {
     match member(table, key) {
         Some(value) => list(alloc, value, key, limit),
@@ -134,7 +134,7 @@ pub(crate) fn optional_list<T: Read + Drop>(
     limit: usize,
 ) -> Result<Vec<T>, PolicyFault>
     ensures ok { IfOk result (λ v. shapes.ListAt key T.means limit (table_view table.now) v.items) }
-    ensures fault { IfErr result (λ e. ¬ shapes.IsMemory e → shapes.FaultIn key (shapes.ListFault T.wrong limit) (table_view table.now) e) }
+    ensures fault { IfRefused result (shapes.FaultIn key (shapes.ListFault T.wrong limit) (table_view table.now)) }
 {
     match member(table, key) {
         Some(value) => list(alloc, value, key, limit),
@@ -144,7 +144,8 @@ pub(crate) fn optional_list<T: Read + Drop>(
 
 /// A key of the table that is none of these.
 fn other_key<'a>(table: &'a Table, keys: &[Key]) -> Option<&'a String>
-    ensures { option_copied result ≡ find (λ k. not (is_word_of keys.now (string_bytes k))) (keys_of table.now.entries) }
+    ensures { option_copied result
+        ≡ find (λ k. not (is_word_of keys.now (string_bytes k))) (keys_of table.now.entries) }
 {
     table.keys().find(|k| !is_word_of(keys, k.as_str()))
 }
@@ -152,7 +153,7 @@ fn other_key<'a>(table: &'a Table, keys: &[Key]) -> Option<&'a String>
 /// Refuses a table with a key that is none of these.
 pub(crate) fn only(alloc: Global, table: &Table, keys: &[Key]) -> Result<(), PolicyFault>
     ensures ok { OnOk result (shapes.HasOnly keys.now (table_view table.now)) }
-    ensures fault { IfErr result (λ e. ¬ shapes.IsMemory e → shapes.HasOther keys.now (table_view table.now) e) }
+    ensures fault { IfRefused result (shapes.HasOther keys.now (table_view table.now)) }
 {
     match other_key(table, keys) {
         Some(key) => Err(unknown(alloc, key.as_str())),

@@ -1,8 +1,8 @@
 //! The whole text of a policy.
-ghost use Rattle.std.specs.Prelude.{◌≡◌, ◌≤◌, IfOk, IfErr, length};
+ghost use Rattle.std.specs.Prelude.{IfOk};
 ghost use Rattle.toml.specs.View.{table_view};
 ghost use Rattle.fab_policy.specs.Policies.{PolicyRows};
-ghost use Rattle.fab_policy.specs.Shapes.{IsMemory};
+ghost use Rattle.fab_policy.specs.Shapes.{IfRefused};
 ghost use Rattle.fab_policy.specs.Tables as tables;
 
 use crate::distinct::{distinct_names, distinct_tokens, unknown_window};
@@ -18,7 +18,7 @@ fn callers_of(alloc: Global, table: &Table) -> Result<Vec<Caller>, PolicyFault>
     ensures ok { IfOk result (λ v. tables.CallersIn (table_view table.now) v.items) }
     ensures names { IfOk result (λ v. tables.AreDistinct (tables.caller_names v.items)) }
     ensures tokens { IfOk result (λ v. tables.AreDistinct (tables.caller_tokens v.items)) }
-    ensures fault { IfErr result (λ e. ¬ IsMemory e → tables.PolicyTableFault (table_view table.now) e) }
+    ensures fault { IfRefused result (tables.PolicyTableFault (table_view table.now)) }
 {
     let callers: Vec<Caller> = optional_list(alloc, table, Key::Callers, 256)?;
     if let Err(e) = distinct_names(callers.as_slice()) {
@@ -34,7 +34,7 @@ fn callers_of(alloc: Global, table: &Table) -> Result<Vec<Caller>, PolicyFault>
 fn windows_of(alloc: Global, table: &Table) -> Result<Vec<Window>, PolicyFault>
     ensures ok { IfOk result (λ v. tables.WindowsIn (table_view table.now) v.items) }
     ensures names { IfOk result (λ v. tables.AreDistinct (tables.window_names v.items)) }
-    ensures fault { IfErr result (λ e. ¬ IsMemory e → tables.PolicyTableFault (table_view table.now) e) }
+    ensures fault { IfRefused result (tables.PolicyTableFault (table_view table.now)) }
 {
     let windows: Vec<Window> = optional_list(alloc, table, Key::Windows, 64)?;
     if let Err(e) = distinct_names(windows.as_slice()) {
@@ -47,7 +47,7 @@ fn windows_of(alloc: Global, table: &Table) -> Result<Vec<Window>, PolicyFault>
 fn rules_of(alloc: Global, table: &Table) -> Result<Vec<Rule>, PolicyFault>
     ensures ok { IfOk result (λ v. tables.RulesIn (table_view table.now) v.items) }
     ensures names { IfOk result (λ v. tables.AreDistinct (tables.rule_names v.items)) }
-    ensures fault { IfErr result (λ e. ¬ IsMemory e → tables.PolicyTableFault (table_view table.now) e) }
+    ensures fault { IfRefused result (tables.PolicyTableFault (table_view table.now)) }
 {
     let rules: Vec<Rule> = optional_list(alloc, table, Key::Rules, 64)?;
     if let Err(e) = distinct_names(rules.as_slice()) {
@@ -59,7 +59,7 @@ fn rules_of(alloc: Global, table: &Table) -> Result<Vec<Rule>, PolicyFault>
 /// The policy of a table.
 fn policy_of(alloc: Global, table: &Table) -> Result<Policy, PolicyFault>
     ensures ok { IfOk result (tables.IsPolicyTable (table_view table.now)) }
-    ensures fault { IfErr result (λ e. ¬ IsMemory e → tables.PolicyTableFault (table_view table.now) e) }
+    ensures fault { IfRefused result (tables.PolicyTableFault (table_view table.now)) }
 {
     only(alloc, table, &[Key::Callers, Key::Windows, Key::Rules])?;
     let callers = callers_of(alloc, table)?;
@@ -85,8 +85,8 @@ impl Policy {
     /// where there was no memory, which says nothing of the text.
     pub fn read(alloc: Global, text: &str) -> Result<Policy, PolicyFault>
         ensures ok { IfOk result (tables.SpellsPolicy text.now) }
-        ensures err { IfErr result (λ e. ¬ IsMemory e → (p : PolicyRows) → ¬ tables.SpellsPolicy text.now p) }
-        ensures fault { IfErr result (λ e. ¬ IsMemory e → tables.HasPolicyFault text.now e) }
+        ensures err { IfRefused result (λ _. (p : PolicyRows) → ¬ tables.SpellsPolicy text.now p) }
+        ensures fault { IfRefused result (tables.HasPolicyFault text.now) }
     {
         match toml::table_from_str(alloc, text) {
             Ok(table) => match policy_of(alloc, &table) {

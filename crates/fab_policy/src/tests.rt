@@ -7,6 +7,7 @@ use fab_names::{Fabric, Name};
 use std::alloc::Global;
 use std::test::Fail;
 
+mod example;
 mod faults;
 mod limits;
 

@@ -1,7 +1,8 @@
 //! The verdict of a policy on an act.
-ghost use Rattle.std.specs.Prelude.{◌≡◌, ◌≤◌, ◌↔◌, IsTrue, true, Bool, MatchOption, Contains, codes, option_copied, count_by, slice_get, length, map, take, ◌&&◌, if◌then◌else◌};
-ghost use Rattle.std.specs.List.{list_any, list_all, zip};
+ghost use Rattle.std.specs.Prelude.{◌≡◌, ◌≤◌, ◌↔◌, IsTrue, MatchOption, Contains, codes, option_copied, count_by, length, map, take, ◌&&◌, if◌then◌else◌};
+ghost use Rattle.std.specs.List.{list_all, zip};
 ghost use Rattle.fab_policy.specs.Callers as callers;
+ghost use Rattle.fab_policy.specs.Found.{AreFound};
 ghost use Rattle.fab_policy.specs.Verdicts as verdicts;
 
 use crate::act::{Act, Approval, Need, Verdict};
@@ -147,7 +148,8 @@ struct Findings<'a> {
 
 /// How many callers are counted by a quorum, of those of whom `approved` tells that they approved.
 fn count_approvers(act: &Act, quorum: &Quorum, callers: &[Caller], approved: &[bool]) -> usize
-    ensures { result ≡ count_by (λ p. p.1 && verdicts.is_approver act.now quorum.now p.0) (zip callers.now approved.now) }
+    ensures { result ≡ count_by (λ p. p.1 && verdicts.is_approver act.now quorum.now p.0)
+        (zip callers.now approved.now) }
 {
     callers
         .iter()
@@ -173,7 +175,7 @@ fn meets_approvals(
     findings: &Findings,
     approvals: &Option<Quorum>,
 ) -> bool
-    requires { verdicts.AreFound policy.now act.now findings.now }
+    requires { AreFound policy.now act.now findings.now }
     ensures { result ≡ verdicts.meets_approvals policy.now.callers act.now approvals.now }
 {
     let Some(quorum) = approvals else {
@@ -185,8 +187,10 @@ fn meets_approvals(
 
 /// The first need of the rule that is not met.
 fn first_failing(policy: &Policy, act: &Act, findings: &Findings, rule: &Rule) -> Option<Need>
-    requires { verdicts.AreFound policy.now act.now findings.now }
-    ensures { MatchOption result (verdicts.Holds policy.now act.now rule.now) (verdicts.FailsFirst policy.now act.now rule.now) }
+    requires { AreFound policy.now act.now findings.now }
+    ensures { MatchOption result
+        (verdicts.Holds policy.now act.now rule.now)
+        (verdicts.FailsFirst policy.now act.now rule.now) }
 {
     if !meets_role(policy.row(act.caller), &rule.role) {
         return Some(Need::Role);
@@ -215,7 +219,7 @@ fn no_rule() -> Name
 
 /// The verdict of the policy on the act, rule by rule.
 fn judge(policy: &Policy, act: &Act, findings: &Findings) -> Verdict
-    requires { verdicts.AreFound policy.now act.now findings.now }
+    requires { AreFound policy.now act.now findings.now }
     ensures { verdicts.IsVerdict policy.now act.now result }
 {
     let mut applied = false;
