@@ -1,5 +1,5 @@
 -- One more record.
-use Rattle.std.proofs.Common.{ℕ, ◌≡◌, ◌≢◌, ◌<◌, ◌≤◌, ◌+◌, List, [], ◌∷◌, ◌++◌, length, take, Contains, Option, None, Some, Bool, true, false, cond, MatchOption, sym, ◌∙◌, ap, subst, refl, inl, inr, ◌⊎◌, arith, eqb, not, ◌&&◌, get_or, drop, take-append-drop}
+use Rattle.std.proofs.Common.{ℕ, ◌≡◌, ◌≢◌, ◌<◌, ◌+◌, List, [], ◌∷◌, ◌++◌, length, take, Contains, Option, None, Some, Bool, true, false, cond, MatchOption, sym, ◌∙◌, ap, subst, refl, inl, inr, arith, eqb, not, ◌&&◌, get_or, drop, take-append-drop}
 use Rattle.std.proofs.lemmas.List.{take_more}
 use mathlib.Core.Bool.{true≢false}
 use Rattle.std.proofs.lemmas.Bool.Decides.{nat_tests}
@@ -14,7 +14,7 @@ use Rattle.fab_inventory.specs.declared.port.Known.{Known}
 use Rattle.fab_names.specs.declared.fabric.Fabric.{Fabric}
 use Rattle.fab_inventory.specs.Imports.{Agrees, IsUnlisted, ListsIn, logged_in}
 
-pub one_more : (xs : List PortRow) (i : ℕ) (r : PortRow) → i < length xs → r ≡ get_or xs i r → take i xs ++ r ∷ [] ≡ take (i + 1) xs
+pub one_more : {X : Type 0} (xs : List X) (i : ℕ) (r : X) → i < length xs → r ≡ get_or xs i r → take i xs ++ r ∷ [] ≡ take (i + 1) xs
 one_more xs i r h is = ap (λ x. take i xs ++ x ∷ []) is ∙ sym (take_more xs i r h)
 
 pub in_take : (xs : List PortRow) (i : ℕ) (r : PortRow) → Contains (take i xs) r → Contains xs r

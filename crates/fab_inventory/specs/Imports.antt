@@ -1,5 +1,5 @@
 -- What an import does to the ports.
-use Rattle.std.specs.Prelude.{ℕ, ◌≡◌, ◌≢◌, ◌<◌, ◌≤◌, List, Contains, length, take, slice_get, Option, None, Some, Bool, true, false, if◌then◌else◌}
+use Rattle.std.specs.Prelude.{ℕ, ◌≡◌, ◌≢◌, ◌<◌, List, Contains, length, take, slice_get, Option, None, Some, Bool, true, false, if◌then◌else◌}
 use Rattle.std.specs.Option.{option_map, option_and_then}
 use Rattle.std.specs.Ordering.{nat_cmp}
 use Rattle.std.specs.FinMap as map
@@ -32,8 +32,8 @@ pub record IsClash (rows : List PortRow) (w : ℕ) : Type 0 where
 -- what a refusal of the records alone says
 abbrev pub CheckFails : List PortRow → InventoryFault → Type 0
 CheckFails rows (PortClash w) = IsClash rows w
-CheckFails rows (Limit which) = ⊥
 CheckFails rows Memory = Unit {0}
+CheckFails rows _ = ⊥
 
 -- whether two fabrics are one
 abbrev pub same_fabric : Fabric → Fabric → Bool
@@ -75,3 +75,4 @@ abbrev pub ImportFails : Fabric → List PortRow → map.FinMap nat_cmp Known �
 ImportFails f rows old (PortClash w) = IsClash rows w
 ImportFails f rows old (Limit Ports) = (m : map.FinMap nat_cmp Known) × IsImported f rows old m × (4096 < map.len m)
 ImportFails f rows old Memory = Unit {0}
+ImportFails f rows old _ = ⊥

@@ -1,3 +1,5 @@
-pub mod Codes
 pub mod Ports
 pub mod Imports
+pub mod Holders
+pub mod Inventories
+pub mod Codes

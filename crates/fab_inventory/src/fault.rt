@@ -2,7 +2,7 @@
 ghost use Rattle.std.specs.Prelude.{◌≡◌};
 ghost use Rattle.fab_inventory.specs.declared.fault.InventoryFault.TheVariants.{Memory};
 
-use fab_names::Wwn;
+use fab_names::{Name, Wwn};
 use std::alloc::{AllocError, AllocFailed};
 
 /// Why a change is refused. The inventory is then as it was.
@@ -10,7 +10,17 @@ use std::alloc::{AllocError, AllocFailed};
 pub enum InventoryFault {
     /// Two records of this port name differ.
     PortClash(Wwn),
-    /// There would be too many of something.
+    /// This port is not known.
+    UnknownPort(Wwn),
+    /// This port is held by this other holder.
+    PortHeld(Wwn, Name),
+    /// There is no such holder, array or volume.
+    Unknown(Name),
+    /// The holder of this name is of the other kind.
+    WrongKind(Name),
+    /// This array has this volume.
+    InUse(Name, Name),
+    /// There would be too many of something, or a number is out of its range.
     Limit(InventoryLimit),
     /// There was no memory.
     Memory,
@@ -21,6 +31,14 @@ pub enum InventoryFault {
 pub enum InventoryLimit {
     /// More than 4096 known ports.
     Ports,
+    /// More than 2048 holders.
+    Holders,
+    /// More than 64 ports listed for a holder, equal ones counted.
+    PortsOfHolder,
+    /// More than 4096 volumes.
+    Volumes,
+    /// A volume of no byte, or of more than 9223372036854775807.
+    Bytes,
 }
 
 impl From<AllocError> for InventoryFault {

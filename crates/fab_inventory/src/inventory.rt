@@ -1,54 +1,73 @@
 //! The inventory.
-ghost use Rattle.std.specs.Prelude.{◌≡◌, ◌≤◌, OnOk, OnErr, IfOk, IfErr};
+ghost use Rattle.std.specs.Prelude.{◌≡◌, ◌≤◌, OnOk, OnErr, IfOk, IfErr, true};
 ghost use Rattle.std.specs.FinMap as map;
 ghost use Rattle.fab_inventory.specs.Imports.{IsImported, ImportFails};
 ghost use Rattle.fab_inventory.specs.Ports.{port_at};
+ghost use Rattle.fab_inventory.specs.Holders.{HasNoVolume};
+ghost use Rattle.fab_inventory.specs.Inventories.{no_rows, IsSound, CanPutHolder, IsHolderPut, PutHolderFails, IsHolderDropped, DropHolderFails, CanPutVolume, PutVolumeFails, DropVolumeFails};
 
+use crate::holding::{first_on, hand_over_all, is_array, is_other_kind, kind_of, port_fault};
 use crate::import::{all_logged_out, check_rows, log_in};
-use crate::{InventoryFault, InventoryLimit, Known, Port, PortRow};
-use fab_names::{Fabric, Wwn};
+use crate::{Holder, HolderKind, InventoryFault, InventoryLimit, Known, Port, PortRow, Volume};
+use fab_names::{Fabric, Name, Wwn};
 use std::alloc::{AllocError, Allocator};
 use std::collections::BTreeMap;
+use std::collections::btree_map::Iter;
 use std::marker::Model;
 
 /// How many ports may be known.
 const MOST_PORTS: usize = 4096;
 
-/// The ports of both fabrics that are known. A port once known stays known.
+/// How many holders there may be.
+const MOST_HOLDERS: usize = 2048;
+
+/// How many ports may be listed for a holder.
+const MOST_PORTS_OF_HOLDER: usize = 64;
+
+/// How many volumes there may be.
+const MOST_VOLUMES: usize = 4096;
+
+/// How many bytes a volume may have.
+const MOST_BYTES: u64 = 9223372036854775807;
+
+/// The ports of both fabrics that are known, the hosts and arrays that hold them, and the volumes
+/// on the arrays. A port once known stays known.
 ///
-/// A contract sees what is known of each port, under its N_Port_Name.
+/// A contract sees the whole as one `InventoryRows`, a record of finite maps: what is known of
+/// each port under its N_Port_Name, and the holders and the volumes by name. Each holder that is
+/// named is there, each volume's array is there and is an array, and no limit is passed.
 #[derive(Drop)]
 pub struct Inventory<A: Allocator + Copy> {
     alloc: A,
     ports: BTreeMap<Wwn, Known, A>,
+    holders: BTreeMap<Name, Holder, A>,
+    volumes: BTreeMap<Name, Volume, A>,
 }
 
 impl<A: Allocator + Copy> Model for Inventory<A> {
-    ghost use Rattle.std.specs.Prelude.{ℕ, length, ◌≤◌};
-    ghost use Rattle.std.specs.Ordering.{nat_cmp};
-    ghost use Rattle.std.specs.Coded.{coded_ℕ};
     ghost use Rattle.std.specs.FinMap as map;
-    ghost use Rattle.std.specs.BTreeMap.{IsOrdered};
-    ghost use Rattle.fab_inventory.specs.declared.port.Known.{Known};
-    ghost use Rattle.fab_inventory.specs.Codes.{known_code};
+    ghost use Rattle.fab_inventory.specs.Inventories.{InventoryRows, IsSound};
+    ghost use Rattle.fab_inventory.specs.Codes.{rows_code};
 
-    ghost Value = { map.FinMap nat_cmp Known };
+    ghost Value = { InventoryRows };
 
-    ghost coded = { map.code coded_ℕ known_code };
+    ghost coded = { rows_code };
 
-    ghost view = { λ a. map.from_entries a.ports.entries };
+    ghost view = { λ a. record { ports = map.from_entries a.ports.entries; holders = map.from_entries a.holders.entries; volumes = map.from_entries a.volumes.entries } };
 
-    ghost invariant = { λ a. (length a.ports.entries ≤ 4096) × IsOrdered nat_cmp a.ports };
+    ghost invariant = { λ a. IsSound (record { ports = map.from_entries a.ports.entries; holders = map.from_entries a.holders.entries; volumes = map.from_entries a.volumes.entries }) };
 }
 
 impl<A: Allocator + Copy> Inventory<A> {
-    /// An inventory that knows no port.
+    /// An inventory that knows nothing.
     pub fn new(alloc: A) -> Self
-        ensures { result ≡ map.empty }
+        ensures { result ≡ no_rows }
     {
         Inventory {
             alloc,
             ports: BTreeMap::new(alloc),
+            holders: BTreeMap::new(alloc),
+            volumes: BTreeMap::new(alloc),
         }
     }
 
@@ -62,12 +81,15 @@ impl<A: Allocator + Copy> Inventory<A> {
         Ok(Inventory {
             alloc: self.alloc,
             ports: self.ports.clone()?,
+            holders: self.holders.clone()?,
+            volumes: self.volumes.clone()?,
         })
     }
 
     /// The port of a name, where it is known. It takes no memory.
     pub fn port(&self, name: &Wwn) -> Option<Port>
-        ensures { result ≡ port_at self.now name.now }
+        ensures port { result ≡ port_at self.now.ports name.now }
+        ensures sound { IsSound self.now }
     {
         let Some(known) = self.ports.get(name) else {
             return None;
@@ -78,6 +100,43 @@ impl<A: Allocator + Copy> Inventory<A> {
             at: known.at,
             holder: known.holder,
         })
+    }
+
+    /// The holder of a name, where there is one. It takes no memory.
+    pub fn holder(&self, name: &Name) -> Option<Holder>
+        ensures holder { result ≡ map.get self.now.holders name.now }
+        ensures sound { IsSound self.now }
+    {
+        self.holders.get(name).copied()
+    }
+
+    /// The volume of a name, where there is one. It takes no memory.
+    pub fn volume(&self, name: &Name) -> Option<Volume>
+        ensures volume { result ≡ map.get self.now.volumes name.now }
+        ensures sound { IsSound self.now }
+    {
+        self.volumes.get(name).copied()
+    }
+
+    /// What is known of each port, in the order of the port names.
+    pub fn ports(&self) -> Iter<'_, Wwn, Known>
+        ensures { result ≡ map.entries self.now.ports }
+    {
+        self.ports.iter()
+    }
+
+    /// The holders, in the order of their names.
+    pub fn holders(&self) -> Iter<'_, Name, Holder>
+        ensures { result ≡ map.entries self.now.holders }
+    {
+        self.holders.iter()
+    }
+
+    /// The volumes, in the order of their names.
+    pub fn volumes(&self) -> Iter<'_, Name, Volume>
+        ensures { result ≡ map.entries self.now.volumes }
+    {
+        self.volumes.iter()
     }
 
     /// Takes the whole list of one fabric's ports.
@@ -91,10 +150,11 @@ impl<A: Allocator + Copy> Inventory<A> {
     /// `Limit(Ports)` where more than 4096 ports would be known, or `Memory`. Nothing is then
     /// changed.
     pub fn import(&mut self, fabric: Fabric, rows: &[PortRow]) -> Result<(), InventoryFault>
-        ensures ok { OnOk result (IsImported fabric rows.now self.old self.new) }
-        ensures err { IfErr result (ImportFails fabric rows.now self.old) }
+        ensures ok { OnOk result (IsImported fabric rows.now self.old.ports self.new.ports) }
+        ensures rest { OnOk result (self.new ≡ record self.old { ports = self.new.ports }) }
+        ensures err { IfErr result (ImportFails fabric rows.now self.old.ports) }
         ensures unchanged { OnErr result (self.new ≡ self.old) }
-        ensures few { map.len self.new ≤ 4096 }
+        ensures sound { IsSound self.new }
     {
         check_rows(self.alloc, rows)?;
         let mut next = all_logged_out(&self.ports, fabric)?;
@@ -103,6 +163,126 @@ impl<A: Allocator + Copy> Inventory<A> {
             return Err(InventoryFault::Limit(InventoryLimit::Ports));
         }
         self.ports = next;
+        Ok(())
+    }
+
+    /// Makes or replaces a host or an array, which holds just the listed ports from now on. Ports
+    /// that it held and that are not listed are then held by nobody. Ports listed twice count once.
+    ///
+    /// # Errors
+    /// In this order: `Limit(PortsOfHolder)` where more than 64 ports are listed, equal ones
+    /// counted; `WrongKind` where the name is of the other kind; `UnknownPort` with the least
+    /// listed port that is not known; `PortHeld` with the least listed port that another holder
+    /// holds, and that holder; `Limit(Holders)` where there would be more than 2048 holders;
+    /// `Memory`. Nothing is then changed.
+    pub fn put_holder(
+        &mut self,
+        name: Name,
+        kind: HolderKind,
+        tenant: Name,
+        ports: &[Wwn],
+    ) -> Result<(), InventoryFault>
+        ensures can { OnOk result (CanPutHolder self.old name kind ports.now) }
+        ensures ok { OnOk result (IsHolderPut name (record { kind = kind; tenant = tenant }) ports.now self.old self.new) }
+        ensures err { IfErr result (PutHolderFails self.old name kind ports.now) }
+        ensures unchanged { OnErr result (self.new ≡ self.old) }
+        ensures sound { IsSound self.new }
+    {
+        let known = kind_of(&self.holders, &name);
+        if ports.len() > MOST_PORTS_OF_HOLDER {
+            return Err(InventoryFault::Limit(InventoryLimit::PortsOfHolder));
+        }
+        if is_other_kind(known, kind) {
+            return Err(InventoryFault::WrongKind(name));
+        }
+        if let Some(fault) = port_fault(&self.ports, &name, ports) {
+            return Err(fault);
+        }
+        if self.holders.len() >= MOST_HOLDERS && !self.holders.contains_key(&name) {
+            return Err(InventoryFault::Limit(InventoryLimit::Holders));
+        }
+        self.holders.insert(name, Holder { kind, tenant })?;
+        hand_over_all(&mut self.ports, name, ports);
+        Ok(())
+    }
+
+    /// Drops a host, or an array with no volume on it. Its ports are then held by nobody. It takes
+    /// no memory.
+    ///
+    /// # Errors
+    /// `Unknown` where there is no such holder, or `InUse` with the least volume by name that is on
+    /// it. Nothing is then changed.
+    pub fn drop_holder(&mut self, name: &Name) -> Result<(), InventoryFault>
+        ensures known { OnOk result (map.contains_key self.old.holders name.now ≡ true) }
+        ensures unused { OnOk result (HasNoVolume (map.get self.old.volumes) name.now) }
+        ensures ok { OnOk result (IsHolderDropped name.now self.old self.new) }
+        ensures err { IfErr result (DropHolderFails self.old name.now) }
+        ensures unchanged { OnErr result (self.new ≡ self.old) }
+        ensures sound { IsSound self.new }
+    {
+        if !self.holders.contains_key(name) {
+            return Err(InventoryFault::Unknown(*name));
+        }
+        if let Some(volume) = first_on(&self.volumes, name) {
+            return Err(InventoryFault::InUse(*name, *volume));
+        }
+        self.holders.remove(name);
+        hand_over_all(&mut self.ports, *name, &[]);
+        Ok(())
+    }
+
+    /// Makes or replaces a volume.
+    ///
+    /// # Errors
+    /// In this order: `Limit(Bytes)` where it has no byte or more than 9223372036854775807;
+    /// `Unknown` with the array's name, where there is no such array; `Limit(Volumes)` where there
+    /// would be more than 4096 volumes; `Memory`. Nothing is then changed.
+    pub fn put_volume(
+        &mut self,
+        name: Name,
+        array: Name,
+        tenant: Name,
+        bytes: u64,
+    ) -> Result<(), InventoryFault>
+        ensures can { OnOk result (CanPutVolume self.old name array bytes) }
+        ensures ok { OnOk result (self.new ≡ record self.old { volumes = map.insert self.old.volumes name (record { array = array; tenant = tenant; bytes = bytes }) }) }
+        ensures err { IfErr result (PutVolumeFails self.old name array bytes) }
+        ensures unchanged { OnErr result (self.new ≡ self.old) }
+        ensures sound { IsSound self.new }
+    {
+        let known = kind_of(&self.holders, &array);
+        if bytes == 0 || bytes > MOST_BYTES {
+            return Err(InventoryFault::Limit(InventoryLimit::Bytes));
+        }
+        if !is_array(known) {
+            return Err(InventoryFault::Unknown(array));
+        }
+        if self.volumes.len() >= MOST_VOLUMES && !self.volumes.contains_key(&name) {
+            return Err(InventoryFault::Limit(InventoryLimit::Volumes));
+        }
+        let volume = Volume {
+            array,
+            tenant,
+            bytes,
+        };
+        self.volumes.insert(name, volume)?;
+        Ok(())
+    }
+
+    /// Drops a volume. It takes no memory.
+    ///
+    /// # Errors
+    /// `Unknown` where there is no such volume. Nothing is then changed.
+    pub fn drop_volume(&mut self, name: &Name) -> Result<(), InventoryFault>
+        ensures known { OnOk result (map.contains_key self.old.volumes name.now ≡ true) }
+        ensures ok { OnOk result (self.new ≡ record self.old { volumes = map.remove self.old.volumes name.now }) }
+        ensures err { IfErr result (DropVolumeFails self.old name.now) }
+        ensures unchanged { OnErr result (self.new ≡ self.old) }
+        ensures sound { IsSound self.new }
+    {
+        if self.volumes.remove(name).is_none() {
+            return Err(InventoryFault::Unknown(*name));
+        }
         Ok(())
     }
 }

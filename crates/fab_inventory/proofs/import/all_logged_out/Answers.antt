@@ -1,7 +1,6 @@
-use Rattle.std.proofs.Common.{◌≡◌, ℕ, sym, ap, ◌∙◌, subst, rules, refl, List, map}
+use Rattle.std.proofs.Common.{◌≡◌, ℕ, ap, ◌∙◌, rules, map}
 use Rattle.std.specs.Ordering.{nat_cmp}
-use Rattle.std.specs.Option.{option_map}
-use Rattle.std.specs.BTreeMap.{get, is_at}
+use Rattle.std.specs.BTreeMap.{is_at}
 use Rattle.std.specs.Map.{lookup}
 use Rattle.std.proofs.lemmas.Map.Made.{map_same_pairs, lookup-map_values}
 use Rattle.std.proofs.lemmas.Map.Entries.{entries_from_clone}

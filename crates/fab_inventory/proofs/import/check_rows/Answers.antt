@@ -1,7 +1,7 @@
-use Rattle.std.proofs.Common.{◌≡◌, ◌<◌, ◌+◌, sym, ap, ◌∙◌, subst, take, get_or, length, List, ◌∷◌, [], ◌++◌, arith, refl, Some, None, Option, ℕ, Contains}
+use Rattle.std.proofs.Common.{◌≡◌, ◌+◌, sym, ap, ◌∙◌, subst, take, length, List, ◌∷◌, [], ◌++◌, arith, refl, Some, None, Contains}
 use Rattle.std.specs.Ordering.{nat_cmp}
 use Rattle.std.specs.BTreeMap.{get}
-use Rattle.std.proofs.lemmas.List.{take_more, take_all}
+use Rattle.std.proofs.lemmas.List.{take_all}
 use Rattle.std.proofs.lemmas.Option.{slice_get_read}
 use Rattle.fab_inventory.specs.declared.port.PortRow.{PortRow}
 use Rattle.fab_inventory.specs.Imports.{Agrees}

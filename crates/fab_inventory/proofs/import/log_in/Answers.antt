@@ -1,13 +1,10 @@
-use Rattle.std.proofs.Common.{◌≡◌, ◌<◌, ◌+◌, sym, ap, ◌∙◌, subst, take, drop, get_or, length, List, ◌∷◌, [], ◌++◌, arith, ℕ, Contains, Option, Some, None, cond, take-append-drop}
+use Rattle.std.proofs.Common.{◌≡◌, ◌+◌, ap, ◌∙◌, subst, take, List, ◌∷◌, [], ◌++◌, arith, Some, cond}
 use Rattle.std.specs.Ordering.{nat_cmp}
 use Rattle.std.specs.Option.{option_and_then}
 use Rattle.std.specs.BTreeMap.{get, is_at}
-use Rattle.std.proofs.lemmas.List.{take_more}
-use Rattle.std.proofs.lemmas.List.Elements.{Contains-append_left, Contains-get_or}
-use Rattle.fab_names.specs.declared.fabric.Fabric.{Fabric}
 use Rattle.fab_inventory.specs.declared.port.PortRow.{PortRow}
 use Rattle.fab_inventory.specs.declared.port.Known.{Known}
-use Rattle.fab_inventory.specs.Imports.{ListsIn, logged_in}
+use Rattle.fab_inventory.specs.Imports.{ListsIn}
 use Rattle.fab_inventory.proofs.Steps.{lists_push, one_more, in_take, at_index}
 use Rattle.fab_inventory.proofs.import.log_in.Goals as goal
 use Rattle.fab_inventory.proofs.import.log_in.Goals.{in-Some, in-None}
