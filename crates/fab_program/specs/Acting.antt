@@ -22,35 +22,42 @@ most_changes = 1000000000
 
 -- an import would know more than 4096 ports
 abbrev pub KnowsTooMany : World → Fabric → List PortRow → Type 0
-KnowsTooMany w fabric rows = (ports : KnownPorts) × IsImported fabric rows w.ports ports × (4096 < map.len ports)
+KnowsTooMany w fabric rows = (ports : KnownPorts) × IsImported fabric rows w.inventory.ports ports × (4096 < map.len ports)
 
 -- an import could be taken but for the number of changes
 abbrev pub CouldBeTaken : World → Fabric → List PortRow → Type 0
-CouldBeTaken w fabric rows = (ports : KnownPorts) × IsImported fabric rows w.ports ports × (map.len ports ≤ 4096)
+CouldBeTaken w fabric rows = (ports : KnownPorts) × IsImported fabric rows w.inventory.ports ports × (map.len ports ≤ 4096)
 
 -- the list of a fabric is taken: a clash of two records, then too many ports, then too many changes refuse it and change nothing
 abbrev pub Imports : World → Fabric → List PortRow → Reply → World → Type 0
 Imports w fabric rows (reply.Revision r) next =
-    IsImported fabric rows w.ports next.ports × (w.revision < most_changes) × (r ≡ w.revision + 1) × (next ≡ record w { ports = next.ports; revision = r })
+    IsImported fabric rows w.inventory.ports next.inventory.ports × (w.revision < most_changes) × (r ≡ w.revision + 1) × (next ≡ record w { inventory = record w.inventory { ports = next.inventory.ports }; revision = r })
 Imports w fabric rows (reply.PortClash name) next = IsClash rows name × (next ≡ w)
 Imports w fabric rows (reply.Limit limit.Ports) next = KnowsTooMany w fabric rows × (next ≡ w)
 Imports w fabric rows (reply.Limit limit.Changes) next = CouldBeTaken w fabric rows × (most_changes ≤ w.revision) × (next ≡ w)
 Imports w fabric rows reply.Memory next = next ≡ w
 Imports w fabric rows other next = ⊥
 
+-- a fault for which the inventory may refuse an import
+abbrev pub RefusesImport : InventoryFault → Type 0
+RefusesImport (fault.PortClash name) = Unit {0}
+RefusesImport (fault.Limit Ports) = Unit {0}
+RefusesImport fault.Memory = Unit {0}
+RefusesImport _ = ⊥
+
 -- the reply to an import that the inventory refuses
 abbrev pub reply_to_fault : InventoryFault → Reply
 reply_to_fault (fault.PortClash name) = reply.PortClash name
 reply_to_fault (fault.Limit Ports) = reply.Limit limit.Ports
-reply_to_fault fault.Memory = reply.Memory
+reply_to_fault _ = reply.Memory
 
 -- the ports of both names are known
 abbrev pub AreKnown : World → ℕ → ℕ → Port → Port → Type 0
-AreKnown w p q one other = (port_at w.ports p ≡ Some one) × (port_at w.ports q ≡ Some other)
+AreKnown w p q one other = (port_at w.inventory.ports p ≡ Some one) × (port_at w.inventory.ports q ≡ Some other)
 
 -- whether two ports may communicate, and why
 abbrev pub AnswersJoined : World → ℕ → ℕ → Reply → Type 0
-AnswersJoined w p q reply.NotFound = (port_at w.ports p ≡ None) ⊎ (port_at w.ports q ≡ None)
+AnswersJoined w p q reply.NotFound = (port_at w.inventory.ports p ≡ None) ⊎ (port_at w.inventory.ports q ≡ None)
 AnswersJoined w p q reply.NotJoined = (one : Port) × (other : Port) × AreKnown w p q one other × ((fabric : Fabric) → ¬ (Joined (zoning_of w fabric) one other))
 AnswersJoined w p q (reply.JoinedByZone zone) =
     (one : Port) × (other : Port) × AreKnown w p q one other × (fabric : Fabric) × Joined (zoning_of w fabric) one other × IsFirstZone (zoning_of w fabric) one other zone

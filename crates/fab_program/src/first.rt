@@ -2,7 +2,7 @@
 ghost use Rattle.std.specs.Prelude.{◌≡◌, ◌≤◌, List};
 ghost use Rattle.fab_names.specs.declared.fabric.Fabric.TheVariants as fabrics;
 ghost use Rattle.fab_program.specs.World.{new_world, zoning_of, with_flag};
-ghost use Rattle.fab_program.specs.Acting.{Imports, AnswersJoined, Acts, reply_to_fault};
+ghost use Rattle.fab_program.specs.Acting.{Imports, AnswersJoined, Acts, RefusesImport, reply_to_fault};
 ghost use Rattle.fab_program_base.specs.Hearing.{order_of};
 
 use fab_inventory::{Inventory, InventoryFault, InventoryLimit, PortRow};
@@ -36,7 +36,7 @@ impl<A: Allocator + Copy> Model for First<A> {
 
     ghost coded = { world_code };
 
-    ghost view = { λ f. record { ports = f.inventory; a = f.a; b = f.b; revision = f.revision } };
+    ghost view = { λ f. record { inventory = f.inventory; a = f.a; b = f.b; revision = f.revision } };
 
     ghost invariant = { λ f. (f.a.fabric ≡ fabrics.A) × (f.b.fabric ≡ fabrics.B) × (f.revision ≤ 1000000000) };
 }
@@ -92,7 +92,7 @@ impl<A: Allocator + Copy> First<A> {
                 self.revision += 1;
                 Reply::Revision(self.revision)
             }
-            Err(fault) => refusal_of(fault),
+            Err(fault) => refusal_of(&fault),
         }
     }
 
@@ -106,7 +106,7 @@ impl<A: Allocator + Copy> First<A> {
         };
         match trial.import(fabric, rows) {
             Ok(()) => Reply::Limit(Limit::Changes),
-            Err(fault) => refusal_of(fault),
+            Err(fault) => refusal_of(&fault),
         }
     }
 
@@ -143,12 +143,14 @@ impl<A: Allocator + Copy> First<A> {
 }
 
 /// The reply to an import that the inventory refuses.
-fn refusal_of(fault: InventoryFault) -> Reply
-    ensures { result ≡ reply_to_fault fault }
+fn refusal_of(fault: &InventoryFault) -> Reply
+    requires { RefusesImport fault.now }
+    ensures { result ≡ reply_to_fault fault.now }
 {
     match fault {
-        InventoryFault::PortClash(name) => Reply::PortClash(name),
+        InventoryFault::PortClash(name) => Reply::PortClash(*name),
         InventoryFault::Limit(InventoryLimit::Ports) => Reply::Limit(Limit::Ports),
         InventoryFault::Memory => Reply::Memory,
+        _ => unreachable!(),
     }
 }

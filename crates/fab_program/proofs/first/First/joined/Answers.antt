@@ -10,9 +10,9 @@ pub returns-in-Some-Default : goal.returns-in-Some-Default
 returns-in-Some-Default g c =
     let one : Port = c.in-Some.one in
     let other : Port = c.in-Some-port.other in
-    let ports = ap (λ (w : World). w.ports) c.self.view_is in
-    let knows_one : port_at c.args.self.now.ports c.args.p.now ≡ Some one = sym (c.in-Some.ensures ∙ ap (λ p. port_at p c.args.p.now) ports) in
-    let knows_other : port_at c.args.self.now.ports c.args.q.now ≡ Some other = sym (c.in-Some-port.ensures ∙ ap (λ p. port_at p c.args.q.now) ports) in
+    let ports = ap (λ (w : World). w.inventory.ports) c.self.view_is in
+    let knows_one : port_at c.args.self.now.inventory.ports c.args.p.now ≡ Some one = sym (c.in-Some.ensures.port ∙ ap (λ p. port_at p c.args.p.now) ports) in
+    let knows_other : port_at c.args.self.now.inventory.ports c.args.q.now ≡ Some other = sym (c.in-Some-port.ensures.port ∙ ap (λ p. port_at p c.args.q.now) ports) in
     let P : FabricZoning → Type 0 = λ v. Joined v one other × InDefaultZone v one other in
     let why : InDefaultZone c.zoning.result.now one other = subst (Explains c.zoning.result.now one other) c.in-Some-Default.field-0-is c.in-Some-Default.ensures.why in
     let both = subst P c.zoning.ensures.zoning (c.in-Some-Default.ensures.joined.0 refl, why) in
