@@ -1,5 +1,5 @@
 -- One collection of a zoning changed, from what the code holds to what contracts see.
-use Rattle.std.proofs.Common.{ℕ, ◌≡◌, List, refl, ap, ◌∙◌}
+use Rattle.std.proofs.Common.{ℕ, ◌≡◌, List, ap, ◌∙◌}
 use Rattle.std.specs.declared.cmp.Ordering.{Ordering}
 use Rattle.std.specs.BTreeMap as tree
 use Rattle.std.specs.BTreeMap.{BTreeMap, is_at}
@@ -8,14 +8,14 @@ use Rattle.std.specs.BTreeSet.{BTreeSet}
 use Rattle.std.specs.Cmp.{IsTotalOrder}
 use Rattle.std.specs.List.{list_any}
 use Rattle.std.specs.Ordering.{eq_by_cmp}
-use Rattle.std.proofs.Common.{cond, Option, Some, None}
+use Rattle.std.proofs.Common.{cond, Some}
 use Rattle.std.specs.FinMap as map
 use Rattle.std.specs.FinSet as set
 use Rattle.fab_names.specs.Orders.{name_cmp, member_cmp}
 use Rattle.fab_names.proofs.OrderLaws.{name_total, name_exact}
-use Rattle.fab_zoning.specs.MapsOfSets.{seen_set, seen_sets}
+use Rattle.fab_zoning.specs.MapsOfSets.{seen_sets}
 use Rattle.fab_zoning.specs.Zonings.{FabricZoning, NamedSets}
-use Rattle.fab_zoning.proofs.MapsOfSets.{seen_insert, seen_remove, seen_list}
+use Rattle.fab_zoning.proofs.MapsOfSets.{seen_insert, seen_list}
 
 -- the set of a list put at a name
 pub put_listed : {K : Type 0} (R : K → K → Ordering) → IsTotalOrder R → set.IsAntisymmetric R → (t u : BTreeMap (List ℕ) (BTreeSet K)) (k : List ℕ) (s : BTreeSet K) (ks : List K)

@@ -1,6 +1,5 @@
 -- The rows of a zone set, from what the code holds to what contracts see.
-use Rattle.std.proofs.Common.{ℕ, ◌≡◌, ◌<◌, List, Bool, true, Option, Some, ◌⊎◌, inl, inr, refl, sym, ap, ◌∙◌, subst}
-use mathlib.Core.Bool.{true≢false}
+use Rattle.std.proofs.Common.{ℕ, ◌≡◌, List, true, Some, ◌⊎◌, inl, inr, refl, sym, ap, ◌∙◌, subst}
 use Rattle.std.specs.BTreeMap as tree
 use Rattle.std.specs.BTreeMap.{BTreeMap}
 use Rattle.std.specs.BTreeSet.{BTreeSet, contains}
@@ -13,11 +12,11 @@ use Rattle.fab_zoning.specs.declared.fault.ZoningFault.{ZoningFault}
 use Rattle.fab_zoning.specs.declared.fault.ZoningFault.TheVariants.{Unknown, InUse, Empty, Limit, Memory}
 use Rattle.fab_zoning.specs.declared.fault.ZoningLimit.TheVariants.{Aliases, Zones, Sets, Members, Active}
 use Rattle.fab_zoning.specs.MapsOfSets.{has, tree_has, in_tree, seen_sets}
-use Rattle.fab_zoning.specs.Rows.{Row, Rows, row_cmp, IsPlain}
+use Rattle.fab_zoning.specs.Rows.{Row, Rows}
 use Rattle.fab_zoning.specs.Zonings.{FabricZoning}
 use Rattle.fab_zoning.specs.Resolved.{IsResolvedBy, IsResolved, AreResolved}
 use Rattle.fab_zoning.specs.Steps.{IsActivateFault}
-use Rattle.fab_zoning.specs.Adding.{In, Adds, Among, PlainRow, AliasRow, ZoneRow, IsResolvedFault}
+use Rattle.fab_zoning.specs.Adding.{Adds, Among, PlainRow, AliasRow, ZoneRow, IsResolvedFault}
 use Rattle.fab_zoning.proofs.MapsOfSets.{has_seen}
 use Rattle.fab_zoning.proofs.Adding.{none_there}
 

@@ -1,5 +1,5 @@
 -- When a step on aliases, zones and zone sets is accepted, and what refuses it.
-use Rattle.std.specs.Prelude.{ℕ, ◌≡◌, ◌<◌, ◌≤◌, List, [], take, length, slice_get, Some, Bool, true, false, All}
+use Rattle.std.specs.Prelude.{ℕ, ◌≡◌, ◌<◌, ◌≤◌, List, take, length, slice_get, Some, Bool, true, false, All}
 use Rattle.std.specs.FinMap as map
 use Rattle.fab_names.specs.declared.member.Member.{Member}
 use Rattle.fab_names.specs.declared.member.Member.TheVariants as member

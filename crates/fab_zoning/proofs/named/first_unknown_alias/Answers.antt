@@ -1,7 +1,6 @@
-use Rattle.std.proofs.Common.{◌≡◌, ℕ, List, Bool, sym, ◌∙◌, subst, arith}
+use Rattle.std.proofs.Common.{ℕ, List, Bool, sym, ◌∙◌, subst, arith}
 use Rattle.std.specs.FinMap as map
 use Rattle.fab_names.specs.declared.member.Member.{Member}
-use Rattle.fab_names.specs.declared.member.Member.TheVariants as member
 use Rattle.fab_names.specs.Orders.{name_cmp, member_cmp}
 use Rattle.fab_names.proofs.OrderLaws.{name_total}
 use Rattle.fab_zoning.specs.MapsOfSets.{seen_sets}

@@ -1,9 +1,8 @@
-use Rattle.std.proofs.Common.{◌≡◌, ℕ, List, ◌∷◌, [], ◌++◌, sym, subst}
+use Rattle.std.proofs.Common.{◌∷◌, [], ◌++◌, sym, subst}
 use Rattle.std.proofs.lemmas.Result.{err_from_is_err_and}
 use Rattle.fab_names.specs.declared.member.Member.{Member}
-use Rattle.fab_names.specs.Orders.{member_cmp}
 use Rattle.fab_names.proofs.OrderLaws.{member_total, member_exact}
-use Rattle.fab_zoning.specs.Adding.{Adds, AddsOnly, PlainRow}
+use Rattle.fab_zoning.specs.Adding.{Adds, PlainRow}
 use Rattle.fab_zoning.proofs.Searches.{walked, walk_end}
 use Rattle.fab_zoning.proofs.Adding.{before_none, before_more, before_all, before_stop, adds_plain, only_plain, adds_no_plain}
 use Rattle.fab_zoning.proofs.resolve.add_plain.Goals as goal

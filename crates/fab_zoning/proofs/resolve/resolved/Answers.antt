@@ -1,9 +1,10 @@
-use Rattle.std.proofs.Common.{◌≡◌, ◌≤◌, ℕ, List, ◌∷◌, [], ◌++◌, sym, ap, ◌∙◌, subst, arith}
+use Rattle.std.proofs.Common.{◌∷◌, [], ◌++◌, sym, ap, ◌∙◌, subst, arith}
+use Rattle.std.specs.BTreeMap as tree
 use Rattle.std.specs.FinSet as set
 use Rattle.std.proofs.lemmas.Result.{err_from_is_err_and}
 use Rattle.fab_names.specs.Orders.{name_cmp}
 use Rattle.fab_names.proofs.OrderLaws.{name_total, name_exact}
-use Rattle.fab_zoning.specs.Rows.{Row, Rows, row_cmp}
+use Rattle.fab_zoning.specs.Rows.{Rows, row_cmp}
 use Rattle.fab_zoning.specs.Adding.{Adds, Among, ZoneRow}
 use Rattle.fab_zoning.proofs.Searches.{walked, walk_end}
 use Rattle.fab_zoning.proofs.Adding.{Before, before_none, before_more, before_all, before_stop, adds_zone, only_zone, only_zone_plain, adds_no_zone, stopped}
@@ -22,7 +23,7 @@ loop-zone-preserved-in-Continue-branch-2 g c = (
   c.loop-zone.invariant.0 ++ c.in-Some.zone.now ∷ [],
   walked c.args.zone_set.now.keys c.loop-zone.invariant.0 c.loop-zone.zone-iterator c.next.new.self c.in-Some.zone.now c.loop-zone.invariant.1 c.in-Some.ensures.steps,
   before_more (ZoneRow c.args.aliases.now c.args.zones.now) c.loop-zone.invariant.0 c.in-Some.zone.now set.empty c.loop-zone.rows c.add_aliased.new.rows c.loop-zone.invariant.2
-      (adds_zone c.args.aliases.now c.args.zones.now c.in-Some.zone.now c.in-Some-get.members.now (sym c.in-Some-get.ensures.value) c.loop-zone.rows c.add_plain.new.rows c.add_aliased.new.rows
+      (adds_zone c.args.aliases.now c.args.zones.now c.in-Some.zone.now c.in-Some-get.members.now (sym {b = tree.get name_cmp c.args.zones.now c.in-Some.zone.now} c.in-Some-get.ensures.value) c.loop-zone.rows c.add_plain.new.rows c.add_aliased.new.rows
       c.in_ok-add_plain.ensures.ok.0 c.in_ok-add_aliased.ensures.ok.0),
   c.in_ok-add_aliased.ensures.ok.1,
 )
@@ -44,7 +45,7 @@ returns-in_err-add_plain-clause-err g c =
     (stopped (Among name_cmp c.args.zone_set.now (ZoneRow c.args.aliases.now c.args.zones.now)) c.add_plain.new.rows c.in_err-add_plain.field-0.0
     (before_stop (ZoneRow c.args.aliases.now c.args.zones.now) name_total name_exact c.args.zone_set.now c.loop-zone.invariant.0 c.loop-zone.zone-iterator c.next.new.self c.in-Some.zone.now set.empty c.loop-zone.rows c.add_plain.new.rows
     c.loop-zone.invariant.1 c.in-Some.ensures.steps c.loop-zone.invariant.2
-    (only_zone_plain c.args.aliases.now c.args.zones.now c.in-Some.zone.now c.in-Some-get.members.now (sym c.in-Some-get.ensures.value) c.loop-zone.rows c.add_plain.new.rows stop.0)) stop.1)
+    (only_zone_plain c.args.aliases.now c.args.zones.now c.in-Some.zone.now c.in-Some-get.members.now (sym {b = tree.get name_cmp c.args.zones.now c.in-Some.zone.now} c.in-Some-get.ensures.value) c.loop-zone.rows c.add_plain.new.rows stop.0)) stop.1)
 
 pub returns-in_err-add_aliased-clause-err : goal.returns-in_err-add_aliased-clause-err
 returns-in_err-add_aliased-clause-err g c =
@@ -54,7 +55,7 @@ returns-in_err-add_aliased-clause-err g c =
     (stopped (Among name_cmp c.args.zone_set.now (ZoneRow c.args.aliases.now c.args.zones.now)) c.add_aliased.new.rows c.in_err-add_aliased.field-0.0
     (before_stop (ZoneRow c.args.aliases.now c.args.zones.now) name_total name_exact c.args.zone_set.now c.loop-zone.invariant.0 c.loop-zone.zone-iterator c.next.new.self c.in-Some.zone.now set.empty c.loop-zone.rows c.add_aliased.new.rows
     c.loop-zone.invariant.1 c.in-Some.ensures.steps c.loop-zone.invariant.2
-    (only_zone c.args.aliases.now c.args.zones.now c.in-Some.zone.now c.in-Some-get.members.now (sym c.in-Some-get.ensures.value) c.loop-zone.rows c.add_plain.new.rows c.add_aliased.new.rows
+    (only_zone c.args.aliases.now c.args.zones.now c.in-Some.zone.now c.in-Some-get.members.now (sym {b = tree.get name_cmp c.args.zones.now c.in-Some.zone.now} c.in-Some-get.ensures.value) c.loop-zone.rows c.add_plain.new.rows c.add_aliased.new.rows
     c.in_ok-add_plain.ensures.ok.0 stop.0)) stop.1)
 
 pub returns-clause-ok : goal.returns-clause-ok

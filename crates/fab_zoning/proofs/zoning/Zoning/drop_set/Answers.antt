@@ -1,6 +1,6 @@
-use Rattle.std.proofs.Common.{◌≡◌, refl, sym, ap, ◌∙◌}
+use Rattle.std.proofs.Common.{refl, sym, ap, ◌∙◌}
 use Rattle.std.specs.FinMap as map
-use Rattle.fab_names.specs.Orders.{name_cmp, member_cmp}
+use Rattle.fab_names.specs.Orders.{name_cmp}
 use Rattle.fab_names.proofs.OrderLaws.{name_total, name_exact}
 use Rattle.fab_zoning.specs.Zonings.{FabricZoning}
 use Rattle.fab_zoning.proofs.MapsOfSets.{knows_seen, seen_remove}

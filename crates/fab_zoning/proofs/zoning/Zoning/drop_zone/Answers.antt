@@ -1,6 +1,6 @@
-use Rattle.std.proofs.Common.{◌≡◌, refl, sym, ap, ◌∙◌, subst}
+use Rattle.std.proofs.Common.{refl, sym, ap, ◌∙◌, subst}
 use Rattle.std.specs.FinMap as map
-use Rattle.fab_names.specs.Orders.{name_cmp, member_cmp}
+use Rattle.fab_names.specs.Orders.{member_cmp}
 use Rattle.fab_names.proofs.OrderLaws.{name_total, name_exact}
 use Rattle.fab_zoning.specs.MapsOfSets.{HasNoUser, IsFirstUser}
 use Rattle.fab_zoning.specs.Zonings.{FabricZoning}
