@@ -1,8 +1,8 @@
 -- How a text is cut into lines and a line into words.
-use Rattle.std.proofs.Common.{ℕ, ◌≡◌, ◌≢◌, ◌<◌, ◌+◌, suc, zero, Bool, true, false, cond, eqb, List, [], ◌∷◌, ◌++◌, length, get_or, refl, sym, ap, ◌∙◌, arith}
-use Rattle.std.specs.List.{slice_split, onto_first}
+use Rattle.std.proofs.Common.{ℕ, ◌≡◌, ◌≢◌, suc, false, eqb, List, [], ◌∷◌, ◌++◌, refl, ap, arith}
+use Rattle.std.specs.List.{onto_first}
 use Rattle.std.proofs.lemmas.Bool.Decides.{nat_tests}
-use Rattle.fab_names.proofs.Splits.{Lacks, one_cut}
+use Rattle.fab_names.proofs.Splits.{Lacks}
 use Rattle.fab_plans.specs.Texts.{lines_of, words_of}
 
 pub lacks_tail : (c x : ℕ) (xs : List ℕ) → Lacks c (x ∷ xs) → Lacks c xs

@@ -1,16 +1,15 @@
 -- A text with a fault spells no steps.
-use Rattle.std.proofs.Common.{ℕ, ◌≡◌, ◌<◌, ◌+◌, List, [], ◌∷◌, ◌++◌, length, length-append, map, refl, sym, ap, ◌∙◌, subst, arith, inl, inr}
+use Rattle.std.proofs.Common.{ℕ, ◌≡◌, List, [], ◌∷◌, ◌++◌, length, length-append, map, refl, sym, ap, ◌∙◌, subst, arith, inl, inr}
 use Rattle.fab_plans.specs.Texts.{lines_of, words_of}
 use Rattle.fab_plans.specs.Values.{Value, kind_of, SpellsValues}
 use Rattle.fab_plans.specs.Steps.{PlanStep}
 use Rattle.fab_plans.specs.Forms.{keyword_text, form_of, keyword_of, values_of, Takes, kinds_in}
-use Rattle.fab_plans.specs.Plans.{SpellsStep, SpellsLines, Spells, plan_text}
-use Rattle.fab_plans.specs.Faults.{IsFirstFault, IsLineFault, HasTooManyLines, HasFaultyLine, IsPlanFault}
-use Rattle.fab_plans.specs.declared.keyword.Keyword.{Keyword}
+use Rattle.fab_plans.specs.Plans.{SpellsStep, SpellsLines, Spells}
+use Rattle.fab_plans.specs.Faults.{IsFirstFault, IsLineFault, HasTooManyLines, HasFaultyLine}
 use Rattle.fab_plans.specs.declared.fault.PlanFaultKind.{PlanFaultKind}
 use Rattle.fab_plans.specs.declared.fault.PlanFault.{PlanFault}
 use Rattle.fab_plans.proofs.PlanReadings.{as_many}
-use Rattle.fab_plans.proofs.Unique.{one_keyword, kinds_of_step, as_many_values, one_plan}
+use Rattle.fab_plans.proofs.Unique.{one_keyword, kinds_of_step, as_many_values}
 
 -- words that spell values have no fault
 no_first_fault : (words : List (List ℕ)) (vs : List Value) (fault : PlanFaultKind) → SpellsValues words vs → ¬ (IsFirstFault (map kind_of vs) words fault)

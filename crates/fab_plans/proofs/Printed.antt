@@ -1,5 +1,5 @@
 -- What is printed of steps is read as the same steps.
-use Rattle.std.proofs.Common.{ℕ, ◌≡◌, ◌≢◌, ◌<◌, ◌≤◌, ◌+◌, ◌*◌, ◌^◌, suc, zero, Bool, true, false, ◌&&◌, List, [], ◌∷◌, ◌++◌, length, get_or, map, codes, append_assoc, append-nil, refl, sym, ap, ◌∙◌, subst, arith, rules, lit<, nat_lt}
+use Rattle.std.proofs.Common.{ℕ, ◌≡◌, ◌<◌, ◌≤◌, ◌^◌, suc, zero, Bool, true, false, ◌&&◌, List, [], ◌∷◌, ◌++◌, length, get_or, map, codes, append_assoc, append-nil, refl, sym, ap, ◌∙◌, subst, arith, rules, lit<, nat_lt}
 use Rattle.std.specs.List.{flat_map, list_all, AllByRecursion}
 use Rattle.std.specs.Char.{is_ascii_digit, is_ascii_hexdigit, digit_value}
 use Rattle.std.specs.Fmt.{decimal}
@@ -8,10 +8,9 @@ use Rattle.std.proofs.lemmas.Bool.Decides.{nat_tests}
 use Rattle.std.proofs.lemmas.List.{length-map}
 use Rattle.fab_names.specs.Names.{is_name_char, IsNameText}
 use Rattle.fab_names.specs.Numbers.{SpellsNumber}
-use Rattle.fab_names.specs.Places.{Position, SpellsPlace, place_text}
-use Rattle.fab_names.specs.Fabrics.{fabric_text}
+use Rattle.fab_names.specs.Places.{place_text}
 use Rattle.fab_names.specs.Members.{SpellsMember, member_text}
-use Rattle.fab_names.specs.WorldWideNames.{paired, hex_digit, digits_of, wwn_text, bytes_of, number_of, SpellsDigits, SpellsWwn}
+use Rattle.fab_names.specs.WorldWideNames.{paired, hex_digit, digits_of, wwn_text, bytes_of, SpellsDigits}
 use Rattle.fab_names.specs.declared.fabric.Fabric.TheVariants.{A, B}
 use Rattle.fab_names.specs.declared.member.Member.{Member}
 use Rattle.fab_names.specs.declared.member.Member.TheVariants as member
@@ -21,7 +20,7 @@ use Rattle.fab_names.proofs.Printed.{printed_spells}
 use Rattle.fab_names.proofs.Splits.{Lacks}
 use Rattle.fab_zoning.specs.declared.flag.DefaultFlag.TheVariants.{Permit, Deny}
 use Rattle.fab_plans.specs.Texts.{lines_of, words_of}
-use Rattle.fab_plans.specs.Values.{Value, of_fabric, of_name, of_flag, of_member, of_port_member, flag_text, value_text, SpellsValue, SpellsValues}
+use Rattle.fab_plans.specs.Values.{Value, of_fabric, of_name, of_flag, of_member, of_port_member, value_text, SpellsValue, SpellsValues}
 use Rattle.fab_plans.specs.Steps.{PlanStep}
 use Rattle.fab_plans.specs.Forms.{keyword_text, form_of, Takes, keyword_of, values_of}
 use Rattle.fab_plans.specs.Plans.{SpellsStep, SpellsLines, Spells, spaced, step_text, plan_text}

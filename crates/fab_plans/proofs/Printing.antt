@@ -1,5 +1,5 @@
 -- What is printed of values.
-use Rattle.std.proofs.Common.{ℕ, ◌≡◌, List, [], ◌∷◌, ◌++◌, map, refl, ap}
+use Rattle.std.proofs.Common.{◌≡◌, List, [], ◌∷◌, ◌++◌, map, refl, ap}
 use Rattle.std.specs.List.{flat_map}
 use Rattle.fab_names.specs.declared.member.Member.{Member}
 use Rattle.fab_plans.specs.Values.{of_member, of_port_member}

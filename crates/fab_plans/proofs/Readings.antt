@@ -1,5 +1,5 @@
 -- What is read of a line.
-use Rattle.std.proofs.Common.{ℕ, ◌≡◌, ◌<◌, ◌+◌, ◌-◌, suc, List, [], ◌∷◌, ◌++◌, length, take, drop, eqb, count_by, Result, Ok, Err, MatchResult, refl, sym, ap, ◌∙◌, subst, arith, rules, Bool, true, false, IsTrue, ◌↔◌, inl, inr, Bor}
+use Rattle.std.proofs.Common.{ℕ, ◌≡◌, ◌-◌, List, [], ◌∷◌, length, take, drop, eqb, count_by, Result, Ok, Err, MatchResult, refl, sym, ap, ◌∙◌, subst, arith, rules, Bool, true, false, IsTrue, ◌↔◌, inl, inr, Bor}
 use Rattle.std.proofs.lemmas.List.{take_all, length-map}
 use Rattle.std.proofs.lemmas.List.Splits.{length-slice_split}
 use Rattle.std.proofs.lemmas.Bool.{false≢true}
@@ -8,7 +8,7 @@ use Rattle.fab_plans.specs.Values.{texts_of}
 use Rattle.fab_plans.specs.Steps.{PlanStep}
 use Rattle.fab_plans.specs.Forms.{keyword_text, form_of, Takes}
 use Rattle.fab_plans.specs.Plans.{SpellsStep}
-use Rattle.fab_plans.specs.Faults.{MemoryOr, ReadsWords, IsLineFault, IsMiscounted}
+use Rattle.fab_plans.specs.Faults.{MemoryOr, ReadsWords, IsLineFault}
 use Rattle.fab_plans.specs.declared.keyword.Keyword.{Keyword}
 use Rattle.fab_plans.specs.declared.fault.PlanFaultKind.{PlanFaultKind}
 use Rattle.fab_plans.specs.declared.fault.PlanFaultKind.TheVariants.{Count}

@@ -1,5 +1,5 @@
 -- A text spells one list of steps at most.
-use Rattle.std.proofs.Common.{ℕ, ◌≡◌, ◌+◌, ◌-◌, Bool, List, [], ◌∷◌, ◌++◌, suc, length, get_or, drop, map, replicate, codes, cond, nat_eq, refl, sym, ap, ◌∙◌, subst, arith}
+use Rattle.std.proofs.Common.{ℕ, ◌≡◌, ◌-◌, List, [], ◌∷◌, suc, length, get_or, drop, map, replicate, codes, cond, nat_eq, refl, sym, ap, ◌∙◌, subst, arith}
 use Rattle.std.specs.Cmp.Lexicographic.{pointwise}
 use Rattle.fab_names.specs.WorldWideNames.{SpellsDigits, number_of}
 use Rattle.fab_names.specs.Places.{Position, SpellsPlace}
@@ -16,7 +16,7 @@ use Rattle.fab_names.proofs.Splits.{one_cut}
 use Rattle.fab_zoning.specs.declared.flag.DefaultFlag.{DefaultFlag}
 use Rattle.fab_zoning.specs.declared.flag.DefaultFlag.TheVariants.{Permit, Deny}
 use Rattle.fab_plans.specs.Texts.{words_of}
-use Rattle.fab_plans.specs.Values.{Kind, a_fabric, a_name, a_flag, a_member, a_port_member, kind_of, Value, of_fabric, of_name, of_flag, of_member, of_port_member, flag_text, SpellsValue, SpellsValues}
+use Rattle.fab_plans.specs.Values.{Kind, a_fabric, a_name, a_member, a_port_member, kind_of, Value, of_fabric, of_name, of_flag, of_member, of_port_member, flag_text, SpellsValue, SpellsValues}
 use Rattle.fab_plans.specs.Steps.{PlanStep, alias_put, alias_drop, zone_put, zone_drop, set_put, set_drop, activate, deactivate, default_zone}
 use Rattle.fab_plans.specs.Forms.{keyword_text, form_of, kinds_in, keyword_of, values_of}
 use Rattle.fab_plans.specs.Plans.{SpellsStep, SpellsLines}

@@ -1,5 +1,5 @@
 -- What the words of a line spell, one after another.
-use Rattle.std.proofs.Common.{ℕ, ◌≡◌, ◌<◌, ◌+◌, suc, zero, ◌-◌, drop, List, [], ◌∷◌, ◌++◌, length, get_or, take, map, replicate, refl, sym, ap, ◌∙◌, subst, arith, inl, inr, add-one, Bor}
+use Rattle.std.proofs.Common.{ℕ, ◌≡◌, ◌<◌, ◌+◌, suc, zero, ◌-◌, drop, List, [], ◌∷◌, ◌++◌, length, get_or, take, map, replicate, refl, subst, arith, inl, inr, add-one, Bor}
 use Rattle.std.proofs.lemmas.List.{length-map, take_all}
 use Rattle.fab_plans.specs.Steps.{PlanStep}
 use Rattle.fab_plans.specs.Forms.{keyword_text, form_of, keyword_of, values_of, Takes}

@@ -1,6 +1,5 @@
 -- The forms of lines: the first word, and the words that may follow it.
 use Rattle.std.specs.Prelude.{ℕ, ◌≡◌, ◌+◌, ◌-◌, ◌<◌, ◌≤◌, List, [], ◌∷◌, ◌++◌, length, map, replicate, codes, Option, Some, None}
-use Rattle.fab_names.specs.declared.member.Member.{Member}
 use Rattle.fab_plans.specs.Steps.{PlanStep, alias_put, alias_drop, zone_put, zone_drop, set_put, set_drop, activate, deactivate, default_zone}
 use Rattle.fab_plans.specs.Values.{Kind, a_fabric, a_name, a_flag, a_member, a_port_member, Value, of_fabric, of_name, of_flag, of_member, of_port_member}
 use Rattle.fab_plans.specs.declared.keyword.Keyword.{Keyword}

@@ -7,8 +7,8 @@ use std::alloc::{AllocError, AllocFailed};
 /// The first fault of a plan text, and its line.
 #[derive(Clone, Copy, Debug, PartialEq, Eq, Drop)]
 pub struct PlanFault {
-    /// The number of the line, the first being 1; 0 where the fault is the whole text's, or where
-    /// there was no memory.
+    /// The number of the line, the first being 1, and 0 where the fault is the whole text's. Where
+    /// there was no memory, the line that was being read, or 0.
     pub line: usize,
     /// What is wrong there.
     pub kind: PlanFaultKind,

@@ -41,13 +41,11 @@ fn alias_put<A: Allocator + Copy>(alloc: A, words: &[&str]) -> Result<Step<A>, P
 {
     let (fabric, name) = fabric_name(&words[..2])?;
     let members = port_members(alloc, &words[2..])?;
-    Ok(Step {
-        action: Action::AliasPut {
-            fabric,
-            name,
-            members,
-        },
-    })
+    Ok(Step::new(Action::AliasPut {
+        fabric,
+        name,
+        members,
+    }))
 }
 
 /// Reads a fabric, a name and members.
@@ -57,13 +55,11 @@ fn zone_put<A: Allocator + Copy>(alloc: A, words: &[&str]) -> Result<Step<A>, Pl
 {
     let (fabric, name) = fabric_name(&words[..2])?;
     let members = members(alloc, &words[2..])?;
-    Ok(Step {
-        action: Action::ZonePut {
-            fabric,
-            name,
-            members,
-        },
-    })
+    Ok(Step::new(Action::ZonePut {
+        fabric,
+        name,
+        members,
+    }))
 }
 
 /// Reads a fabric, a name and names of zones.
@@ -73,13 +69,11 @@ fn set_put<A: Allocator + Copy>(alloc: A, words: &[&str]) -> Result<Step<A>, Pla
 {
     let (fabric, name) = fabric_name(&words[..2])?;
     let zones = names(alloc, &words[2..])?;
-    Ok(Step {
-        action: Action::SetPut {
-            fabric,
-            name,
-            zones,
-        },
-    })
+    Ok(Step::new(Action::SetPut {
+        fabric,
+        name,
+        zones,
+    }))
 }
 
 /// Reads the words that follow the first.
@@ -97,39 +91,27 @@ fn read_words<A: Allocator + Copy>(
         Keyword::SetPut => set_put(alloc, words),
         Keyword::AliasDrop => {
             let (fabric, name) = fabric_name(words)?;
-            Ok(Step {
-                action: Action::AliasDrop { fabric, name },
-            })
+            Ok(Step::new(Action::AliasDrop { fabric, name }))
         }
         Keyword::ZoneDrop => {
             let (fabric, name) = fabric_name(words)?;
-            Ok(Step {
-                action: Action::ZoneDrop { fabric, name },
-            })
+            Ok(Step::new(Action::ZoneDrop { fabric, name }))
         }
         Keyword::SetDrop => {
             let (fabric, name) = fabric_name(words)?;
-            Ok(Step {
-                action: Action::SetDrop { fabric, name },
-            })
+            Ok(Step::new(Action::SetDrop { fabric, name }))
         }
         Keyword::Activate => {
             let (fabric, set) = fabric_name(words)?;
-            Ok(Step {
-                action: Action::Activate { fabric, set },
-            })
+            Ok(Step::new(Action::Activate { fabric, set }))
         }
         Keyword::Deactivate => {
             let fabric = fabric(words)?;
-            Ok(Step {
-                action: Action::Deactivate { fabric },
-            })
+            Ok(Step::new(Action::Deactivate { fabric }))
         }
         Keyword::Default => {
             let (fabric, flag) = fabric_flag(words)?;
-            Ok(Step {
-                action: Action::Default { fabric, flag },
-            })
+            Ok(Step::new(Action::Default { fabric, flag }))
         }
     }
 }

@@ -67,7 +67,7 @@ pub enum Action<A: Allocator + Copy> {
 /// says: its action, with its lists as lists.
 #[derive(Debug, Drop)]
 pub struct Step<A: Allocator + Copy> {
-    pub(crate) action: Action<A>,
+    action: Action<A>,
 }
 
 impl<A: Allocator + Copy> Model for Step<A> {
@@ -85,6 +85,15 @@ impl<A: Allocator + Copy> Model for Step<A> {
 
 impl<A: Allocator + Copy> Step<A> {
     ghost use Rattle.fab_plans.specs.Actions.{step_of};
+
+    /// The step of an action that some line spells: the lists of the action have 1 to 255 items,
+    /// and an alias is given no alias as a member.
+    pub fn new(action: Action<A>) -> Self
+        requires { IsStep (step_of action) }
+        ensures { result ≡ step_of action }
+    {
+        Step { action }
+    }
 
     /// What the step does.
     pub fn action(&self) -> &Action<A>

@@ -78,9 +78,7 @@ pub(crate) fn fabric_flag(words: &[&str]) -> Result<(Fabric, DefaultFlag), PlanF
         (λ r. SpellsValues (texts_of words.now) (of_fabric r.0 ∷ of_flag r.1 ∷ []))
         (IsFirstFault (a_fabric ∷ a_flag ∷ []) (texts_of words.now)) }
 {
-    let fabric = read_fabric(words[0])?;
-    let flag = read_flag(words[1])?;
-    Ok((fabric, flag))
+    Ok((read_fabric(words[0])?, read_flag(words[1])?))
 }
 
 /// Reads one fabric.

@@ -1,4 +1,4 @@
-use Rattle.std.proofs.Common.{◌≡◌, ◌∙◌, ap, sym, subst, count_by, eqb, length}
+use Rattle.std.proofs.Common.{◌∙◌, ap, sym, subst, count_by, eqb}
 use Rattle.fab_plans.specs.Values.{texts_of}
 use Rattle.fab_plans.specs.Forms.{form_of, Takes}
 use Rattle.fab_plans.specs.Faults.{ReadsWords}

@@ -2,7 +2,6 @@ use Rattle.std.proofs.Common.{refl, map}
 use Rattle.std.proofs.lemmas.Result.{err_from_is_err_and}
 use Rattle.fab_plans.specs.Values.{a_member, of_fabric, of_name, of_member}
 use Rattle.fab_plans.specs.Steps.{zone_put}
-use Rattle.fab_plans.specs.Plans.{SpellsStep}
 use Rattle.fab_plans.proofs.Words.{listed_values, listed_fault, spelled, is_step}
 use Rattle.fab_plans.proofs.line.zone_put.Goals as goal
 
@@ -14,9 +13,9 @@ returns-in_err-members g c =
 pub returns : goal.returns
 returns g c =
     let values = listed_values (of_fabric c.in_ok-fabric.fabric) (of_name c.in_ok-fabric.name) (map of_member c.in_ok-members.members.items) c.args.words.now c.requires.0 c.in_ok-fabric.ensures c.in_ok-members.ensures in
-    spelled c.args.words.now (zone_put c.in_ok-fabric.fabric c.in_ok-fabric.name c.in_ok-members.members.items) c.requires values
+    rw c.new.ensures (spelled c.args.words.now (zone_put c.in_ok-fabric.fabric c.in_ok-fabric.name c.in_ok-members.members.items) c.requires values)
 
-pub invariant_of-result : goal.invariant_of-result
-invariant_of-result g c =
+pub new-requires : goal.new-requires
+new-requires g c =
     let values = listed_values (of_fabric c.in_ok-fabric.fabric) (of_name c.in_ok-fabric.name) (map of_member c.in_ok-members.members.items) c.args.words.now c.requires.0 c.in_ok-fabric.ensures c.in_ok-members.ensures in
     is_step c.args.words.now (zone_put c.in_ok-fabric.fabric c.in_ok-fabric.name c.in_ok-members.members.items) c.requires values

@@ -1,4 +1,4 @@
-use Rattle.std.proofs.Common.{◌≡◌, ◌∙◌, ap, Some, None, lit<}
+use Rattle.std.proofs.Common.{◌∙◌, ap, Some, None, lit<}
 use Rattle.std.proofs.lemmas.Str.Pattern.{split_parts}
 use Rattle.fab_plans.specs.Texts.{lines_of}
 use Rattle.fab_plans.proofs.Cuts.{first_line_cut, whole_line}

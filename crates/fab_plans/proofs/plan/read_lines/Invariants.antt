@@ -1,5 +1,4 @@
-use Rattle.std.proofs.Common.{ℕ, ◌≡◌, ◌≤◌, List, ◌++◌, length}
-use Rattle.fab_plans.specs.Texts.{lines_of}
+use Rattle.std.proofs.Common.{length}
 use Rattle.fab_plans.proofs.PlanReadings.{HasRead}
 use Rattle.fab_plans.proofs.plan.read_lines.Given as goal
 
