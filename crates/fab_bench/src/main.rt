@@ -4,6 +4,7 @@
 //! standard error. The scripts in `bench/` make tables of them. It decides nothing in the gate.
 #![tactic(auto)]
 
+mod plans;
 mod policies;
 mod zonings;
 
@@ -29,6 +30,7 @@ fn main(rt: HostRuntime) -> Result<()> {
     let timed = match case.as_str() {
         "activate" => zonings::activate(&rt, size, turns)?,
         "joined" => zonings::joined(&rt, size, turns)?,
+        "plan" => plans::read(&rt, size, turns)?,
         "decide" => policies::decided(&rt, size, turns)?,
         "policy" => policies::read(&rt, size, turns)?,
         _ => bail!("no such case"),

@@ -9,6 +9,7 @@ use std::time::Instant;
 
 /// How many tenants and how many approvals there are.
 const TENANTS: u64 = 64;
+
 const APPROVALS: u64 = 16;
 
 /// The list of names of a letter and a number.
@@ -31,11 +32,17 @@ fn text_of(alloc: Global, callers: u64) -> Result<String, AllocError> {
     let roles = list_of(alloc, "r", 16)?;
     let mut text = String::new(alloc);
     for i in 0..callers {
-        write!(text, "[[callers]]\nname = \"c{i}\"\ntoken = \"k{i}\"\nroles = {roles}\ntenants = {tenants}\n")?;
+        write!(
+            text,
+            "[[callers]]\nname = \"c{i}\"\ntoken = \"k{i}\"\nroles = {roles}\ntenants = {tenants}\n"
+        )?;
     }
     text.push_str("[[windows]]\nname = \"always\"\nweekly = [[0, 10080]]\n")?;
     for i in 0..callers / 4 {
-        write!(text, "[[rules]]\nname = \"rule{i}\"\nactions = [\"activate\"]\nfabric = \"A\"\nrole = \"r15\"\nscope = \"own\"\nwindow = \"always\"\napprovals = 16\napprover = \"r15\"\nfresh = true\n")?;
+        write!(
+            text,
+            "[[rules]]\nname = \"rule{i}\"\nactions = [\"activate\"]\nfabric = \"A\"\nrole = \"r15\"\nscope = \"own\"\nwindow = \"always\"\napprovals = 16\napprover = \"r15\"\nfresh = true\n"
+        )?;
     }
     Ok(text)
 }

@@ -81,11 +81,13 @@ fn put_zone(alloc: Global, zoning: &mut Zoning<Global>, zone: u64) -> Result<Nam
     Ok(name)
 }
 
-/// A zoning whose set `all` has about so many resolved members, 512 to a zone.
+/// A zoning whose set `all` has about so many resolved members and no more, 512 to a zone and a
+/// few for the hubs.
 fn zoning_of(alloc: Global, size: u64) -> Result<(Zoning<Global>, Name)> {
     let mut zoning = Zoning::new(alloc, Fabric::A);
     let mut zones = Vec::new(alloc);
-    for zone in 0..(size / (MEMBERS * ALIASES)).min(255) {
+    let members = size.saturating_sub(ZONES + 1);
+    for zone in 0..(members / (MEMBERS * ALIASES)).min(255) {
         zones.push(put_zone(alloc, &mut zoning, zone)?)?;
     }
     let all = name_of(alloc, "all", 0)?;

@@ -1,0 +1,49 @@
+#!/usr/bin/env python3
+"""Times library calls by the program `fab_bench`, and prints a table of ratios.
+
+Each case runs at a quarter, half and whole of its size; the ratio is the time there over the time
+at half of that size. Run it by hand from the top, after `(cd crates/fab_bench && rt run -- activate
+1024 1)` has built the program.
+"""
+import pathlib
+import subprocess
+import sys
+
+TOP = pathlib.Path(__file__).resolve().parent.parent
+PROGRAM = TOP / "crates" / "fab_bench" / "out" / "fab_bench"
+CASES = [
+    ("activate", 65536, 5, "a zone set of so many resolved members is activated"),
+    ("joined", 65536, 20000, "two ports under such a set, one in sixteen zones"),
+    ("plan", 65536, 20, "a plan text of so many bytes is read"),
+    ("decide", 256, 500, "a verdict with so many callers and a quarter as many rules"),
+    ("policy", 256, 5, "such a policy is read"),
+]
+
+
+def timed(case, size, turns):
+    least = None
+    for _ in range(5):
+        run = subprocess.run([PROGRAM, case, str(size), str(turns)], capture_output=True, text=True)
+        if run.returncode != 0 or run.stdout != f"{case} {size}: {turns}\n":
+            sys.exit(f"{case} {size}: {run.stdout!r} {run.stderr!r}")
+        nanos = int(run.stderr)
+        least = nanos if least is None else min(least, nanos)
+    return least
+
+
+def main():
+    if not PROGRAM.exists():
+        sys.exit("build the program first: (cd crates/fab_bench && rt run -- activate 1024 1)")
+    print(f"{'case':<10}{'size':>8}{'microseconds':>14}{'to half':>9}")
+    for case, whole, turns, meaning in CASES:
+        print(f"# {meaning}")
+        half = None
+        for size in (whole // 4, whole // 2, whole):
+            nanos = timed(case, size, turns)
+            ratio = "" if half is None else f"{nanos / half:.2f}"
+            print(f"{case:<10}{size:>8}{nanos / 1e3:>14.2f}{ratio:>9}")
+            half = nanos
+
+
+if __name__ == "__main__":
+    main()
