@@ -1,0 +1,5 @@
+//! Tests across crates. Nothing here is part of the product.
+#![tactic(auto)]
+
+#[cfg(test)]
+mod growth;
