@@ -1,0 +1,8 @@
+use Rattle.std.proofs.Common.{refl, sym, ap, ◌∙◌}
+use Rattle.fab_names.proofs.OrderLaws.{name_total}
+use Rattle.fab_inventory.proofs.SeenMaps.{looked_up}
+use Rattle.fab_mapping.specs.Mappings.{MappingRows}
+use Rattle.fab_mapping.proofs.mapping.Mapping.host_group.Goals as goal
+
+pub returns : goal.returns
+returns g c = c.get.ensures.value ∙ sym (looked_up name_total c.self.inside.host_groups.entries c.args.self.now.host_groups c.args.name.now _ (ap (λ (v : MappingRows). v.host_groups) c.self.view_is) refl)

@@ -1,0 +1,9 @@
+use Rattle.std.proofs.Common.{sym, ap, ◌∙◌}
+use Rattle.std.specs.FinMap as map
+use Rattle.fab_names.proofs.OrderLaws.{name_total, name_exact}
+use Rattle.fab_inventory.proofs.SeenMaps.{entries_made}
+use Rattle.fab_mapping.specs.Mappings.{MappingRows}
+use Rattle.fab_mapping.proofs.mapping.Mapping.host_groups.Goals as goal
+
+pub returns : goal.returns
+returns g c = c.iter.ensures.rest ∙ sym (entries_made name_total name_exact c.self.inside.host_groups.entries c.iter.ensures.ordered) ∙ ap (λ (v : MappingRows). map.entries v.host_groups) c.self.view_is

@@ -1,0 +1,44 @@
+use Rattle.std.proofs.Common.{◌≡◌, Some, None, Bool, true, false, not, is_some, inl, inr, refl, sym, ap, ◌∙◌, arith}
+use mathlib.Core.Bool.{true≢false}
+use Rattle.std.specs.Cmp.Lexicographic.{bytes_decides}
+use Rattle.fab_mapping.specs.Groups.{with_unit}
+use Rattle.fab_mapping.specs.Mappings.{MappingRows}
+use Rattle.fab_mapping.proofs.GroupChanges.{group_seen, changed, kept, on_ok, on_err, if_err, always_ok, map_fails}
+use Rattle.fab_mapping.proofs.mapping.Mapping.map.Goals as goal
+
+un_not : {b : Bool} → not b ≡ false → b ≡ true
+un_not {b = true} e = refl
+un_not {b = false} e = absurd (true≢false e)
+
+pub returns-in_default-clause-err : goal.returns-in_default-clause-err
+returns-in_default-clause-err g c = (omega arith, inl (refl, group_seen c.self.inside.groups c.args.self.now c.args.name.now None (ap (λ (v : MappingRows). v.groups) c.self.view_is) (sym c.in_default.ensures.value)))
+
+pub returns-in_default-volume-clause-err : goal.returns-in_default-volume-clause-err
+returns-in_default-volume-clause-err g c = (omega arith, inr (refl, (c.in-Some.group.now, group_seen c.self.inside.groups c.args.self.now c.args.name.now (Some c.in-Some.group.now) (ap (λ (v : MappingRows). v.groups) c.self.view_is) (sym c.in-Some.ensures.value), sym c.in_default-volume.ensures.volume)))
+
+pub returns-in_default-volume-clause-unchanged : goal.returns-in_default-volume-clause-unchanged
+returns-in_default-volume-clause-unchanged g c = kept c.self.inside.host_groups c.self.inside.groups (c.get_mut.follows.lender c.in-Some.group.now) c.args.name.now c.in-Some.group.now c.in-Some.group.now c.args.self.now c.self.view_is (sym c.in-Some.ensures.value) refl (c.get_mut.follows.holds c.in-Some.group.now).0
+
+pub returns-then-ne-clause-err : goal.returns-then-ne-clause-err
+returns-then-ne-clause-err g c = (omega arith, (c.in-Some.group.now, group_seen c.self.inside.groups c.args.self.now c.args.name.now (Some c.in-Some.group.now) (ap (λ (v : MappingRows). v.groups) c.self.view_is) (sym c.in-Some.ensures.value), (c.in-Some-volume.found, sym c.in-Some-volume.ensures.volume, λ is. true≢false (sym (sym c.ne.ensures ∙ c.if-ne.true) ∙ ap not ((bytes_decides _ _).1 (is ∙ sym c.array.ensures))))))
+
+pub returns-then-ne-clause-unchanged : goal.returns-then-ne-clause-unchanged
+returns-then-ne-clause-unchanged g c = kept c.self.inside.host_groups c.self.inside.groups (c.get_mut.follows.lender c.in-Some.group.now) c.args.name.now c.in-Some.group.now c.in-Some.group.now c.args.self.now c.self.view_is (sym c.in-Some.ensures.value) refl (c.get_mut.follows.holds c.in-Some.group.now).0
+
+pub returns-clause-unit : goal.returns-clause-unit
+returns-clause-unit g c = always_ok c.map.result (omega arith)
+
+pub returns-clause-on_array : goal.returns-clause-on_array
+returns-clause-on_array g c = always_ok c.map.result (c.in-Some.group.now, group_seen c.self.inside.groups c.args.self.now c.args.name.now (Some c.in-Some.group.now) (ap (λ (v : MappingRows). v.groups) c.self.view_is) (sym c.in-Some.ensures.value), (c.in-Some-volume.found, sym c.in-Some-volume.ensures.volume, (bytes_decides _ _).0 (un_not (sym c.ne.ensures ∙ c.if-ne.false)) ∙ c.array.ensures))
+
+pub returns-clause-free : goal.returns-clause-free
+returns-clause-free g c = on_ok c.map.result c.map.ensures.free (λ free. (c.in-Some.group.now, group_seen c.self.inside.groups c.args.self.now c.args.name.now (Some c.in-Some.group.now) (ap (λ (v : MappingRows). v.groups) c.self.view_is) (sym c.in-Some.ensures.value), free))
+
+pub returns-clause-ok : goal.returns-clause-ok
+returns-clause-ok g c = on_ok c.map.result c.map.ensures.ok (λ is. changed c.self.inside.host_groups c.self.inside.groups (c.get_mut.follows.lender c.map.new.self) c.args.name.now c.in-Some.group.now c.map.new.self (with_unit c.args.unit c.args.volume.now) c.args.self.now c.self.view_is (sym c.in-Some.ensures.value) is ((c.get_mut.follows.holds c.map.new.self).3 (ap is_some (sym c.in-Some.ensures.value))).0)
+
+pub returns-clause-err : goal.returns-clause-err
+returns-clause-err g c = if_err c.map.result c.map.ensures.err (map_fails c.args.self.now c.args.inventory.now c.args.name.now c.args.unit c.args.volume.now c.in-Some.group.now (group_seen c.self.inside.groups c.args.self.now c.args.name.now (Some c.in-Some.group.now) (ap (λ (v : MappingRows). v.groups) c.self.view_is) (sym c.in-Some.ensures.value)) (omega arith) (c.in-Some-volume.found, sym c.in-Some-volume.ensures.volume, (bytes_decides _ _).0 (un_not (sym c.ne.ensures ∙ c.if-ne.false)) ∙ c.array.ensures))
+
+pub returns-clause-unchanged : goal.returns-clause-unchanged
+returns-clause-unchanged g c = on_err c.map.result c.map.ensures.unchanged (λ is. kept c.self.inside.host_groups c.self.inside.groups (c.get_mut.follows.lender c.map.new.self) c.args.name.now c.in-Some.group.now c.map.new.self c.args.self.now c.self.view_is (sym c.in-Some.ensures.value) is (c.get_mut.follows.holds c.map.new.self).0)

@@ -1,0 +1,113 @@
+-- Host groups and storage groups, as contracts see them.
+use Rattle.std.specs.Prelude.{ℕ, ◌≡◌, ◌≢◌, ◌≤◌, List, None, Some, Bool, false, refl}
+use Rattle.std.specs.Coded.{Coded, code_by, coded×, coded_ℕ, coded_bool}
+use Rattle.std.specs.Ordering.{nat_cmp}
+use Rattle.std.specs.FinMap as map
+use Rattle.std.specs.FinSet as set
+use Rattle.fab_names.specs.Orders.{name_cmp}
+use Rattle.fab_names.specs.Codes.{name_code}
+use Rattle.fab_mapping.specs.declared.fault.MappingFault.{MappingFault}
+use Rattle.fab_mapping.specs.declared.fault.MappingFault.TheVariants.{UnitTaken, Limit, Memory}
+use Rattle.fab_mapping.specs.declared.fault.MappingLimit.TheVariants.{Parts}
+
+-- a finite set of names
+abbrev pub Names : Type 0
+Names = set.FinSet name_cmp
+
+-- a finite set of ports
+abbrev pub Ports : Type 0
+Ports = set.FinSet nat_cmp
+
+-- the volumes by logical unit number
+abbrev pub Units : Type 0
+Units = map.FinMap nat_cmp (List ℕ)
+
+-- a host group: whose it is, and its hosts
+pub record HostGroupRows : Type 0 where
+  pub tenant : List ℕ
+  pub hosts : Names
+
+-- a storage group: whose it is, its array, its host groups, its target ports, its volumes by
+-- logical unit number, and whether it is exposed
+pub record StorageGroupRows : Type 0 where
+  pub tenant : List ℕ
+  pub array : List ℕ
+  pub host_groups : Names
+  pub targets : Ports
+  pub units : Units
+  pub exposed : Bool
+
+-- a host group as the pair of its parts
+abbrev pub host_group_code : Coded HostGroupRows
+host_group_code = code_by (List ℕ × Names) (coded× name_code (set.code name_code)) (λ g. (g.tenant, g.hosts)) (λ p. record { tenant = p.0; hosts = p.1 }) (λ _. refl)
+
+-- a storage group as the tuple of its parts
+abbrev pub storage_group_code : Coded StorageGroupRows
+storage_group_code =
+    code_by ((List ℕ × List ℕ) × (Names × (Ports × (Units × Bool)))) (coded× (coded× name_code name_code) (coded× (set.code name_code) (coded× (set.code coded_ℕ) (coded× (map.code coded_ℕ name_code) coded_bool))))
+    (λ g. ((g.tenant, g.array), (g.host_groups, (g.targets, (g.units, g.exposed)))))
+    (λ p. record { tenant = p.0.0; array = p.0.1; host_groups = p.1.0; targets = p.1.1.0; units = p.1.1.1.0; exposed = p.1.1.1.1 })
+    (λ _. refl)
+
+-- the host group of the listed hosts
+abbrev pub host_group_of : List ℕ → List (List ℕ) → HostGroupRows
+host_group_of tenant hosts = record { tenant = tenant; hosts = set.from_list hosts }
+
+-- a new storage group: hidden and empty
+abbrev pub new_storage_group : List ℕ → List ℕ → StorageGroupRows
+new_storage_group tenant array = record { tenant = tenant; array = array; host_groups = set.empty; targets = set.empty; units = map.empty; exposed = false }
+
+-- ---- one part more, or one less
+
+-- with one host group more
+abbrev pub with_hosts : List ℕ → StorageGroupRows → StorageGroupRows
+with_hosts hosts g = record g { host_groups = set.insert g.host_groups hosts }
+
+-- without this host group
+abbrev pub without_hosts : List ℕ → StorageGroupRows → StorageGroupRows
+without_hosts hosts g = record g { host_groups = set.remove g.host_groups hosts }
+
+-- with one target more
+abbrev pub with_target : ℕ → StorageGroupRows → StorageGroupRows
+with_target target g = record g { targets = set.insert g.targets target }
+
+-- without this target
+abbrev pub without_target : ℕ → StorageGroupRows → StorageGroupRows
+without_target target g = record g { targets = set.remove g.targets target }
+
+-- with this volume at this unit
+abbrev pub with_unit : ℕ → List ℕ → StorageGroupRows → StorageGroupRows
+with_unit unit volume g = record g { units = map.insert g.units unit volume }
+
+-- with nothing at this unit
+abbrev pub without_unit : ℕ → StorageGroupRows → StorageGroupRows
+without_unit unit g = record g { units = map.remove g.units unit }
+
+-- exposed, or hidden
+abbrev pub exposed_as : Bool → StorageGroupRows → StorageGroupRows
+exposed_as exposed g = record g { exposed = exposed }
+
+-- ---- what refuses one part more
+
+-- it has 64 host groups, and this one is not among them
+abbrev pub AddHostsLimit : StorageGroupRows → List ℕ → MappingFault → Type 0
+AddHostsLimit g hosts (Limit Parts) = (set.contains g.host_groups hosts ≡ false) × (64 ≤ set.len g.host_groups)
+AddHostsLimit g hosts Memory = Unit {0}
+AddHostsLimit g hosts _ = ⊥
+
+-- it has 32 targets, and this one is not among them
+abbrev pub AddTargetLimit : StorageGroupRows → ℕ → MappingFault → Type 0
+AddTargetLimit g target (Limit Parts) = (set.contains g.targets target ≡ false) × (32 ≤ set.len g.targets)
+AddTargetLimit g target Memory = Unit {0}
+AddTargetLimit g target _ = ⊥
+
+-- no other volume is at this unit
+abbrev pub HasFreeUnit : StorageGroupRows → ℕ → List ℕ → Type 0
+HasFreeUnit g unit volume = (other : List ℕ) → map.get g.units unit ≡ Some other → other ≡ volume
+
+-- another volume is at this unit; or none is, and it has 256 units
+abbrev pub MapRefusal : StorageGroupRows → ℕ → List ℕ → MappingFault → Type 0
+MapRefusal g unit volume (UnitTaken u) = (u ≡ unit) × ((other : List ℕ) × (map.get g.units unit ≡ Some other) × (other ≢ volume))
+MapRefusal g unit volume (Limit Parts) = (map.get g.units unit ≡ None) × (256 ≤ map.len g.units)
+MapRefusal g unit volume Memory = Unit {0}
+MapRefusal g unit volume _ = ⊥

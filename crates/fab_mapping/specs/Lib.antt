@@ -1,0 +1,4 @@
+pub mod Groups
+pub mod Nexuses
+pub mod Clashes
+pub mod Mappings

@@ -1,0 +1,18 @@
+//! The mapping of volumes: host groups, storage groups, and where a host would meet two volumes.
+#![tactic(auto)]
+
+mod claims;
+mod fault;
+mod host_group;
+mod mapping;
+mod nexus;
+mod search;
+mod storage_group;
+#[cfg(test)]
+mod tests;
+
+pub use fault::{MappingFault, MappingLimit};
+pub use host_group::HostGroup;
+pub use mapping::Mapping;
+pub use nexus::Nexus;
+pub use storage_group::StorageGroup;
