@@ -16,6 +16,9 @@ CASES = [
     ("joined", 65536, 20000, "two ports under such a set, one in sixteen zones"),
     ("plan", 65536, 20, "a plan text of so many bytes is read"),
     ("decide", 256, 500, "a verdict with so many callers and a quarter as many rules"),
+    ("clash", 2048, 5, "a clash is looked for among so many exposed storage groups of 16 nexuses each"),
+    ("host", 2048, 50, "a host is put where so many hosts hold a port each"),
+    ("volume", 4096, 5000, "a volume is put where there are so many"),
     ("policy", 256, 5, "such a policy is read"),
 ]
 

@@ -4,6 +4,8 @@
 //! standard error. The scripts in `bench/` make tables of them. It decides nothing in the gate.
 #![tactic(auto)]
 
+mod mappings;
+mod names;
 mod plans;
 mod policies;
 mod zonings;
@@ -33,6 +35,9 @@ fn main(rt: HostRuntime) -> Result<()> {
         "plan" => plans::read(&rt, size, turns)?,
         "decide" => policies::decided(&rt, size, turns)?,
         "policy" => policies::read(&rt, size, turns)?,
+        "clash" => mappings::clash(&rt, size, turns)?,
+        "host" => mappings::put_host(&rt, size, turns)?,
+        "volume" => mappings::put_volume(&rt, size, turns)?,
         _ => bail!("no such case"),
     };
     let came_to = timed.came_to;

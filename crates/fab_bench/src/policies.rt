@@ -1,5 +1,6 @@
 //! Reading a policy, and its verdicts.
 use crate::Timed;
+use crate::names::name_of;
 use anyhow::{Result, bail};
 use fab_names::{Fabric, Name};
 use fab_policy::{Act, Action, Approval, Policy, Verdict, decide};
@@ -47,14 +48,6 @@ fn text_of(alloc: Global, callers: u64) -> Result<String, AllocError> {
     Ok(text)
 }
 
-fn name_of(alloc: Global, letter: &str, number: u64) -> Result<Name> {
-    let text = format!(in alloc; "{letter}{number}")?;
-    match Name::read(text.as_str()) {
-        Ok(name) => Ok(name),
-        Err(_) => bail!("a name"),
-    }
-}
-
 fn policy_of(alloc: Global, text: &str) -> Result<Policy> {
     match Policy::read(alloc, text) {
         Ok(policy) => Ok(policy),
@@ -80,6 +73,19 @@ pub fn read<R: Clock + AllocGlobal>(rt: &R, size: u64, turns: u64) -> Result<Tim
     })
 }
 
+/// Approvals of the first callers.
+fn approvals_of(alloc: Global) -> Result<Vec<Approval>> {
+    let mut approvals = Vec::new(alloc);
+    for i in 0..APPROVALS {
+        let caller = name_of(alloc, "c", i)?;
+        approvals.push(Approval {
+            caller,
+            revision: 6,
+        })?;
+    }
+    Ok(approvals)
+}
+
 /// Judges an activation that every rule allows, time and again.
 pub fn decided<R: Clock + AllocGlobal>(rt: &R, size: u64, turns: u64) -> Result<Timed> {
     let alloc = rt.alloc();
@@ -90,14 +96,7 @@ pub fn decided<R: Clock + AllocGlobal>(rt: &R, size: u64, turns: u64) -> Result<
     for i in 0..TENANTS {
         touched.push(name_of(alloc, "t", i)?)?;
     }
-    let mut approvals = Vec::new(alloc);
-    for i in 0..APPROVALS {
-        let caller = name_of(alloc, "c", i)?;
-        approvals.push(Approval {
-            caller,
-            revision: 6,
-        })?;
-    }
+    let approvals = approvals_of(alloc)?;
     let Some(caller) = policy.caller("k0") else {
         bail!("a caller");
     };

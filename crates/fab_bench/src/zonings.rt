@@ -3,6 +3,7 @@ ghost use Rattle.std.specs.Prelude.{◌≡◌, ◌<◌, ◌≤◌, ◌^◌, IfOk
 ghost use Rattle.fab_zoning.specs.Rows.{IsPlain};
 
 use crate::Timed;
+use crate::names::name_of;
 use anyhow::{Result, bail};
 use fab_inventory::Port;
 use fab_names::{Fabric, Member, Name, Place, Wwn};
@@ -19,15 +20,6 @@ const ALIASES: u64 = 4;
 
 /// How many zones the asked port is in.
 const ZONES: u64 = 16;
-
-/// A name of a letter and a number.
-fn name_of(alloc: Global, letter: &str, number: u64) -> Result<Name> {
-    let text = format!(in alloc; "{letter}{number}")?;
-    match Name::read(text.as_str()) {
-        Ok(name) => Ok(name),
-        Err(_) => bail!("a name"),
-    }
-}
 
 /// The ports of an alias.
 fn ports_from(alloc: Global, first: u64) -> Result<Vec<Member>, AllocError>

@@ -1,5 +1,5 @@
 -- Host groups and storage groups, as contracts see them.
-use Rattle.std.specs.Prelude.{ℕ, ◌≡◌, ◌≢◌, ◌≤◌, List, None, Some, Bool, false, refl}
+use Rattle.std.specs.Prelude.{ℕ, ◌≡◌, ◌≢◌, ◌⊎◌, ◌<◌, ◌≤◌, List, None, Some, Bool, true, false, refl}
 use Rattle.std.specs.Coded.{Coded, code_by, coded×, coded_ℕ, coded_bool}
 use Rattle.std.specs.Ordering.{nat_cmp}
 use Rattle.std.specs.FinMap as map
@@ -87,6 +87,24 @@ without_unit unit g = record g { units = map.remove g.units unit }
 abbrev pub exposed_as : Bool → StorageGroupRows → StorageGroupRows
 exposed_as exposed g = record g { exposed = exposed }
 
+-- ---- what one part more needs
+
+-- this host group is there already, or there is room for it: 64 at most
+abbrev pub HasRoomForHosts : StorageGroupRows → List ℕ → Type 0
+HasRoomForHosts g hosts = (set.contains g.host_groups hosts ≡ true) ⊎ (set.len g.host_groups < 64)
+
+-- this target is there already, or there is room for it: 32 at most
+abbrev pub HasRoomForTarget : StorageGroupRows → ℕ → Type 0
+HasRoomForTarget g target = (set.contains g.targets target ≡ true) ⊎ (set.len g.targets < 32)
+
+-- a volume is at this unit already, or there is room for one: 256 at most
+abbrev pub HasRoomForUnit : StorageGroupRows → ℕ → Type 0
+HasRoomForUnit g unit = (map.contains_key g.units unit ≡ true) ⊎ (map.len g.units < 256)
+
+-- no other volume is at this unit
+abbrev pub HasFreeUnit : StorageGroupRows → ℕ → List ℕ → Type 0
+HasFreeUnit g unit volume = (other : List ℕ) → map.get g.units unit ≡ Some other → other ≡ volume
+
 -- ---- what refuses one part more
 
 -- it has 64 host groups, and this one is not among them
@@ -100,10 +118,6 @@ abbrev pub AddTargetLimit : StorageGroupRows → ℕ → MappingFault → Type 0
 AddTargetLimit g target (Limit Parts) = (set.contains g.targets target ≡ false) × (32 ≤ set.len g.targets)
 AddTargetLimit g target Memory = Unit {0}
 AddTargetLimit g target _ = ⊥
-
--- no other volume is at this unit
-abbrev pub HasFreeUnit : StorageGroupRows → ℕ → List ℕ → Type 0
-HasFreeUnit g unit volume = (other : List ℕ) → map.get g.units unit ≡ Some other → other ≡ volume
 
 -- another volume is at this unit; or none is, and it has 256 units
 abbrev pub MapRefusal : StorageGroupRows → ℕ → List ℕ → MappingFault → Type 0

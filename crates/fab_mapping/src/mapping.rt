@@ -3,7 +3,7 @@ ghost use Rattle.std.specs.Prelude.{◌≡◌, ◌<◌, ◌≤◌, length, true,
 ghost use Rattle.std.specs.Option.{option_copied};
 ghost use Rattle.std.specs.FinMap as map;
 ghost use Rattle.std.specs.FinSet as set;
-ghost use Rattle.fab_mapping.specs.Groups.{host_group_of, new_storage_group, with_hosts, without_hosts, with_target, without_target, with_unit, without_unit, exposed_as, HasFreeUnit};
+ghost use Rattle.fab_mapping.specs.Groups.{host_group_of, new_storage_group, with_hosts, without_hosts, with_target, without_target, with_unit, without_unit, exposed_as, HasRoomForHosts, HasRoomForTarget, HasRoomForUnit, HasFreeUnit};
 ghost use Rattle.fab_mapping.specs.Mappings.{no_groups, IsLeastClash, HasNoClash, CanPutHostGroup, PutHostGroupFails, IsUnservedIn, DropHostGroupFails, CanMakeGroup, NewGroupFails, NamesNoGroup, ChangesGroup, GroupHas, AddHostsFails, RemoveHostsFails, IsPortOf, AddTargetFails, RemoveTargetFails, IsVolumeOn, MapFails, UnmapFails};
 
 use crate::claims::{claims_of, first_clash};
@@ -229,6 +229,7 @@ impl<A: Allocator + Copy> Mapping<A> {
     /// changed.
     pub fn add_hosts(&mut self, name: &Name, hosts: &Name) -> Result<(), MappingFault>
         ensures known { OnOk result (map.contains_key self.old.host_groups hosts.now ≡ true) }
+        ensures room { OnOk result (GroupHas self.old name.now (λ g. HasRoomForHosts g hosts.now)) }
         ensures ok { OnOk result (ChangesGroup name.now (with_hosts hosts.now) self.old self.new) }
         ensures err { IfErr result (AddHostsFails self.old name.now hosts.now) }
         ensures unchanged { OnErr result (self.new ≡ self.old) }
@@ -278,6 +279,7 @@ impl<A: Allocator + Copy> Mapping<A> {
         inventory: &Inventory<A>,
     ) -> Result<(), MappingFault>
         ensures held { OnOk result (GroupHas self.old name.now (λ g. IsPortOf inventory.now g.array target.now)) }
+        ensures room { OnOk result (GroupHas self.old name.now (λ g. HasRoomForTarget g target.now)) }
         ensures ok { OnOk result (ChangesGroup name.now (with_target target.now) self.old self.new) }
         ensures err { IfErr result (AddTargetFails self.old inventory.now name.now target.now) }
         ensures unchanged { OnErr result (self.new ≡ self.old) }
@@ -333,6 +335,7 @@ impl<A: Allocator + Copy> Mapping<A> {
         ensures unit { OnOk result (unit ≤ 16383) }
         ensures on_array { OnOk result (GroupHas self.old name.now (λ g. IsVolumeOn inventory.now g.array volume.now)) }
         ensures free { OnOk result (GroupHas self.old name.now (λ g. HasFreeUnit g unit volume.now)) }
+        ensures room { OnOk result (GroupHas self.old name.now (λ g. HasRoomForUnit g unit)) }
         ensures ok { OnOk result (ChangesGroup name.now (with_unit unit volume.now) self.old self.new) }
         ensures err { IfErr result (MapFails self.old inventory.now name.now unit volume.now) }
         ensures unchanged { OnErr result (self.new ≡ self.old) }

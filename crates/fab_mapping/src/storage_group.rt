@@ -5,7 +5,7 @@ ghost use Rattle.std.specs.List.Sorted.{IsStrictlySortedBy};
 ghost use Rattle.std.specs.Ordering.{nat_cmp};
 ghost use Rattle.fab_names.specs.Orders.{name_cmp};
 ghost use Rattle.std.specs.FinMap as map;
-ghost use Rattle.fab_mapping.specs.Groups.{new_storage_group, with_hosts, without_hosts, with_target, without_target, with_unit, without_unit, exposed_as, AddHostsLimit, AddTargetLimit, HasFreeUnit, MapRefusal};
+ghost use Rattle.fab_mapping.specs.Groups.{new_storage_group, with_hosts, without_hosts, with_target, without_target, with_unit, without_unit, exposed_as, HasRoomForHosts, HasRoomForTarget, HasRoomForUnit, HasFreeUnit, AddHostsLimit, AddTargetLimit, MapRefusal};
 
 use crate::{MappingFault, MappingLimit};
 use fab_names::{Name, Wwn};
@@ -141,6 +141,7 @@ impl<A: Allocator + Copy> StorageGroup<A> {
     /// # Errors
     /// `Limit(Parts)` where it would have more than 64, or `Memory`. It is then as it was.
     pub(crate) fn add_hosts(&mut self, hosts: Name) -> Result<(), MappingFault>
+        ensures room { OnOk result (HasRoomForHosts self.old hosts) }
         ensures ok { OnOk result (self.new ≡ with_hosts hosts self.old) }
         ensures err { IfErr result (AddHostsLimit self.old hosts) }
         ensures unchanged { OnErr result (self.new ≡ self.old) }
@@ -164,6 +165,7 @@ impl<A: Allocator + Copy> StorageGroup<A> {
     /// # Errors
     /// `Limit(Parts)` where it would have more than 32, or `Memory`. It is then as it was.
     pub(crate) fn add_target(&mut self, target: Wwn) -> Result<(), MappingFault>
+        ensures room { OnOk result (HasRoomForTarget self.old target) }
         ensures ok { OnOk result (self.new ≡ with_target target self.old) }
         ensures err { IfErr result (AddTargetLimit self.old target) }
         ensures unchanged { OnErr result (self.new ≡ self.old) }
@@ -189,6 +191,7 @@ impl<A: Allocator + Copy> StorageGroup<A> {
     /// units, or `Memory`. It is then as it was.
     pub(crate) fn map(&mut self, unit: u16, volume: Name) -> Result<(), MappingFault>
         ensures free { OnOk result (HasFreeUnit self.old unit volume) }
+        ensures room { OnOk result (HasRoomForUnit self.old unit) }
         ensures ok { OnOk result (self.new ≡ with_unit unit volume self.old) }
         ensures err { IfErr result (MapRefusal self.old unit volume) }
         ensures unchanged { OnErr result (self.new ≡ self.old) }

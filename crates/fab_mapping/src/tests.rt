@@ -13,9 +13,9 @@ fn name(text: &str) -> Result<Name, Fail> {
 }
 
 /// The first target port, and the second.
-const T1: u64 = 0x5000_0000_0000_0001;
+const FIRST_TARGET: u64 = 0x5000_0000_0000_0001;
 
-const T2: u64 = 0x5000_0000_0000_0002;
+const SECOND_TARGET: u64 = 0x5000_0000_0000_0002;
 
 /// Ports 1 to 70 and the targets; the hosts `db1` and `db2`; `arr1` with the first target and the
 /// volumes `v1` and `v2`, `arr2` with the second and `w1`.
@@ -23,7 +23,11 @@ fn stock(rt: &HostRuntime) -> Result<Inventory<Global>, Fail> {
     let mut inventory = Inventory::new(rt.alloc());
     let node = Wwn::new(0x2000_0000_0000_0001);
     let place = Place::new(1, 1);
-    let (t1, t2, blue) = (Wwn::new(T1), Wwn::new(T2), name("blue")?);
+    let (t1, t2, blue) = (
+        Wwn::new(FIRST_TARGET),
+        Wwn::new(SECOND_TARGET),
+        name("blue")?,
+    );
     let (arr1, arr2) = (name("arr1")?, name("arr2")?);
     let rows = [
         PortRow {
@@ -57,7 +61,7 @@ fn two_groups(
 ) -> Result<Mapping<Global>, Fail> {
     let mut mapping = Mapping::new(alloc);
     let (g1, g2, hosts, blue) = (name("g1")?, name("g2")?, name("hosts1")?, name("blue")?);
-    let (arr1, t1) = (name("arr1")?, Wwn::new(T1));
+    let (arr1, t1) = (name("arr1")?, Wwn::new(FIRST_TARGET));
     let other = name("hosts2")?;
     mapping.put_host_group(hosts, blue, &[name("db1")?], inventory)?;
     mapping.put_host_group(other, blue, &[name("db2")?, name("db1")?], inventory)?;
@@ -89,7 +93,7 @@ fn two_volumes_clash(rt: HostRuntime) -> Result<(), Fail> {
     let (g1, g2) = (name("g1")?, name("g2")?);
     let clash = Nexus {
         host: name("db1")?,
-        target: Wwn::new(T1),
+        target: Wwn::new(FIRST_TARGET),
         unit: 0,
     };
     assert_eq!(rt; mapping.clash(), Ok(Some(clash)));
@@ -126,7 +130,10 @@ fn refused_groups(rt: HostRuntime) -> Result<(), Fail> {
     );
     assert_eq!(rt; mapping.add_hosts(&g1, &g9), Err(MappingFault::Unknown(g9)));
     let wrong = Err(MappingFault::WrongArray);
-    assert_eq!(rt; mapping.add_target(&g1, &Wwn::new(T2), &inventory), wrong);
+    assert_eq!(rt;
+        mapping.add_target(&g1, &Wwn::new(SECOND_TARGET), &inventory),
+        wrong
+    );
     let port = Wwn::new(9);
     assert_eq!(rt;
         mapping.add_target(&g1, &port, &inventory),
@@ -151,7 +158,7 @@ fn refused_groups(rt: HostRuntime) -> Result<(), Fail> {
     );
     assert_eq!(rt; mapping.remove_hosts(&g1, &hosts1), Ok(()));
     assert_eq!(rt; mapping.drop_host_group(&hosts1), Ok(()));
-    assert_eq!(rt; mapping.remove_target(&g1, &Wwn::new(T1)), Ok(()));
+    assert_eq!(rt; mapping.remove_target(&g1, &Wwn::new(FIRST_TARGET)), Ok(()));
     assert_eq!(rt; mapping.drop_group(&g1), Ok(()));
     assert_eq!(rt; mapping.expose(&g1), Err(MappingFault::Unknown(g1)));
     Ok(())
@@ -236,7 +243,7 @@ fn most_hosts(rt: HostRuntime) -> Result<(), Fail> {
 fn most_targets_and_units(rt: HostRuntime) -> Result<(), Fail> {
     let mut inventory = stock(&rt)?;
     let (g1, blue, arr1, v1) = (name("g1")?, name("blue")?, name("arr1")?, name("v1")?);
-    let (node, place) = (Wwn::new(T1), Place::new(1, 1));
+    let (node, place) = (Wwn::new(FIRST_TARGET), Place::new(1, 1));
     let mut rows = Vec::new(rt.alloc());
     let mut ports = Vec::new(rt.alloc());
     for number in 1..34u64 {

@@ -19,6 +19,9 @@ returns-then-not-known-clause-unchanged g c = kept c.self.inside.host_groups c.s
 pub returns-clause-known : goal.returns-clause-known
 returns-clause-known g c = always_ok c.add_hosts.result (ap (λ (v : MappingRows). map.contains_key v.host_groups c.args.hosts.now) (sym c.self.view_is) ∙ ap is_some (get_entries name_total c.self.inside.host_groups.entries c.args.hosts.now) ∙ sym c.contains_key-known.ensures ∙ c.if-not-known.false)
 
+pub returns-clause-room : goal.returns-clause-room
+returns-clause-room g c = on_ok c.add_hosts.result c.add_hosts.ensures.room (λ room. (c.in-Some.group.now, group_seen c.self.inside.groups c.args.self.now c.args.name.now (Some c.in-Some.group.now) (ap (λ (v : MappingRows). v.groups) c.self.view_is) (sym c.in-Some.ensures.value), room))
+
 pub returns-clause-ok : goal.returns-clause-ok
 returns-clause-ok g c = on_ok c.add_hosts.result c.add_hosts.ensures.ok (λ is. changed c.self.inside.host_groups c.self.inside.groups (c.get_mut.follows.lender c.add_hosts.new.self) c.args.name.now c.in-Some.group.now c.add_hosts.new.self (with_hosts c.args.hosts.now) c.args.self.now c.self.view_is (sym c.in-Some.ensures.value) is ((c.get_mut.follows.holds c.add_hosts.new.self).3 (ap is_some (sym c.in-Some.ensures.value))).0)
 

@@ -23,6 +23,9 @@ returns-then-not-is_held_by-clause-unchanged g c = kept c.self.inside.host_group
 pub returns-clause-held : goal.returns-clause-held
 returns-clause-held g c = always_ok c.add_target.result (c.in-Some.group.now, group_seen c.self.inside.groups c.args.self.now c.args.name.now (Some c.in-Some.group.now) (ap (λ (v : MappingRows). v.groups) c.self.view_is) (sym c.in-Some.ensures.value), (port_held c.args.inventory.now.ports c.args.target.now c.in-Some-port.port c.in-Some-port.ensures.port).1 ∙ c.is_held_by.ensures.0 c.if-not-is_held_by.false ∙ ap Some c.array.ensures)
 
+pub returns-clause-room : goal.returns-clause-room
+returns-clause-room g c = on_ok c.add_target.result c.add_target.ensures.room (λ room. (c.in-Some.group.now, group_seen c.self.inside.groups c.args.self.now c.args.name.now (Some c.in-Some.group.now) (ap (λ (v : MappingRows). v.groups) c.self.view_is) (sym c.in-Some.ensures.value), room))
+
 pub returns-clause-ok : goal.returns-clause-ok
 returns-clause-ok g c = on_ok c.add_target.result c.add_target.ensures.ok (λ is. changed c.self.inside.host_groups c.self.inside.groups (c.get_mut.follows.lender c.add_target.new.self) c.args.name.now c.in-Some.group.now c.add_target.new.self (with_target c.args.target.now) c.args.self.now c.self.view_is (sym c.in-Some.ensures.value) is ((c.get_mut.follows.holds c.add_target.new.self).3 (ap is_some (sym c.in-Some.ensures.value))).0)
 

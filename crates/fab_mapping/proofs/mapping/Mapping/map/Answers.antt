@@ -34,6 +34,9 @@ returns-clause-on_array g c = always_ok c.map.result (c.in-Some.group.now, group
 pub returns-clause-free : goal.returns-clause-free
 returns-clause-free g c = on_ok c.map.result c.map.ensures.free (λ free. (c.in-Some.group.now, group_seen c.self.inside.groups c.args.self.now c.args.name.now (Some c.in-Some.group.now) (ap (λ (v : MappingRows). v.groups) c.self.view_is) (sym c.in-Some.ensures.value), free))
 
+pub returns-clause-room : goal.returns-clause-room
+returns-clause-room g c = on_ok c.map.result c.map.ensures.room (λ room. (c.in-Some.group.now, group_seen c.self.inside.groups c.args.self.now c.args.name.now (Some c.in-Some.group.now) (ap (λ (v : MappingRows). v.groups) c.self.view_is) (sym c.in-Some.ensures.value), room))
+
 pub returns-clause-ok : goal.returns-clause-ok
 returns-clause-ok g c = on_ok c.map.result c.map.ensures.ok (λ is. changed c.self.inside.host_groups c.self.inside.groups (c.get_mut.follows.lender c.map.new.self) c.args.name.now c.in-Some.group.now c.map.new.self (with_unit c.args.unit c.args.volume.now) c.args.self.now c.self.view_is (sym c.in-Some.ensures.value) is ((c.get_mut.follows.holds c.map.new.self).3 (ap is_some (sym c.in-Some.ensures.value))).0)
 
