@@ -20,12 +20,14 @@ use Rattle.fab_names.proofs.Printed.{printed_spells}
 use Rattle.fab_names.proofs.Splits.{Lacks}
 use Rattle.fab_zoning.specs.declared.flag.DefaultFlag.TheVariants.{Permit, Deny}
 use Rattle.fab_plans.specs.Texts.{lines_of, words_of}
-use Rattle.fab_plans.specs.Values.{Value, of_fabric, of_name, of_flag, of_member, of_port_member, value_text, SpellsValue, SpellsValues}
+use Rattle.fab_plans.specs.Values.{Value, of_fabric, of_name, of_flag, of_member, of_port_member, of_wwn, of_unit, value_text, SpellsValue, SpellsValues}
 use Rattle.fab_plans.specs.Steps.{PlanStep}
 use Rattle.fab_plans.specs.Forms.{keyword_text, form_of, Takes, keyword_of, values_of}
 use Rattle.fab_plans.specs.Plans.{SpellsStep, SpellsLines, Spells, spaced, step_text, plan_text}
 use Rattle.fab_plans.specs.declared.keyword.Keyword.{Keyword}
-use Rattle.fab_plans.specs.declared.keyword.Keyword.TheVariants as keyword
+use Rattle.fab_plans.specs.declared.keyword.Keyword.TheVariants.{Zoning, Mapping}
+use Rattle.fab_plans.specs.declared.zoning_keyword.ZoningKeyword.TheVariants as zoning
+use Rattle.fab_plans.specs.declared.mapping_keyword.MappingKeyword.TheVariants as mapping
 use Rattle.fab_plans.proofs.Cuts.{first_word_cut, only_word, first_line_cut}
 use Rattle.fab_plans.proofs.Unique.{as_many_values}
 
@@ -144,6 +146,8 @@ value_again word (of_name n) s = (refl, subst IsNameText (sym s.0) s.1)
 value_again word (of_flag f) s = refl
 value_again word (of_member m) s = member_again word m s
 value_again word (of_port_member m) s = (member_again word m s.0, s.1)
+value_again word (of_wwn w) s = printed_spells w s.1 (wwn_fits word w s.0)
+value_again word (of_unit u) s = record { number = printed_number u (omega (arith, s.in_range)); in_range = s.in_range }
 
 clear_value : (word : List ℕ) (v : Value) → SpellsValue word v → Clear (value_text v)
 clear_value word (of_fabric A) s = clear_literal (codes "A") refl
@@ -153,6 +157,8 @@ clear_value word (of_flag Permit) s = clear_literal (codes "permit") refl
 clear_value word (of_flag Deny) s = clear_literal (codes "deny") refl
 clear_value word (of_member m) s = clear_member word m s
 clear_value word (of_port_member m) s = clear_member word m s.0
+clear_value word (of_wwn w) s = clear_wwn w
+clear_value word (of_unit u) s = clear_number (decimal u) u (printed_number u (omega (arith, s.in_range)))
 
 values_again : (words : List (List ℕ)) (vs : List Value) → SpellsValues words vs → SpellsValues (map value_text vs) vs
 values_again [] [] s = tt
@@ -167,15 +173,27 @@ clear_values (w ∷ words) [] s = absurd s
 clear_values (w ∷ words) (v ∷ vs) s = (clear_value w v s.0, clear_values words vs s.1)
 
 clear_keyword : (k : Keyword) → Clear (keyword_text k)
-clear_keyword keyword.AliasPut = clear_literal (codes "alias.put") refl
-clear_keyword keyword.AliasDrop = clear_literal (codes "alias.drop") refl
-clear_keyword keyword.ZonePut = clear_literal (codes "zone.put") refl
-clear_keyword keyword.ZoneDrop = clear_literal (codes "zone.drop") refl
-clear_keyword keyword.SetPut = clear_literal (codes "set.put") refl
-clear_keyword keyword.SetDrop = clear_literal (codes "set.drop") refl
-clear_keyword keyword.Activate = clear_literal (codes "activate") refl
-clear_keyword keyword.Deactivate = clear_literal (codes "deactivate") refl
-clear_keyword keyword.Default = clear_literal (codes "default") refl
+clear_keyword (Zoning zoning.AliasPut) = clear_literal (codes "alias.put") refl
+clear_keyword (Zoning zoning.AliasDrop) = clear_literal (codes "alias.drop") refl
+clear_keyword (Zoning zoning.ZonePut) = clear_literal (codes "zone.put") refl
+clear_keyword (Zoning zoning.ZoneDrop) = clear_literal (codes "zone.drop") refl
+clear_keyword (Zoning zoning.SetPut) = clear_literal (codes "set.put") refl
+clear_keyword (Zoning zoning.SetDrop) = clear_literal (codes "set.drop") refl
+clear_keyword (Zoning zoning.Activate) = clear_literal (codes "activate") refl
+clear_keyword (Zoning zoning.Deactivate) = clear_literal (codes "deactivate") refl
+clear_keyword (Zoning zoning.Default) = clear_literal (codes "default") refl
+clear_keyword (Mapping mapping.HostGroupPut) = clear_literal (codes "hg.put") refl
+clear_keyword (Mapping mapping.HostGroupDrop) = clear_literal (codes "hg.drop") refl
+clear_keyword (Mapping mapping.GroupNew) = clear_literal (codes "sg.new") refl
+clear_keyword (Mapping mapping.GroupDrop) = clear_literal (codes "sg.drop") refl
+clear_keyword (Mapping mapping.GroupHost) = clear_literal (codes "sg.host") refl
+clear_keyword (Mapping mapping.GroupUnhost) = clear_literal (codes "sg.unhost") refl
+clear_keyword (Mapping mapping.GroupTarget) = clear_literal (codes "sg.target") refl
+clear_keyword (Mapping mapping.GroupUntarget) = clear_literal (codes "sg.untarget") refl
+clear_keyword (Mapping mapping.GroupMap) = clear_literal (codes "sg.map") refl
+clear_keyword (Mapping mapping.GroupUnmap) = clear_literal (codes "sg.unmap") refl
+clear_keyword (Mapping mapping.GroupExpose) = clear_literal (codes "sg.expose") refl
+clear_keyword (Mapping mapping.GroupHide) = clear_literal (codes "sg.hide") refl
 
 -- a line of words, each behind a space but the first, is cut into these words
 words_again : (word : List ℕ) (vs : List Value) → Clear word → AllByRecursion (λ v. Clear (value_text v)) vs → words_of (word ++ flat_map spaced vs) ≡ word ∷ map value_text vs

@@ -16,12 +16,14 @@ use Rattle.fab_names.proofs.Splits.{one_cut}
 use Rattle.fab_zoning.specs.declared.flag.DefaultFlag.{DefaultFlag}
 use Rattle.fab_zoning.specs.declared.flag.DefaultFlag.TheVariants.{Permit, Deny}
 use Rattle.fab_plans.specs.Texts.{words_of}
-use Rattle.fab_plans.specs.Values.{Kind, a_fabric, a_name, a_member, a_port_member, kind_of, Value, of_fabric, of_name, of_flag, of_member, of_port_member, flag_text, SpellsValue, SpellsValues}
-use Rattle.fab_plans.specs.Steps.{PlanStep, alias_put, alias_drop, zone_put, zone_drop, set_put, set_drop, activate, deactivate, default_zone}
+use Rattle.fab_plans.specs.Values.{Kind, a_fabric, a_name, a_member, a_port_member, kind_of, Value, of_fabric, of_name, of_flag, of_member, of_port_member, of_wwn, of_unit, flag_text, SpellsValue, SpellsValues}
+use Rattle.fab_plans.specs.Steps.{PlanStep, alias_put, alias_drop, zone_put, zone_drop, set_put, set_drop, activate, deactivate, default_zone, host_group_put, host_group_drop, group_new, group_drop, group_host, group_unhost, group_target, group_untarget, group_map, group_unmap, group_expose, group_hide}
 use Rattle.fab_plans.specs.Forms.{keyword_text, form_of, kinds_in, keyword_of, values_of}
 use Rattle.fab_plans.specs.Plans.{SpellsStep, SpellsLines}
 use Rattle.fab_plans.specs.declared.keyword.Keyword.{Keyword}
-use Rattle.fab_plans.specs.declared.keyword.Keyword.TheVariants as keyword
+use Rattle.fab_plans.specs.declared.keyword.Keyword.TheVariants.{Zoning, Mapping}
+use Rattle.fab_plans.specs.declared.zoning_keyword.ZoningKeyword.TheVariants as zoning
+use Rattle.fab_plans.specs.declared.mapping_keyword.MappingKeyword.TheVariants as mapping
 
 -- a fabric's text, a flag's word and a world-wide name's text are those of one
 one_fabric : (f g : Fabric) → fabric_text f ≡ fabric_text g → f ≡ g
@@ -72,6 +74,8 @@ one_value word (of_name n) (of_name m) kinds s t = ap of_name (s.0 ∙ sym t.0)
 one_value word (of_flag f) (of_flag g) kinds s t = ap of_flag (one_flag f g (sym s ∙ t))
 one_value word (of_member m) (of_member k) kinds s t = ap of_member (one_member word m k s t)
 one_value word (of_port_member m) (of_port_member k) kinds s t = ap of_port_member (one_member word m k s.0 t.0)
+one_value word (of_wwn n) (of_wwn m) kinds s t = ap of_wwn (one_wwn word n m s.0 t.0)
+one_value word (of_unit n) (of_unit m) kinds s t = ap of_unit (one_number word n m s.number t.number)
 one_value word v w kinds s t = absurd cc
 
 one_list : (words : List (List ℕ)) (vs ws : List Value) → map kind_of vs ≡ map kind_of ws → SpellsValues words vs → SpellsValues words ws → vs ≡ ws
@@ -90,25 +94,49 @@ one_list (x ∷ words) (v ∷ vs) (w ∷ ws) kinds s t =
 -- the keyword of a word
 abbrev keyword_in : List ℕ → Keyword
 keyword_in word =
-    cond (pointwise nat_eq word (codes "alias.put")) keyword.AliasPut
-    (cond (pointwise nat_eq word (codes "alias.drop")) keyword.AliasDrop
-    (cond (pointwise nat_eq word (codes "zone.put")) keyword.ZonePut
-    (cond (pointwise nat_eq word (codes "zone.drop")) keyword.ZoneDrop
-    (cond (pointwise nat_eq word (codes "set.put")) keyword.SetPut
-    (cond (pointwise nat_eq word (codes "set.drop")) keyword.SetDrop
-    (cond (pointwise nat_eq word (codes "activate")) keyword.Activate
-    (cond (pointwise nat_eq word (codes "deactivate")) keyword.Deactivate keyword.Default)))))))
+    cond (pointwise nat_eq word (codes "alias.put")) (Zoning zoning.AliasPut)
+    (cond (pointwise nat_eq word (codes "alias.drop")) (Zoning zoning.AliasDrop)
+    (cond (pointwise nat_eq word (codes "zone.put")) (Zoning zoning.ZonePut)
+    (cond (pointwise nat_eq word (codes "zone.drop")) (Zoning zoning.ZoneDrop)
+    (cond (pointwise nat_eq word (codes "set.put")) (Zoning zoning.SetPut)
+    (cond (pointwise nat_eq word (codes "set.drop")) (Zoning zoning.SetDrop)
+    (cond (pointwise nat_eq word (codes "activate")) (Zoning zoning.Activate)
+    (cond (pointwise nat_eq word (codes "deactivate")) (Zoning zoning.Deactivate)
+    (cond (pointwise nat_eq word (codes "default")) (Zoning zoning.Default)
+    (cond (pointwise nat_eq word (codes "hg.put")) (Mapping mapping.HostGroupPut)
+    (cond (pointwise nat_eq word (codes "hg.drop")) (Mapping mapping.HostGroupDrop)
+    (cond (pointwise nat_eq word (codes "sg.new")) (Mapping mapping.GroupNew)
+    (cond (pointwise nat_eq word (codes "sg.drop")) (Mapping mapping.GroupDrop)
+    (cond (pointwise nat_eq word (codes "sg.host")) (Mapping mapping.GroupHost)
+    (cond (pointwise nat_eq word (codes "sg.unhost")) (Mapping mapping.GroupUnhost)
+    (cond (pointwise nat_eq word (codes "sg.target")) (Mapping mapping.GroupTarget)
+    (cond (pointwise nat_eq word (codes "sg.untarget")) (Mapping mapping.GroupUntarget)
+    (cond (pointwise nat_eq word (codes "sg.map")) (Mapping mapping.GroupMap)
+    (cond (pointwise nat_eq word (codes "sg.unmap")) (Mapping mapping.GroupUnmap)
+    (cond (pointwise nat_eq word (codes "sg.expose")) (Mapping mapping.GroupExpose) (Mapping mapping.GroupHide))))))))))))))))))))
 
 keyword_back : (k : Keyword) → keyword_in (keyword_text k) ≡ k
-keyword_back keyword.AliasPut = refl
-keyword_back keyword.AliasDrop = refl
-keyword_back keyword.ZonePut = refl
-keyword_back keyword.ZoneDrop = refl
-keyword_back keyword.SetPut = refl
-keyword_back keyword.SetDrop = refl
-keyword_back keyword.Activate = refl
-keyword_back keyword.Deactivate = refl
-keyword_back keyword.Default = refl
+keyword_back (Zoning zoning.AliasPut) = refl
+keyword_back (Zoning zoning.AliasDrop) = refl
+keyword_back (Zoning zoning.ZonePut) = refl
+keyword_back (Zoning zoning.ZoneDrop) = refl
+keyword_back (Zoning zoning.SetPut) = refl
+keyword_back (Zoning zoning.SetDrop) = refl
+keyword_back (Zoning zoning.Activate) = refl
+keyword_back (Zoning zoning.Deactivate) = refl
+keyword_back (Zoning zoning.Default) = refl
+keyword_back (Mapping mapping.HostGroupPut) = refl
+keyword_back (Mapping mapping.HostGroupDrop) = refl
+keyword_back (Mapping mapping.GroupNew) = refl
+keyword_back (Mapping mapping.GroupDrop) = refl
+keyword_back (Mapping mapping.GroupHost) = refl
+keyword_back (Mapping mapping.GroupUnhost) = refl
+keyword_back (Mapping mapping.GroupTarget) = refl
+keyword_back (Mapping mapping.GroupUntarget) = refl
+keyword_back (Mapping mapping.GroupMap) = refl
+keyword_back (Mapping mapping.GroupUnmap) = refl
+keyword_back (Mapping mapping.GroupExpose) = refl
+keyword_back (Mapping mapping.GroupHide) = refl
 
 -- two keywords have two texts
 pub one_keyword : (k l : Keyword) → keyword_text k ≡ keyword_text l → k ≡ l
@@ -132,20 +160,37 @@ member_in (of_member m) = m
 member_in (of_port_member m) = m
 member_in v = member.Port 0
 
+number_in : Value → ℕ
+number_in (of_wwn w) = w
+number_in (of_unit u) = u
+number_in v = 0
+
 value_at : List Value → ℕ → Value
 value_at values i = get_or values i (of_name [])
 
 -- the step of a keyword and the values behind it
 made : Keyword → List Value → PlanStep
-made keyword.AliasPut vs = alias_put (fabric_in (value_at vs 0)) (name_in (value_at vs 1)) (map member_in (drop 2 vs))
-made keyword.AliasDrop vs = alias_drop (fabric_in (value_at vs 0)) (name_in (value_at vs 1))
-made keyword.ZonePut vs = zone_put (fabric_in (value_at vs 0)) (name_in (value_at vs 1)) (map member_in (drop 2 vs))
-made keyword.ZoneDrop vs = zone_drop (fabric_in (value_at vs 0)) (name_in (value_at vs 1))
-made keyword.SetPut vs = set_put (fabric_in (value_at vs 0)) (name_in (value_at vs 1)) (map name_in (drop 2 vs))
-made keyword.SetDrop vs = set_drop (fabric_in (value_at vs 0)) (name_in (value_at vs 1))
-made keyword.Activate vs = activate (fabric_in (value_at vs 0)) (name_in (value_at vs 1))
-made keyword.Deactivate vs = deactivate (fabric_in (value_at vs 0))
-made keyword.Default vs = default_zone (fabric_in (value_at vs 0)) (flag_in (value_at vs 1))
+made (Zoning zoning.AliasPut) vs = alias_put (fabric_in (value_at vs 0)) (name_in (value_at vs 1)) (map member_in (drop 2 vs))
+made (Zoning zoning.AliasDrop) vs = alias_drop (fabric_in (value_at vs 0)) (name_in (value_at vs 1))
+made (Zoning zoning.ZonePut) vs = zone_put (fabric_in (value_at vs 0)) (name_in (value_at vs 1)) (map member_in (drop 2 vs))
+made (Zoning zoning.ZoneDrop) vs = zone_drop (fabric_in (value_at vs 0)) (name_in (value_at vs 1))
+made (Zoning zoning.SetPut) vs = set_put (fabric_in (value_at vs 0)) (name_in (value_at vs 1)) (map name_in (drop 2 vs))
+made (Zoning zoning.SetDrop) vs = set_drop (fabric_in (value_at vs 0)) (name_in (value_at vs 1))
+made (Zoning zoning.Activate) vs = activate (fabric_in (value_at vs 0)) (name_in (value_at vs 1))
+made (Zoning zoning.Deactivate) vs = deactivate (fabric_in (value_at vs 0))
+made (Zoning zoning.Default) vs = default_zone (fabric_in (value_at vs 0)) (flag_in (value_at vs 1))
+made (Mapping mapping.HostGroupPut) vs = host_group_put (name_in (value_at vs 0)) (name_in (value_at vs 1)) (map name_in (drop 2 vs))
+made (Mapping mapping.HostGroupDrop) vs = host_group_drop (name_in (value_at vs 0))
+made (Mapping mapping.GroupNew) vs = group_new (name_in (value_at vs 0)) (name_in (value_at vs 1)) (name_in (value_at vs 2))
+made (Mapping mapping.GroupDrop) vs = group_drop (name_in (value_at vs 0))
+made (Mapping mapping.GroupHost) vs = group_host (name_in (value_at vs 0)) (name_in (value_at vs 1))
+made (Mapping mapping.GroupUnhost) vs = group_unhost (name_in (value_at vs 0)) (name_in (value_at vs 1))
+made (Mapping mapping.GroupTarget) vs = group_target (name_in (value_at vs 0)) (number_in (value_at vs 1))
+made (Mapping mapping.GroupUntarget) vs = group_untarget (name_in (value_at vs 0)) (number_in (value_at vs 1))
+made (Mapping mapping.GroupMap) vs = group_map (name_in (value_at vs 0)) (number_in (value_at vs 1)) (name_in (value_at vs 2))
+made (Mapping mapping.GroupUnmap) vs = group_unmap (name_in (value_at vs 0)) (number_in (value_at vs 1))
+made (Mapping mapping.GroupExpose) vs = group_expose (name_in (value_at vs 0))
+made (Mapping mapping.GroupHide) vs = group_hide (name_in (value_at vs 0))
 
 -- a list gives its items back, and its kinds are one
 back : {X : Type 0} (take_out : Value → X) (make : X → Value) → ((x : X) → take_out (make x) ≡ x) → (xs : List X) → map take_out (map make xs) ≡ xs
@@ -157,7 +202,7 @@ kinds kind make same [] = refl
 kinds kind make same (x ∷ xs) = λ i. same x i ∷ kinds kind make same xs i
 
 made_again : (s : PlanStep) → made (keyword_of s) (values_of s) ≡ s
-unfolding made value_at fabric_in name_in flag_in member_in
+unfolding made value_at fabric_in name_in flag_in member_in number_in
 made_again (alias_put f n ms) = ap (alias_put f n) (back member_in of_port_member (λ m. refl) ms)
 made_again (alias_drop f n) = refl
 made_again (zone_put f n ms) = ap (zone_put f n) (back member_in of_member (λ m. refl) ms)
@@ -167,6 +212,18 @@ made_again (set_drop f n) = refl
 made_again (activate f s) = refl
 made_again (deactivate f) = refl
 made_again (default_zone f d) = refl
+made_again (host_group_put n t hs) = ap (host_group_put n t) (back name_in of_name (λ h. refl) hs)
+made_again (host_group_drop n) = refl
+made_again (group_new n t r) = refl
+made_again (group_drop n) = refl
+made_again (group_host n k) = refl
+made_again (group_unhost n k) = refl
+made_again (group_target n w) = refl
+made_again (group_untarget n w) = refl
+made_again (group_map n u v) = refl
+made_again (group_unmap n u) = refl
+made_again (group_expose n) = refl
+made_again (group_hide n) = refl
 
 -- the kinds of a step's values are those of its form
 two_less : (vs : List Value) (v w : Value) → length vs ≡ length (v ∷ w ∷ vs) - 2
@@ -185,6 +242,18 @@ kinds_of_step (set_drop f n) = refl
 kinds_of_step (activate f s) = refl
 kinds_of_step (deactivate f) = refl
 kinds_of_step (default_zone f d) = refl
+kinds_of_step (host_group_put n t hs) = ap (λ ks. a_name ∷ a_name ∷ ks) (listed_kinds a_name of_name (λ h. refl) (of_name n) (of_name t) hs)
+kinds_of_step (host_group_drop n) = refl
+kinds_of_step (group_new n t r) = refl
+kinds_of_step (group_drop n) = refl
+kinds_of_step (group_host n k) = refl
+kinds_of_step (group_unhost n k) = refl
+kinds_of_step (group_target n w) = refl
+kinds_of_step (group_untarget n w) = refl
+kinds_of_step (group_map n u v) = refl
+kinds_of_step (group_unmap n u) = refl
+kinds_of_step (group_expose n) = refl
+kinds_of_step (group_hide n) = refl
 
 -- as many words as values
 pub as_many_values : (words : List (List ℕ)) (vs : List Value) → SpellsValues words vs → length words ≡ length vs

@@ -4,7 +4,8 @@ use Rattle.std.proofs.lemmas.List.{length-map, take_all}
 use Rattle.fab_plans.specs.Steps.{PlanStep}
 use Rattle.fab_plans.specs.Forms.{keyword_text, form_of, keyword_of, values_of, Takes}
 use Rattle.fab_plans.specs.Plans.{SpellsWords, IsStep}
-use Rattle.fab_plans.specs.Values.{Kind, a_fabric, a_name, kind_of, Value, SpellsValue, SpellsValues, texts_of}
+use Rattle.fab_names.specs.WorldWideNames.{SpellsWwn}
+use Rattle.fab_plans.specs.Values.{Kind, a_wwn, kind_of, Value, of_wwn, SpellsValue, SpellsValues, texts_of}
 use Rattle.fab_plans.specs.Faults.{IsOfKind, IsMisread, IsFirstFault, MemoryOr}
 use Rattle.fab_plans.specs.declared.fault.PlanFaultKind.{PlanFaultKind}
 
@@ -24,6 +25,14 @@ is_step words step count values = (keyword_text (keyword_of step) ∷ texts_of w
 pub of_kind : (word : List ℕ) (v : Value) → SpellsValue word v → IsOfKind (kind_of v) word
 of_kind word v s = record { value = v; same = refl; spelled = s }
 
+-- a word that is no text of a world-wide name is none of its kind
+pub no_wwn : (word : List ℕ) → ((n : ℕ) → ¬ (SpellsWwn word n)) → ¬ (IsOfKind a_wwn word)
+no_wwn word none h = by_value h.value h.same h.spelled
+  where
+    by_value : (v : Value) → kind_of v ≡ a_wwn → SpellsValue word v → ⊥
+    by_value (of_wwn n) same s = none n s
+    by_value v same s = absurd cc
+
 -- what a read past the end gives
 abbrev pub nowhere : Bor (List ℕ)
 nowhere = record { ref_ptr = (0, 0); now = [] }
@@ -34,6 +43,14 @@ two_texts [] h = absurd (omega arith)
 two_texts (v ∷ []) h = absurd (omega arith)
 two_texts (v ∷ w ∷ []) h = refl
 two_texts (v ∷ w ∷ x ∷ words) h = absurd (omega arith)
+
+-- the texts of three words
+pub three_texts : (words : List (Bor (List ℕ))) → length words ≡ 3 → texts_of words ≡ (get_or words 0 nowhere).now ∷ (get_or words 1 nowhere).now ∷ (get_or words 2 nowhere).now ∷ []
+three_texts [] h = absurd (omega arith)
+three_texts (v ∷ []) h = absurd (omega arith)
+three_texts (v ∷ w ∷ []) h = absurd (omega arith)
+three_texts (v ∷ w ∷ x ∷ []) h = refl
+three_texts (v ∷ w ∷ x ∷ y ∷ words) h = absurd (omega arith)
 
 -- one word more is read
 pub list_more : {X : Type 0} (make : X → Value) (words : List (Bor (List ℕ))) (xs : List X) (x : X) (i : ℕ) (d : Bor (List ℕ)) → i < length words
@@ -72,16 +89,16 @@ listed_values f n vs [] many front rest = absurd (omega arith)
 listed_values f n vs (v ∷ []) many front rest = absurd (omega arith)
 listed_values f n vs (v ∷ w ∷ words) many front rest = (front.0, (front.1.0, subst (λ ws. SpellsValues (texts_of ws) vs) (after_two_is v w words) rest))
 
--- the first fault of a list behind a fabric and a name is that of the line
-pub listed_fault : (kind : Kind) (f n : Value) (words : List (Bor (List ℕ))) (fault : PlanFaultKind) → 2 < length words → kind_of f ≡ a_fabric → kind_of n ≡ a_name
+-- the first fault of a list behind two words is that of the line
+pub listed_fault : (first second kind : Kind) (f n : Value) (words : List (Bor (List ℕ))) (fault : PlanFaultKind) → 2 < length words → kind_of f ≡ first → kind_of n ≡ second
     → SpellsValues (texts_of (take 2 words)) (f ∷ n ∷ []) → MemoryOr (IsFirstFault (replicate (length (after_two words)) kind) (texts_of (after_two words))) fault
-    → MemoryOr (IsFirstFault (a_fabric ∷ a_name ∷ replicate (length (texts_of words) - 2) kind) (texts_of words)) fault
-listed_fault kind f n [] fault many kf kn front rest = absurd (omega arith)
-listed_fault kind f n (v ∷ []) fault many kf kn front rest = absurd (omega arith)
-listed_fault kind f n (v ∷ w ∷ words) fault many kf kn front (inl memory) = inl memory
-listed_fault kind f n (v ∷ w ∷ words) fault many kf kn front (inr first) =
+    → MemoryOr (IsFirstFault (first ∷ second ∷ replicate (length (texts_of words) - 2) kind) (texts_of words)) fault
+listed_fault first second kind f n [] fault many kf kn front rest = absurd (omega arith)
+listed_fault first second kind f n (v ∷ []) fault many kf kn front rest = absurd (omega arith)
+listed_fault first second kind f n (v ∷ w ∷ words) fault many kf kn front (inl memory) = inl memory
+listed_fault first second kind f n (v ∷ w ∷ words) fault many kf kn front (inr fault_there) =
     let same : length words ≡ length (texts_of (v ∷ w ∷ words)) - 2 = omega (arith, length_texts words) in
-    let rest = subst (λ ws. IsFirstFault (replicate (length ws) kind) (texts_of ws) fault) (after_two_is v w words) first in
+    let rest = subst (λ ws. IsFirstFault (replicate (length ws) kind) (texts_of ws) fault) (after_two_is v w words) fault_there in
     inr (inr (
       record { value = f; same = kf; spelled = front.0 },
       inr (

@@ -15,3 +15,15 @@ pub data PlanStep : Type 0 where
   activate : Fabric → List ℕ → PlanStep
   deactivate : Fabric → PlanStep
   default_zone : Fabric → DefaultFlag → PlanStep
+  host_group_put : List ℕ → List ℕ → List (List ℕ) → PlanStep
+  host_group_drop : List ℕ → PlanStep
+  group_new : List ℕ → List ℕ → List ℕ → PlanStep
+  group_drop : List ℕ → PlanStep
+  group_host : List ℕ → List ℕ → PlanStep
+  group_unhost : List ℕ → List ℕ → PlanStep
+  group_target : List ℕ → ℕ → PlanStep
+  group_untarget : List ℕ → ℕ → PlanStep
+  group_map : List ℕ → ℕ → List ℕ → PlanStep
+  group_unmap : List ℕ → ℕ → PlanStep
+  group_expose : List ℕ → PlanStep
+  group_hide : List ℕ → PlanStep

@@ -7,15 +7,25 @@
 mod fault;
 mod keyword;
 mod line;
+mod mapping_action;
+mod mapping_keyword;
+mod mapping_line;
 mod plan;
 mod print;
 mod step;
 #[cfg(test)]
 mod tests;
 mod word;
+mod zoning_action;
+mod zoning_keyword;
+mod zoning_line;
 
 pub use fault::{PlanFault, PlanFaultKind};
 pub use keyword::Keyword;
+pub use mapping_action::MappingAction;
+pub use mapping_keyword::MappingKeyword;
 pub use plan::{printed_plan_is_read, read_plan};
 pub use print::print_plan;
 pub use step::{Action, Step};
+pub use zoning_action::ZoningAction;
+pub use zoning_keyword::ZoningKeyword;

@@ -6,8 +6,9 @@ ghost use Rattle.fab_plans.specs.Forms.{form_of, Takes};
 ghost use Rattle.fab_plans.specs.Plans.{SpellsStep};
 ghost use Rattle.fab_plans.specs.Faults.{IsLineFault, MemoryOr, ReadsWords};
 
-use crate::word::{fabric, fabric_flag, fabric_name, members, names, port_members};
-use crate::{Action, Keyword, PlanFaultKind, Step};
+use crate::mapping_line::mapping_words;
+use crate::zoning_line::zoning_words;
+use crate::{Keyword, PlanFaultKind, Step};
 use std::alloc::{AllocError, Allocator};
 
 /// The first word of a line.
@@ -34,48 +35,6 @@ fn words_in<A: Allocator>(alloc: A, line: &str) -> Result<Vec<&str, A>, AllocErr
     line.split(' ').collect(alloc)
 }
 
-/// Reads a fabric, a name and members that are no aliases.
-fn alias_put<A: Allocator + Copy>(alloc: A, words: &[&str]) -> Result<Step<A>, PlanFaultKind>
-    requires { Takes (form_of Keyword.AliasPut) (length words.now) }
-    ensures { ReadsWords Keyword.AliasPut (texts_of words.now) result }
-{
-    let (fabric, name) = fabric_name(&words[..2])?;
-    let members = port_members(alloc, &words[2..])?;
-    Ok(Step::new(Action::AliasPut {
-        fabric,
-        name,
-        members,
-    }))
-}
-
-/// Reads a fabric, a name and members.
-fn zone_put<A: Allocator + Copy>(alloc: A, words: &[&str]) -> Result<Step<A>, PlanFaultKind>
-    requires { Takes (form_of Keyword.ZonePut) (length words.now) }
-    ensures { ReadsWords Keyword.ZonePut (texts_of words.now) result }
-{
-    let (fabric, name) = fabric_name(&words[..2])?;
-    let members = members(alloc, &words[2..])?;
-    Ok(Step::new(Action::ZonePut {
-        fabric,
-        name,
-        members,
-    }))
-}
-
-/// Reads a fabric, a name and names of zones.
-fn set_put<A: Allocator + Copy>(alloc: A, words: &[&str]) -> Result<Step<A>, PlanFaultKind>
-    requires { Takes (form_of Keyword.SetPut) (length words.now) }
-    ensures { ReadsWords Keyword.SetPut (texts_of words.now) result }
-{
-    let (fabric, name) = fabric_name(&words[..2])?;
-    let zones = names(alloc, &words[2..])?;
-    Ok(Step::new(Action::SetPut {
-        fabric,
-        name,
-        zones,
-    }))
-}
-
 /// Reads the words that follow the first.
 fn read_words<A: Allocator + Copy>(
     alloc: A,
@@ -86,33 +45,8 @@ fn read_words<A: Allocator + Copy>(
     ensures { ReadsWords keyword (texts_of words.now) result }
 {
     match keyword {
-        Keyword::AliasPut => alias_put(alloc, words),
-        Keyword::ZonePut => zone_put(alloc, words),
-        Keyword::SetPut => set_put(alloc, words),
-        Keyword::AliasDrop => {
-            let (fabric, name) = fabric_name(words)?;
-            Ok(Step::new(Action::AliasDrop { fabric, name }))
-        }
-        Keyword::ZoneDrop => {
-            let (fabric, name) = fabric_name(words)?;
-            Ok(Step::new(Action::ZoneDrop { fabric, name }))
-        }
-        Keyword::SetDrop => {
-            let (fabric, name) = fabric_name(words)?;
-            Ok(Step::new(Action::SetDrop { fabric, name }))
-        }
-        Keyword::Activate => {
-            let (fabric, set) = fabric_name(words)?;
-            Ok(Step::new(Action::Activate { fabric, set }))
-        }
-        Keyword::Deactivate => {
-            let fabric = fabric(words)?;
-            Ok(Step::new(Action::Deactivate { fabric }))
-        }
-        Keyword::Default => {
-            let (fabric, flag) = fabric_flag(words)?;
-            Ok(Step::new(Action::Default { fabric, flag }))
-        }
+        Keyword::Zoning(keyword) => zoning_words(alloc, keyword, words),
+        Keyword::Mapping(keyword) => mapping_words(alloc, keyword, words),
     }
 }
 

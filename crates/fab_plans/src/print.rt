@@ -3,10 +3,11 @@ ghost use Rattle.std.specs.Prelude.{◌≡◌, ℕ, List, ◌++◌, map, OnOk, I
 ghost use Rattle.std.specs.List.{flat_map};
 ghost use Rattle.std.specs.String.{string_bytes};
 ghost use Rattle.fab_plans.specs.Values.{Value, of_name, of_member, of_port_member, flag_text};
+ghost use Rattle.fab_plans.specs.Actions.{zoning_step, mapping_step};
 ghost use Rattle.fab_plans.specs.Forms.{values_of};
 ghost use Rattle.fab_plans.specs.Plans.{spaced, step_text, plan_text};
 
-use crate::{Action, Step};
+use crate::{Action, MappingAction, Step, ZoningAction};
 use fab_names::{Member, Name};
 use fab_zoning::DefaultFlag;
 use std::alloc::{AllocError, Allocator};
@@ -42,6 +43,87 @@ fn push_members<A: Allocator>(text: &mut String<A>, members: &[Member]) -> Resul
     Ok(())
 }
 
+/// Adds the words that follow the first of a step of zoning.
+fn push_zoning<A: Allocator, B: Allocator + Copy>(
+    text: &mut String<A>,
+    action: &ZoningAction<B>,
+) -> Result<(), AllocError>
+    ensures { OnOk result (string_bytes text.new ≡ string_bytes text.old ++ flat_map spaced (values_of (zoning_step action.now))) }
+{
+    match action {
+        ZoningAction::AliasPut {
+            fabric,
+            name,
+            members,
+        }
+        | ZoningAction::ZonePut {
+            fabric,
+            name,
+            members,
+        } => {
+            write!(text, " {fabric} {name}")?;
+            push_members(text, members)
+        }
+        ZoningAction::SetPut {
+            fabric,
+            name,
+            zones,
+        } => {
+            write!(text, " {fabric} {name}")?;
+            push_names(text, zones)
+        }
+        ZoningAction::AliasDrop { fabric, name }
+        | ZoningAction::ZoneDrop { fabric, name }
+        | ZoningAction::SetDrop { fabric, name } => write!(text, " {fabric} {name}"),
+        ZoningAction::Activate { fabric, set } => write!(text, " {fabric} {set}"),
+        ZoningAction::Deactivate { fabric } => write!(text, " {fabric}"),
+        ZoningAction::Default { fabric, flag } => {
+            let flag = flag_word(*flag);
+            write!(text, " {fabric} {flag}")
+        }
+    }
+}
+
+/// Adds the words that follow the first of a step of mapping.
+fn push_mapping<A: Allocator, B: Allocator + Copy>(
+    text: &mut String<A>,
+    action: &MappingAction<B>,
+) -> Result<(), AllocError>
+    ensures { OnOk result (string_bytes text.new ≡ string_bytes text.old ++ flat_map spaced (values_of (mapping_step action.now))) }
+{
+    match action {
+        MappingAction::HostGroupPut {
+            name,
+            tenant,
+            hosts,
+        } => {
+            write!(text, " {name} {tenant}")?;
+            push_names(text, hosts)
+        }
+        MappingAction::GroupNew {
+            name,
+            tenant,
+            array,
+        } => write!(text, " {name} {tenant} {array}"),
+        MappingAction::HostGroupDrop { name } | MappingAction::GroupDrop { name } => {
+            write!(text, " {name}")
+        }
+        MappingAction::GroupHost { group, host_group }
+        | MappingAction::GroupUnhost { group, host_group } => write!(text, " {group} {host_group}"),
+        MappingAction::GroupTarget { group, target }
+        | MappingAction::GroupUntarget { group, target } => write!(text, " {group} {target}"),
+        MappingAction::GroupMap {
+            group,
+            unit,
+            volume,
+        } => write!(text, " {group} {unit} {volume}"),
+        MappingAction::GroupUnmap { group, unit } => write!(text, " {group} {unit}"),
+        MappingAction::GroupExpose { group } | MappingAction::GroupHide { group } => {
+            write!(text, " {group}")
+        }
+    }
+}
+
 /// Adds the words that follow the first of a step.
 fn push_values<A: Allocator, B: Allocator + Copy>(
     text: &mut String<A>,
@@ -50,36 +132,8 @@ fn push_values<A: Allocator, B: Allocator + Copy>(
     ensures { OnOk result (string_bytes text.new ≡ string_bytes text.old ++ flat_map spaced (values_of step.now)) }
 {
     match step.action() {
-        Action::AliasPut {
-            fabric,
-            name,
-            members,
-        }
-        | Action::ZonePut {
-            fabric,
-            name,
-            members,
-        } => {
-            write!(text, " {fabric} {name}")?;
-            push_members(text, members)
-        }
-        Action::SetPut {
-            fabric,
-            name,
-            zones,
-        } => {
-            write!(text, " {fabric} {name}")?;
-            push_names(text, zones)
-        }
-        Action::AliasDrop { fabric, name }
-        | Action::ZoneDrop { fabric, name }
-        | Action::SetDrop { fabric, name } => write!(text, " {fabric} {name}"),
-        Action::Activate { fabric, set } => write!(text, " {fabric} {set}"),
-        Action::Deactivate { fabric } => write!(text, " {fabric}"),
-        Action::Default { fabric, flag } => {
-            let flag = flag_word(*flag);
-            write!(text, " {fabric} {flag}")
-        }
+        Action::Zoning(action) => push_zoning(text, action),
+        Action::Mapping(action) => push_mapping(text, action),
     }
 }
 

@@ -1,12 +1,15 @@
 //! The words that follow the first word of a line.
 ghost use Rattle.std.specs.Prelude.{◌≡◌, ℕ, List, [], ◌∷◌, map, length, replicate, MatchResult};
-ghost use Rattle.fab_plans.specs.Values.{SpellsValue, SpellsValues, texts_of, a_fabric, a_name, a_flag, a_member, a_port_member, of_fabric, of_name, of_flag, of_member, of_port_member};
+ghost use Rattle.fab_plans.specs.Values.{SpellsValue, SpellsValues, texts_of, a_fabric, a_name, a_flag, a_member, a_port_member, a_wwn, a_unit, of_fabric, of_name, of_flag, of_member, of_port_member, of_wwn, of_unit};
 ghost use Rattle.fab_plans.specs.Faults.{IsMisread, IsFirstFault, MemoryOr};
 
 use crate::PlanFaultKind;
-use fab_names::{Fabric, Member, Name};
+use fab_names::{Fabric, Member, Name, Wwn, read_number};
 use fab_zoning::DefaultFlag;
 use std::alloc::Allocator;
+
+/// The greatest logical unit number.
+const LAST_UNIT: u128 = 16383;
 
 /// Reads a fabric.
 fn read_fabric(word: &str) -> Result<Fabric, PlanFaultKind>
@@ -59,6 +62,29 @@ fn read_port_member(word: &str) -> Result<Member, PlanFaultKind>
     }
 }
 
+/// Reads a world-wide name.
+fn read_wwn(word: &str) -> Result<Wwn, PlanFaultKind>
+    ensures { MatchResult result (λ w. SpellsValue word.now (of_wwn w)) (IsMisread a_wwn word.now) }
+{
+    match Wwn::read(word) {
+        Ok(wwn) => Ok(wwn),
+        Err(_) => Err(PlanFaultKind::Wwn),
+    }
+}
+
+/// Reads a logical unit number.
+fn read_unit(word: &str) -> Result<u16, PlanFaultKind>
+    ensures { MatchResult result (λ u. SpellsValue word.now (of_unit u)) (IsMisread a_unit word.now) }
+{
+    let Some(number) = read_number(word.as_bytes()) else {
+        return Err(PlanFaultKind::Number);
+    };
+    if number > LAST_UNIT {
+        return Err(PlanFaultKind::Number);
+    }
+    Ok(number as u16)
+}
+
 /// Reads a fabric and a name.
 pub(crate) fn fabric_name(words: &[&str]) -> Result<(Fabric, Name), PlanFaultKind>
     requires { length words.now ≡ 2 }
@@ -89,6 +115,78 @@ pub(crate) fn fabric(words: &[&str]) -> Result<Fabric, PlanFaultKind>
         (IsFirstFault (a_fabric ∷ []) (texts_of words.now)) }
 {
     read_fabric(words[0])
+}
+
+/// Reads one name.
+pub(crate) fn name(words: &[&str]) -> Result<Name, PlanFaultKind>
+    requires { length words.now ≡ 1 }
+    ensures { MatchResult result
+        (λ n. SpellsValues (texts_of words.now) (of_name n ∷ []))
+        (IsFirstFault (a_name ∷ []) (texts_of words.now)) }
+{
+    read_name(words[0])
+}
+
+/// Reads two names.
+pub(crate) fn two_names(words: &[&str]) -> Result<(Name, Name), PlanFaultKind>
+    requires { length words.now ≡ 2 }
+    ensures { MatchResult result
+        (λ r. SpellsValues (texts_of words.now) (of_name r.0 ∷ of_name r.1 ∷ []))
+        (IsFirstFault (a_name ∷ a_name ∷ []) (texts_of words.now)) }
+{
+    let first = read_name(words[0])?;
+    let second = read_name(words[1])?;
+    Ok((first, second))
+}
+
+/// Reads three names.
+pub(crate) fn three_names(words: &[&str]) -> Result<(Name, Name, Name), PlanFaultKind>
+    requires { length words.now ≡ 3 }
+    ensures { MatchResult result
+        (λ r. SpellsValues (texts_of words.now) (of_name r.0 ∷ of_name r.1 ∷ of_name r.2 ∷ []))
+        (IsFirstFault (a_name ∷ a_name ∷ a_name ∷ []) (texts_of words.now)) }
+{
+    let first = read_name(words[0])?;
+    let second = read_name(words[1])?;
+    let third = read_name(words[2])?;
+    Ok((first, second, third))
+}
+
+/// Reads a name and a world-wide name.
+pub(crate) fn name_wwn(words: &[&str]) -> Result<(Name, Wwn), PlanFaultKind>
+    requires { length words.now ≡ 2 }
+    ensures { MatchResult result
+        (λ r. SpellsValues (texts_of words.now) (of_name r.0 ∷ of_wwn r.1 ∷ []))
+        (IsFirstFault (a_name ∷ a_wwn ∷ []) (texts_of words.now)) }
+{
+    let name = read_name(words[0])?;
+    let wwn = read_wwn(words[1])?;
+    Ok((name, wwn))
+}
+
+/// Reads a name and a logical unit number.
+pub(crate) fn name_unit(words: &[&str]) -> Result<(Name, u16), PlanFaultKind>
+    requires { length words.now ≡ 2 }
+    ensures { MatchResult result
+        (λ r. SpellsValues (texts_of words.now) (of_name r.0 ∷ of_unit r.1 ∷ []))
+        (IsFirstFault (a_name ∷ a_unit ∷ []) (texts_of words.now)) }
+{
+    let name = read_name(words[0])?;
+    let unit = read_unit(words[1])?;
+    Ok((name, unit))
+}
+
+/// Reads a name, a logical unit number and a name.
+pub(crate) fn name_unit_name(words: &[&str]) -> Result<(Name, u16, Name), PlanFaultKind>
+    requires { length words.now ≡ 3 }
+    ensures { MatchResult result
+        (λ r. SpellsValues (texts_of words.now) (of_name r.0 ∷ of_unit r.1 ∷ of_name r.2 ∷ []))
+        (IsFirstFault (a_name ∷ a_unit ∷ a_name ∷ []) (texts_of words.now)) }
+{
+    let name = read_name(words[0])?;
+    let unit = read_unit(words[1])?;
+    let last = read_name(words[2])?;
+    Ok((name, unit, last))
 }
 
 /// Reads names.

@@ -1,6 +1,6 @@
 use Rattle.fab_plans.specs.Steps.{alias_drop, zone_drop, set_drop, activate, deactivate, default_zone}
 use Rattle.fab_plans.proofs.Words.{is_step}
-use Rattle.fab_plans.proofs.line.read_words.Goals as goal
+use Rattle.fab_plans.proofs.zoning_line.zoning_words.Goals as goal
 
 pub new-requires : goal.new-requires
 new-requires g c = is_step c.args.words.now (alias_drop c.in_ok-fabric-in-AliasDrop.fabric c.in_ok-fabric-in-AliasDrop.name) (rw c.in-AliasDrop.is at c.requires) c.in_ok-fabric-in-AliasDrop.ensures

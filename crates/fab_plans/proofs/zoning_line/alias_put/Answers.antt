@@ -1,14 +1,14 @@
 use Rattle.std.proofs.Common.{refl, map}
 use Rattle.std.proofs.lemmas.Result.{err_from_is_err_and}
-use Rattle.fab_plans.specs.Values.{a_port_member, of_fabric, of_name, of_port_member}
+use Rattle.fab_plans.specs.Values.{a_fabric, a_name, a_port_member, of_fabric, of_name, of_port_member}
 use Rattle.fab_plans.specs.Steps.{alias_put}
 use Rattle.fab_plans.proofs.Words.{listed_values, listed_fault, spelled, is_step}
-use Rattle.fab_plans.proofs.line.alias_put.Goals as goal
+use Rattle.fab_plans.proofs.zoning_line.alias_put.Goals as goal
 
 pub returns-in_err-members : goal.returns-in_err-members
 returns-in_err-members g c =
     let p = err_from_is_err_and c.from_residual-in_err-members.result c.from_residual-in_err-members.ensures.1 in
-    rw (p.1, p.2) (listed_fault a_port_member (of_fabric c.in_ok-fabric.fabric) (of_name c.in_ok-fabric.name) c.args.words.now _ c.requires.0 refl refl c.in_ok-fabric.ensures c.in_err-members.ensures)
+    rw (p.1, p.2) (listed_fault a_fabric a_name a_port_member (of_fabric c.in_ok-fabric.fabric) (of_name c.in_ok-fabric.name) c.args.words.now _ c.requires.0 refl refl c.in_ok-fabric.ensures c.in_err-members.ensures)
 
 pub returns : goal.returns
 returns g c =
