@@ -7,3 +7,4 @@ pub mod Found
 pub mod Shapes
 pub mod Forms
 pub mod Tables
+pub mod Told

@@ -1,6 +1,7 @@
 //! Why a policy's text is refused.
-ghost use Rattle.std.specs.Prelude.{◌≡◌};
+ghost use Rattle.std.specs.Prelude.{◌≡◌, Some};
 ghost use Rattle.fab_policy.specs.Shapes.{IsMemory};
+ghost use Rattle.fab_policy.specs.Told.{fault_text};
 ghost use Rattle.fab_policy.specs.declared.fault.PolicyFault.TheVariants as fault;
 
 use crate::key::Key;
@@ -32,6 +33,8 @@ pub enum PolicyFault {
 }
 
 impl fmt::Display for PolicyFault {
+    ghost output = { λ e. Some (fault_text e) };
+
     fn fmt<W: fmt::Write>(&self, f: &mut fmt::Formatter<W>) -> fmt::Result {
         match self {
             PolicyFault::Text => write!(f, "the text is no TOML"),

@@ -1,5 +1,6 @@
 -- Exit statuses.
-use Rattle.std.specs.Prelude.{ℕ, ◌≡◌, ◌⊎◌}
+use Rattle.std.specs.Prelude.{ℕ, ◌≡◌, ◌⊎◌, List, [], true, codes}
+use Rattle.clap.specs.Words.{App, fault_of, new_app, with_subcommand}
 use Rattle.fab_program_base.specs.declared.answers.Outcome.{Outcome}
 use Rattle.fab_program_base.specs.declared.answers.Outcome.TheVariants as outcome
 
@@ -13,3 +14,11 @@ exit_status outcome.Empty = 0
 -- done, wrong words, or failed
 abbrev pub IsExitStatus : ℕ → Type 0
 IsExitStatus status = (status ≡ 0) ⊎ ((status ≡ 2) ⊎ (status ≡ 3))
+
+-- the program and its one command, `once`, without which no words are understood
+abbrev pub desk_app : App
+desk_app = let app = new_app (codes "sandesk") in with_subcommand (record app { top = record app.top { subcommand_required = true } }) (new_app (codes "once")).top
+
+-- the words, of which the first is the program's name, are understood: clap finds no fault in them
+abbrev pub AreUnderstood : List (List ℕ) → Type 0
+AreUnderstood words = fault_of desk_app words ≡ []

@@ -1,6 +1,8 @@
 //! The words of the command line, and the exit status.
-ghost use Rattle.std.specs.Prelude.{◌≡◌, ◌⊎◌};
-ghost use Rattle.fab_program.specs.Exits.{IsExitStatus, exit_status};
+ghost use Rattle.std.specs.Prelude.{◌≡◌, ◌≢◌, ◌⊎◌, IfOk, map, string_bytes};
+ghost use Rattle.clap.specs.Words.{app_of, kind_of};
+ghost use Rattle.clap.specs.declared.error.kind.ErrorKind.TheVariants.{OutOfMemory};
+ghost use Rattle.fab_program.specs.Exits.{IsExitStatus, AreUnderstood, desk_app, exit_status};
 
 use crate::answering::answer_one;
 use crate::first::First;
@@ -21,7 +23,9 @@ pub const WRONG_WORDS: u8 = 2;
 pub const FAILED: u8 = 3;
 
 /// The words that are understood.
-fn command_line<'a>(alloc: Global) -> Result<Command<'a>, AllocError> {
+fn command_line<'a>(alloc: Global) -> Result<Command<'a>, AllocError>
+    ensures { IfOk result (λ command. app_of command ≡ desk_app) }
+{
     let once = Command::new(alloc, "once").about(
         "Answers one HTTP request from standard input over a new desk in memory",
     );
@@ -41,7 +45,9 @@ pub fn run<R: Read + Drop, W: Write + Drop, E: Write>(
     writer: W,
     errors: &mut E,
 ) -> u8
-    ensures { IsExitStatus result }
+    ensures status { IsExitStatus result }
+    ensures done { result ≡ 0 → AreUnderstood (map string_bytes words.now) }
+    ensures wrong { result ≡ 2 → ¬ AreUnderstood (map string_bytes words.now) }
 {
     let Ok(command) = command_line(alloc) else {
         return fail(errors, "memory");
@@ -59,7 +65,7 @@ fn once<R: Read + Drop, W: Write + Drop, E: Write>(
     writer: W,
     errors: &mut E,
 ) -> u8
-    ensures { IsExitStatus result }
+    ensures { (result ≡ 0) ⊎ (result ≡ 3) }
 {
     let mut first = First::new(alloc);
     let mut reader = Counted::new(reader);
@@ -80,7 +86,8 @@ fn exit_of<E: Write>(errors: &mut E, outcome: Outcome) -> u8
 
 /// Tells what clap says of the words.
 fn refuse_words<E: Write>(errors: &mut E, error: &Error) -> u8
-    ensures { IsExitStatus result }
+    ensures status { (result ≡ 2) ⊎ (result ≡ 3) }
+    ensures wrong { result ≡ 2 → kind_of error.now ≢ OutOfMemory }
 {
     if error.kind() == ErrorKind::OutOfMemory {
         return fail(errors, "memory");
