@@ -1,0 +1,9 @@
+pub mod Tests
+pub mod Walks
+pub mod Scans
+pub mod SeenMaps
+pub mod SeenSets
+pub mod SeenEntries
+pub mod MapsOfSets
+pub mod Passing
+pub mod Adding

@@ -1,0 +1,4 @@
+pub mod MapsOfSets
+pub mod Room
+pub mod Firsts
+pub mod Adding

@@ -1,0 +1,11 @@
+//! Finite maps, finite maps to finite sets, and the trees that they are kept in: the words of the
+//! crates above for them, and what several of them do with such trees.
+//!
+//! It knows nothing of storage networks: keys are of any type with an order.
+#![tactic(auto)]
+
+mod listed;
+mod room;
+
+pub use listed::set_of;
+pub use room::is_full;
