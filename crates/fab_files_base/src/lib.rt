@@ -1,0 +1,5 @@
+//! Files that are handed in as bytes: the port list of a fabric.
+#![tactic(auto)]
+
+pub mod port_list;
+pub mod texts;

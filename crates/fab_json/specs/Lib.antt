@@ -1,0 +1,4 @@
+pub mod Counting
+pub mod Failures
+pub mod Received
+pub mod Sent
