@@ -99,6 +99,16 @@ impl<A: Allocator + Copy> ActiveRows<A> {
         Ok(())
     }
 
+    /// Whether the row is there.
+    pub fn contains(&self, zone: &Name, member: &Member) -> bool
+        ensures { result ≡ set.contains self.now (zone.now, member.now) }
+    {
+        match self.zones_by_member.get(member) {
+            Some(zones) => zones.contains(zone),
+            None => false,
+        }
+    }
+
     /// The zones that have the port.
     pub fn zones_of<'a>(&'a self, port: &Port) -> PortZones<'a, A>
         ensures { (z : List ℕ) → (in_zones result z ≡ true) ↔ Holds self.now port.now z }

@@ -4,7 +4,7 @@ ghost use Rattle.std.specs.FinMap as map;
 ghost use Rattle.std.specs.FinSet as set;
 ghost use Rattle.fab_zoning.specs.Rows.{IsPlain};
 ghost use Rattle.fab_zoning.specs.Zonings.{new_zoning};
-ghost use Rattle.fab_zoning.specs.Joins.{IsLoggedInAt, Joined, Explains};
+ghost use Rattle.fab_zoning.specs.Joins.{IsLoggedInAt, Holds, Joined, Explains};
 ghost use Rattle.fab_zoning.specs.Resolved.{AreResolved};
 ghost use Rattle.fab_zoning.specs.Steps.{IsListing, IsListingFault, CanPutAlias, IsPutAliasFault, CanPutZone, IsPutZoneFault, CanPutSet, IsPutSetFault, CanDropAlias, IsDropAliasFault, CanDropZone, IsDropZoneFault, IsDropSetFault, IsActivateFault};
 
@@ -346,6 +346,41 @@ impl<A: Allocator + Copy> Zoning<A> {
             return None;
         }
         Some(Why::Default)
+    }
+
+    /// The fabric whose zoning it is.
+    pub fn fabric(&self) -> Fabric
+        ensures { result ≡ self.now.fabric }
+    {
+        self.fabric
+    }
+
+    /// The name of the active set, if one is active.
+    pub fn active(&self) -> Option<Name>
+        ensures { result ≡ self.now.active }
+    {
+        self.active
+    }
+
+    /// What the default zone permits.
+    pub fn flag(&self) -> DefaultFlag
+        ensures { result ≡ self.now.flag }
+    {
+        self.flag
+    }
+
+    /// Whether the row of a zone and a member is active. It takes no memory.
+    pub fn has_active(&self, zone: &Name, member: &Member) -> bool
+        ensures { result ≡ set.contains self.now.rows (zone.now, member.now) }
+    {
+        self.rows.contains(zone, member)
+    }
+
+    /// Whether a zone of the active set has the port, wherever it is logged in. It takes no memory.
+    pub fn has_in_zone(&self, port: &Port, zone: &Name) -> bool
+        ensures { IsTrue result ↔ Holds self.now.rows port.now zone.now }
+    {
+        self.rows.zones_of(port).contains(zone)
     }
 
     /// An equal zoning.
