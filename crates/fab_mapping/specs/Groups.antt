@@ -6,6 +6,7 @@ use Rattle.std.specs.FinMap as map
 use Rattle.std.specs.FinSet as set
 use Rattle.fab_names.specs.Orders.{name_cmp}
 use Rattle.fab_names.specs.Codes.{name_code}
+use Rattle.fab_mapping.specs.declared.limits.TheConstants.{MOST_GROUPS_SERVED, MOST_TARGETS, MOST_UNITS}
 use Rattle.fab_mapping.specs.declared.fault.MappingFault.{MappingFault}
 use Rattle.fab_mapping.specs.declared.fault.MappingFault.TheVariants.{UnitTaken, Limit, Memory}
 use Rattle.fab_mapping.specs.declared.fault.MappingLimit.TheVariants.{Parts}
@@ -89,17 +90,17 @@ exposed_as exposed g = record g { exposed = exposed }
 
 -- ---- what one part more needs
 
--- this host group is there already, or there is room for it: 64 at most
+-- this host group is there already, or there is room for it
 abbrev pub HasRoomForHosts : StorageGroupRows → List ℕ → Type 0
-HasRoomForHosts g hosts = (set.contains g.host_groups hosts ≡ true) ⊎ (set.len g.host_groups < 64)
+HasRoomForHosts g hosts = (set.contains g.host_groups hosts ≡ true) ⊎ (set.len g.host_groups < MOST_GROUPS_SERVED)
 
--- this target is there already, or there is room for it: 32 at most
+-- this target is there already, or there is room for it
 abbrev pub HasRoomForTarget : StorageGroupRows → ℕ → Type 0
-HasRoomForTarget g target = (set.contains g.targets target ≡ true) ⊎ (set.len g.targets < 32)
+HasRoomForTarget g target = (set.contains g.targets target ≡ true) ⊎ (set.len g.targets < MOST_TARGETS)
 
--- a volume is at this unit already, or there is room for one: 256 at most
+-- a volume is at this unit already, or there is room for one
 abbrev pub HasRoomForUnit : StorageGroupRows → ℕ → Type 0
-HasRoomForUnit g unit = (map.contains_key g.units unit ≡ true) ⊎ (map.len g.units < 256)
+HasRoomForUnit g unit = (map.contains_key g.units unit ≡ true) ⊎ (map.len g.units < MOST_UNITS)
 
 -- no other volume is at this unit
 abbrev pub HasFreeUnit : StorageGroupRows → ℕ → List ℕ → Type 0
@@ -107,21 +108,21 @@ HasFreeUnit g unit volume = (other : List ℕ) → map.get g.units unit ≡ Some
 
 -- ---- what refuses one part more
 
--- it has 64 host groups, and this one is not among them
+-- it has as many host groups as it may have, and this one is not among them
 abbrev pub AddHostsLimit : StorageGroupRows → List ℕ → MappingFault → Type 0
-AddHostsLimit g hosts (Limit Parts) = (set.contains g.host_groups hosts ≡ false) × (64 ≤ set.len g.host_groups)
+AddHostsLimit g hosts (Limit Parts) = (set.contains g.host_groups hosts ≡ false) × (MOST_GROUPS_SERVED ≤ set.len g.host_groups)
 AddHostsLimit g hosts Memory = Unit {0}
 AddHostsLimit g hosts _ = ⊥
 
--- it has 32 targets, and this one is not among them
+-- it has as many targets as it may have, and this one is not among them
 abbrev pub AddTargetLimit : StorageGroupRows → ℕ → MappingFault → Type 0
-AddTargetLimit g target (Limit Parts) = (set.contains g.targets target ≡ false) × (32 ≤ set.len g.targets)
+AddTargetLimit g target (Limit Parts) = (set.contains g.targets target ≡ false) × (MOST_TARGETS ≤ set.len g.targets)
 AddTargetLimit g target Memory = Unit {0}
 AddTargetLimit g target _ = ⊥
 
--- another volume is at this unit; or none is, and it has 256 units
+-- another volume is at this unit; or none is, and it has as many units as it may have
 abbrev pub MapRefusal : StorageGroupRows → ℕ → List ℕ → MappingFault → Type 0
 MapRefusal g unit volume (UnitTaken u) = (u ≡ unit) × ((other : List ℕ) × (map.get g.units unit ≡ Some other) × (other ≢ volume))
-MapRefusal g unit volume (Limit Parts) = (map.get g.units unit ≡ None) × (256 ≤ map.len g.units)
+MapRefusal g unit volume (Limit Parts) = (map.get g.units unit ≡ None) × (MOST_UNITS ≤ map.len g.units)
 MapRefusal g unit volume Memory = Unit {0}
 MapRefusal g unit volume _ = ⊥

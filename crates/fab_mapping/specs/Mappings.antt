@@ -9,6 +9,7 @@ use Rattle.fab_names.specs.Codes.{name_code}
 use Rattle.fab_inventory.specs.declared.holder.Volume.{Volume}
 use Rattle.fab_inventory.specs.Holders.{holder_in}
 use Rattle.fab_inventory.specs.Inventories.{InventoryRows, IsHost, IsArray}
+use Rattle.fab_mapping.specs.declared.limits.TheConstants.{MOST_HOSTS, MOST_HOST_GROUPS, MOST_STORAGE_GROUPS, LAST_UNIT}
 use Rattle.fab_mapping.specs.declared.fault.MappingFault.{MappingFault}
 use Rattle.fab_mapping.specs.declared.fault.MappingFault.TheVariants.{Unknown, UnknownPort, Exists, InUse, WrongArray, UnitTaken, NotMapped, Limit, Memory}
 use Rattle.fab_mapping.specs.declared.fault.MappingLimit.TheVariants.{HostGroups, Hosts, Groups, Parts, UnitNumber}
@@ -56,25 +57,25 @@ pub record IsFirstNoHost (v : InventoryRows) (hosts : List (List ℕ)) (n : List
   pub unknown : ¬ IsHost v.holders n
   pub before : All (IsHost v.holders) (take at hosts)
 
--- there is no host group of this name, and there are 2048
+-- there is no host group of this name, and there are as many as there may be
 abbrev pub HasNoRoom : {X : Type 0} → map.FinMap name_cmp X → List ℕ → Type 0
-HasNoRoom m name = (map.contains_key m name ≡ false) × (2048 ≤ map.len m)
+HasNoRoom m name = (map.contains_key m name ≡ false) × (MOST_HOST_GROUPS ≤ map.len m)
 
--- a group of this name is there, or there are fewer than 2048
+-- a group of this name is there, or there are fewer than there may be
 abbrev pub HasRoom : {X : Type 0} → map.FinMap name_cmp X → List ℕ → Type 0
-HasRoom m name = map.contains_key m name ≡ false → map.len m < 2048
+HasRoom m name = map.contains_key m name ≡ false → map.len m < MOST_HOST_GROUPS
 
 -- nothing refuses the host group
 pub record CanPutHostGroup (v : MappingRows) (inventory : InventoryRows) (name : List ℕ) (hosts : List (List ℕ)) : Type 0 where
-  pub few : length hosts ≤ 255
+  pub few : length hosts ≤ MOST_HOSTS
   pub known : All (IsHost inventory.holders) hosts
   pub room : HasRoom v.host_groups name
 
 -- what refuses it, in this order
 abbrev pub PutHostGroupFails : MappingRows → InventoryRows → List ℕ → List (List ℕ) → MappingFault → Type 0
-PutHostGroupFails v inventory name hosts (Limit Hosts) = 255 < length hosts
-PutHostGroupFails v inventory name hosts (Unknown n) = (length hosts ≤ 255) × IsFirstNoHost inventory hosts n
-PutHostGroupFails v inventory name hosts (Limit HostGroups) = (length hosts ≤ 255) × All (IsHost inventory.holders) hosts × HasNoRoom v.host_groups name
+PutHostGroupFails v inventory name hosts (Limit Hosts) = MOST_HOSTS < length hosts
+PutHostGroupFails v inventory name hosts (Unknown n) = (length hosts ≤ MOST_HOSTS) × IsFirstNoHost inventory hosts n
+PutHostGroupFails v inventory name hosts (Limit HostGroups) = (length hosts ≤ MOST_HOSTS) × All (IsHost inventory.holders) hosts × HasNoRoom v.host_groups name
 PutHostGroupFails v inventory name hosts Memory = Unit {0}
 PutHostGroupFails v inventory name hosts _ = ⊥
 
@@ -103,13 +104,13 @@ DropHostGroupFails v name _ = ⊥
 pub record CanMakeGroup (v : MappingRows) (inventory : InventoryRows) (name array : List ℕ) : Type 0 where
   pub fresh : map.contains_key v.groups name ≡ false
   pub on_array : IsArray inventory.holders array
-  pub room : map.len v.groups < 2048
+  pub room : map.len v.groups < MOST_STORAGE_GROUPS
 
 -- what refuses it, in this order
 abbrev pub NewGroupFails : MappingRows → InventoryRows → List ℕ → List ℕ → MappingFault → Type 0
 NewGroupFails v inventory name array (Exists n) = (n ≡ name) × (map.contains_key v.groups name ≡ true)
 NewGroupFails v inventory name array (Unknown n) = (n ≡ array) × (map.contains_key v.groups name ≡ false) × ¬ IsArray inventory.holders array
-NewGroupFails v inventory name array (Limit Groups) = (map.contains_key v.groups name ≡ false) × IsArray inventory.holders array × (2048 ≤ map.len v.groups)
+NewGroupFails v inventory name array (Limit Groups) = (map.contains_key v.groups name ≡ false) × IsArray inventory.holders array × (MOST_STORAGE_GROUPS ≤ map.len v.groups)
 NewGroupFails v inventory name array Memory = Unit {0}
 NewGroupFails v inventory name array _ = ⊥
 
@@ -169,14 +170,14 @@ IsVolumeOn inventory array volume = (x : Volume) × (map.get inventory.volumes v
 abbrev pub IsVolumeElsewhere : InventoryRows → List ℕ → List ℕ → Type 0
 IsVolumeElsewhere inventory array volume = (x : Volume) × (map.get inventory.volumes volume ≡ Some x) × (x.array ≢ array)
 
--- what refuses to map a volume, in this order: a unit above 16383, no such storage group, no such
+-- what refuses to map a volume, in this order: a unit above the last, no such storage group, no such
 -- volume, a volume on another array, another volume at the unit, or one too many
 abbrev pub MapFails : MappingRows → InventoryRows → List ℕ → ℕ → List ℕ → MappingFault → Type 0
-MapFails v inventory name unit volume (Limit UnitNumber) = 16383 < unit
-MapFails v inventory name unit volume (Unknown n) = (unit ≤ 16383) × (NamesNoGroup v name (Unknown n) ⊎ ((n ≡ volume) × GroupHas v name (λ _. map.get inventory.volumes volume ≡ None)))
-MapFails v inventory name unit volume WrongArray = (unit ≤ 16383) × GroupHas v name (λ g. IsVolumeElsewhere inventory g.array volume)
-MapFails v inventory name unit volume (UnitTaken u) = (unit ≤ 16383) × GroupHas v name (λ g. IsVolumeOn inventory g.array volume × MapRefusal g unit volume (UnitTaken u))
-MapFails v inventory name unit volume (Limit Parts) = (unit ≤ 16383) × GroupHas v name (λ g. IsVolumeOn inventory g.array volume × MapRefusal g unit volume (Limit Parts))
+MapFails v inventory name unit volume (Limit UnitNumber) = LAST_UNIT < unit
+MapFails v inventory name unit volume (Unknown n) = (unit ≤ LAST_UNIT) × (NamesNoGroup v name (Unknown n) ⊎ ((n ≡ volume) × GroupHas v name (λ _. map.get inventory.volumes volume ≡ None)))
+MapFails v inventory name unit volume WrongArray = (unit ≤ LAST_UNIT) × GroupHas v name (λ g. IsVolumeElsewhere inventory g.array volume)
+MapFails v inventory name unit volume (UnitTaken u) = (unit ≤ LAST_UNIT) × GroupHas v name (λ g. IsVolumeOn inventory g.array volume × MapRefusal g unit volume (UnitTaken u))
+MapFails v inventory name unit volume (Limit Parts) = (unit ≤ LAST_UNIT) × GroupHas v name (λ g. IsVolumeOn inventory g.array volume × MapRefusal g unit volume (Limit Parts))
 MapFails v inventory name unit volume Memory = Unit {0}
 MapFails v inventory name unit volume _ = ⊥
 

@@ -70,6 +70,13 @@ impl<A: Allocator + Copy> HostGroup<A> {
         self.tenant
     }
 
+    /// Whether the host is in it.
+    pub fn has_host(&self, host: &Name) -> bool
+        ensures { result ≡ set.contains self.now.hosts host.now }
+    {
+        self.hosts.contains(host)
+    }
+
     /// Its hosts, in the order of their names.
     pub fn hosts(&self) -> Iter<'_, Name>
         ensures hosts { set.from_list result ≡ self.now.hosts }

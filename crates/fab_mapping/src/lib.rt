@@ -4,6 +4,7 @@
 mod claims;
 mod fault;
 mod host_group;
+mod limits;
 mod mapping;
 mod nexus;
 mod search;
@@ -13,6 +14,10 @@ mod tests;
 
 pub use fault::{MappingFault, MappingLimit};
 pub use host_group::HostGroup;
+pub use limits::{
+    LAST_UNIT, MOST_GROUPS_SERVED, MOST_HOST_GROUPS, MOST_HOSTS, MOST_STORAGE_GROUPS, MOST_TARGETS,
+    MOST_UNITS,
+};
 pub use mapping::Mapping;
 pub use nexus::Nexus;
 pub use storage_group::StorageGroup;

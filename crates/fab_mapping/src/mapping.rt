@@ -7,6 +7,7 @@ ghost use Rattle.fab_mapping.specs.Groups.{host_group_of, new_storage_group, wit
 ghost use Rattle.fab_mapping.specs.Mappings.{no_groups, IsLeastClash, HasNoClash, CanPutHostGroup, PutHostGroupFails, IsUnservedIn, DropHostGroupFails, CanMakeGroup, NewGroupFails, NamesNoGroup, ChangesGroup, GroupHas, AddHostsFails, RemoveHostsFails, IsPortOf, AddTargetFails, RemoveTargetFails, IsVolumeOn, MapFails, UnmapFails};
 
 use crate::claims::{claims_of, first_clash};
+use crate::limits::{LAST_UNIT, MOST_HOST_GROUPS, MOST_HOSTS, MOST_STORAGE_GROUPS};
 use crate::search::{first_no_host, first_serving, is_array, is_held_by};
 use crate::{HostGroup, MappingFault, MappingLimit, Nexus, StorageGroup};
 use fab_inventory::Inventory;
@@ -15,18 +16,6 @@ use std::alloc::{AllocError, Allocator};
 use std::collections::BTreeMap;
 use std::collections::btree_map::Iter;
 use std::marker::Model;
-
-/// How many hosts may be listed for a host group.
-const MOST_HOSTS: usize = 255;
-
-/// How many host groups there may be.
-const MOST_HOST_GROUPS: usize = 2048;
-
-/// How many storage groups there may be.
-const MOST_GROUPS: usize = 2048;
-
-/// The greatest logical unit number.
-const LAST_UNIT: u16 = 16383;
 
 /// Host groups and storage groups: which host may meet which volume at which target port under
 /// which logical unit number (the storage groups of SNIA Swordfish).
@@ -195,7 +184,7 @@ impl<A: Allocator + Copy> Mapping<A> {
         if !is_array(inventory, &array) {
             return Err(MappingFault::Unknown(array));
         }
-        if self.groups.len() >= MOST_GROUPS {
+        if self.groups.len() >= MOST_STORAGE_GROUPS {
             return Err(MappingFault::Limit(MappingLimit::Groups));
         }
         let group = StorageGroup::new(self.alloc, tenant, array);
@@ -332,7 +321,7 @@ impl<A: Allocator + Copy> Mapping<A> {
         volume: &Name,
         inventory: &Inventory<A>,
     ) -> Result<(), MappingFault>
-        ensures unit { OnOk result (unit ≤ 16383) }
+        ensures unit { OnOk result (unit ≤ LAST_UNIT) }
         ensures on_array { OnOk result (GroupHas self.old name.now (λ g. IsVolumeOn inventory.now g.array volume.now)) }
         ensures free { OnOk result (GroupHas self.old name.now (λ g. HasFreeUnit g unit volume.now)) }
         ensures room { OnOk result (GroupHas self.old name.now (λ g. HasRoomForUnit g unit)) }

@@ -7,20 +7,12 @@ ghost use Rattle.fab_names.specs.Orders.{name_cmp};
 ghost use Rattle.std.specs.FinMap as map;
 ghost use Rattle.fab_mapping.specs.Groups.{new_storage_group, with_hosts, without_hosts, with_target, without_target, with_unit, without_unit, exposed_as, HasRoomForHosts, HasRoomForTarget, HasRoomForUnit, HasFreeUnit, AddHostsLimit, AddTargetLimit, MapRefusal};
 
+use crate::limits::{MOST_GROUPS_SERVED, MOST_TARGETS, MOST_UNITS};
 use crate::{MappingFault, MappingLimit};
 use fab_names::{Name, Wwn};
 use std::alloc::{AllocError, Allocator};
 use std::collections::{BTreeMap, BTreeSet, btree_map, btree_set};
 use std::marker::Model;
-
-/// How many host groups a storage group may have.
-const MOST_HOST_GROUPS: usize = 64;
-
-/// How many targets a storage group may have.
-const MOST_TARGETS: usize = 32;
-
-/// How many units a storage group may have.
-const MOST_UNITS: usize = 256;
 
 /// A storage group: while it is exposed, each host of its host groups meets, at each of its target
 /// ports, each of its volumes at its logical unit number (SNIA Swordfish). Its targets and volumes
@@ -115,15 +107,22 @@ impl<A: Allocator + Copy> StorageGroup<A> {
         self.units.iter()
     }
 
+    /// The volume at the logical unit number.
+    pub fn unit(&self, unit: u16) -> Option<Name>
+        ensures { result ≡ map.get self.now.units unit }
+    {
+        self.units.get(&unit).copied()
+    }
+
     /// Whether the host group is in it.
-    pub(crate) fn has_hosts(&self, hosts: &Name) -> bool
+    pub fn has_hosts(&self, hosts: &Name) -> bool
         ensures { result ≡ set.contains self.now.host_groups hosts.now }
     {
         self.host_groups.contains(hosts)
     }
 
     /// Whether the port is a target of it.
-    pub(crate) fn has_target(&self, target: &Wwn) -> bool
+    pub fn has_target(&self, target: &Wwn) -> bool
         ensures { result ≡ set.contains self.now.targets target.now }
     {
         self.targets.contains(target)
@@ -146,7 +145,7 @@ impl<A: Allocator + Copy> StorageGroup<A> {
         ensures err { IfErr result (AddHostsLimit self.old hosts) }
         ensures unchanged { OnErr result (self.new ≡ self.old) }
     {
-        if self.host_groups.len() >= MOST_HOST_GROUPS && !self.host_groups.contains(&hosts) {
+        if self.host_groups.len() >= MOST_GROUPS_SERVED && !self.host_groups.contains(&hosts) {
             return Err(MappingFault::Limit(MappingLimit::Parts));
         }
         self.host_groups.insert(hosts)?;

@@ -13,8 +13,8 @@ returns-then-contains_key-clause-err g c = (refl, ap (λ (v : MappingRows). map.
 pub returns-then-not-is_array-clause-err : goal.returns-then-not-is_array-clause-err
 returns-then-not-is_array-clause-err g c = (refl, ap (λ (v : MappingRows). map.contains_key v.groups c.args.name) (sym c.self.view_is) ∙ ap is_some (get_entries name_total c.self.inside.groups.entries c.args.name) ∙ sym c.contains_key.ensures ∙ c.if-contains_key.false, λ is. true≢false (sym (c.is_array.ensures.1 is) ∙ c.if-not-is_array.true))
 
-pub returns-then-len-ge-MOST_GROUPS-clause-err : goal.returns-then-len-ge-MOST_GROUPS-clause-err
-returns-then-len-ge-MOST_GROUPS-clause-err g c = (ap (λ (v : MappingRows). map.contains_key v.groups c.args.name) (sym c.self.view_is) ∙ ap is_some (get_entries name_total c.self.inside.groups.entries c.args.name) ∙ sym c.contains_key.ensures ∙ c.if-contains_key.false, c.is_array.ensures.0 c.if-not-is_array.false, subst (λ n. 2048 ≤ n) (sym (len_entries name_total c.self.inside.groups.entries c.len.ensures.ordered) ∙ ap (λ (v : MappingRows). map.len v.groups) c.self.view_is) (omega (arith, c.len.ensures.len)))
+pub returns-then-len-ge-MOST_STORAGE_GROUPS-clause-err : goal.returns-then-len-ge-MOST_STORAGE_GROUPS-clause-err
+returns-then-len-ge-MOST_STORAGE_GROUPS-clause-err g c = (ap (λ (v : MappingRows). map.contains_key v.groups c.args.name) (sym c.self.view_is) ∙ ap is_some (get_entries name_total c.self.inside.groups.entries c.args.name) ∙ sym c.contains_key.ensures ∙ c.if-contains_key.false, c.is_array.ensures.0 c.if-not-is_array.false, subst (λ n. 2048 ≤ n) (sym (len_entries name_total c.self.inside.groups.entries c.len.ensures.ordered) ∙ ap (λ (v : MappingRows). map.len v.groups) c.self.view_is) (omega (arith, c.len.ensures.len)))
 
 pub returns-clause-can : goal.returns-clause-can
 returns-clause-can g c = record { fresh = ap (λ (v : MappingRows). map.contains_key v.groups c.args.name) (sym c.self.view_is) ∙ ap is_some (get_entries name_total c.self.inside.groups.entries c.args.name) ∙ sym c.contains_key.ensures ∙ c.if-contains_key.false; on_array = c.is_array.ensures.0 c.if-not-is_array.false; room = subst (λ n. n < 2048) (sym (len_entries name_total c.self.inside.groups.entries c.len.ensures.ordered) ∙ ap (λ (v : MappingRows). map.len v.groups) c.self.view_is) (omega (arith, c.len.ensures.len)) }

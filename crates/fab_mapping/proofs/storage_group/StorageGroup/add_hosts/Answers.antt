@@ -6,7 +6,7 @@ use Rattle.fab_mapping.specs.Groups.{StorageGroupRows, HasRoomForHosts, AddHosts
 use Rattle.fab_mapping.proofs.SeenSets.{contains_seen, len_seen, set_insert}
 use Rattle.fab_mapping.proofs.GroupParts.{hosts_put}
 use Rattle.fab_mapping.proofs.storage_group.StorageGroup.add_hosts.Goals as goal
-use Rattle.fab_mapping.proofs.storage_group.StorageGroup.add_hosts.Goals.{else-len-ge-MOST_HOST_GROUPS-via-then-len-ge-MOST_HOST_GROUPS+else-not-contains, else-len-ge-MOST_HOST_GROUPS-via-else-len-ge-MOST_HOST_GROUPS}
+use Rattle.fab_mapping.proofs.storage_group.StorageGroup.add_hosts.Goals.{else-len-ge-MOST_GROUPS_SERVED-via-then-len-ge-MOST_GROUPS_SERVED+else-not-contains, else-len-ge-MOST_GROUPS_SERVED-via-else-len-ge-MOST_GROUPS_SERVED}
 
 pub returns-then-not-contains-clause-err : goal.returns-then-not-contains-clause-err
 returns-then-not-contains-clause-err g c =
@@ -16,9 +16,9 @@ returns-then-not-contains-clause-err g c =
     )
 
 pub returns-clause-room : goal.returns-clause-room
-returns-clause-room g c = subst (λ (v : StorageGroupRows). HasRoomForHosts v c.args.hosts) c.self.view_is (elim c.else-len-ge-MOST_HOST_GROUPS.branch [
-  | else-len-ge-MOST_HOST_GROUPS-via-then-len-ge-MOST_HOST_GROUPS+else-not-contains w ↦ inl (contains_seen name_total c.self.inside.host_groups c.args.hosts ∙ sym w.contains.ensures ∙ w.if-not-contains.false)
-  | else-len-ge-MOST_HOST_GROUPS-via-else-len-ge-MOST_HOST_GROUPS w ↦ inr (subst (λ n. n < 64) (sym (len_seen name_total c.self.inside.host_groups.keys c.len.ensures.ordered)) (omega (arith, c.len.ensures.len, w.if-len-ge-MOST_HOST_GROUPS)))
+returns-clause-room g c = subst (λ (v : StorageGroupRows). HasRoomForHosts v c.args.hosts) c.self.view_is (elim c.else-len-ge-MOST_GROUPS_SERVED.branch [
+  | else-len-ge-MOST_GROUPS_SERVED-via-then-len-ge-MOST_GROUPS_SERVED+else-not-contains w ↦ inl (contains_seen name_total c.self.inside.host_groups c.args.hosts ∙ sym w.contains.ensures ∙ w.if-not-contains.false)
+  | else-len-ge-MOST_GROUPS_SERVED-via-else-len-ge-MOST_GROUPS_SERVED w ↦ inr (subst (λ n. n < 64) (sym (len_seen name_total c.self.inside.host_groups.keys c.len.ensures.ordered)) (omega (arith, c.len.ensures.len, w.if-len-ge-MOST_GROUPS_SERVED)))
 ])
 
 pub returns-clause-ok : goal.returns-clause-ok

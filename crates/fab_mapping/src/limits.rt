@@ -1,0 +1,23 @@
+//! How much of everything a mapping may hold.
+
+/// How many hosts may be listed for a host group.
+pub const MOST_HOSTS: usize = 255;
+
+/// How many host groups a mapping may have.
+pub const MOST_HOST_GROUPS: usize = 2048;
+
+/// How many storage groups a mapping may have.
+pub const MOST_STORAGE_GROUPS: usize = 2048;
+
+/// How many host groups a storage group may have.
+pub const MOST_GROUPS_SERVED: usize = 64;
+
+/// How many target ports a storage group may have.
+pub const MOST_TARGETS: usize = 32;
+
+/// How many logical unit numbers of a storage group may have a volume.
+pub const MOST_UNITS: usize = 256;
+
+/// The greatest logical unit number: the last of 14 bits (the flat space addresses of SCSI
+/// Architecture Model 5).
+pub const LAST_UNIT: u16 = 16383;
