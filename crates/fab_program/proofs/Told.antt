@@ -1,10 +1,10 @@
 -- An answer, from what was heard and what was told.
 use Rattle.std.proofs.Common.{ℕ, ◌≡◌, List, [], Option, None, Some, IfSome, inr}
-use Rattle.fab_program_base.specs.Spelling.{Order, asked, Spells}
-use Rattle.fab_program_base.specs.Telling.{Tells, failures_after_told}
-use Rattle.fab_program_base.specs.declared.answers.Reply.{Reply}
-use Rattle.fab_program_base.specs.declared.answers.Outcome.{Outcome}
-use Rattle.fab_program_base.specs.declared.answers.Outcome.TheVariants as outcome
+use Rattle.fab_wire_base.specs.Spelling.{Order, asked, Spells}
+use Rattle.fab_wire_base.specs.Telling.{Tells, failures_after_told}
+use Rattle.fab_wire_base.specs.declared.answers.Reply.{Reply}
+use Rattle.fab_wire_base.specs.declared.answers.Outcome.{Outcome}
+use Rattle.fab_wire_base.specs.declared.answers.Outcome.TheVariants as outcome
 use Rattle.fab_program.specs.World.{World}
 use Rattle.fab_program.specs.Acting.{Acts}
 use Rattle.fab_program.specs.Answering.{Replies, Answers, side}

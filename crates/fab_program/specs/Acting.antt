@@ -10,10 +10,10 @@ use Rattle.fab_inventory.specs.declared.fault.InventoryLimit.TheVariants.{Ports}
 use Rattle.fab_inventory.specs.Imports.{IsImported, IsClash}
 use Rattle.fab_inventory.specs.Ports.{KnownPorts, port_at}
 use Rattle.fab_zoning.specs.Joins.{Joined, IsFirstZone, InDefaultZone}
-use Rattle.fab_program_base.specs.Spelling.{Order, imports, joined, Spelling, nothing, refused, unnamed, asked}
-use Rattle.fab_program_base.specs.declared.answers.Reply.{Reply}
-use Rattle.fab_program_base.specs.declared.answers.Reply.TheVariants as reply
-use Rattle.fab_program_base.specs.declared.answers.Limit.TheVariants as limit
+use Rattle.fab_wire_base.specs.Spelling.{Order, imports, joined, Spelling, nothing, refused, unnamed, asked}
+use Rattle.fab_wire_base.specs.declared.answers.Reply.{Reply}
+use Rattle.fab_wire_base.specs.declared.answers.Reply.TheVariants as reply
+use Rattle.fab_wire_base.specs.declared.answers.Limit.TheVariants as limit
 use Rattle.fab_program.specs.World.{World, zoning_of}
 
 -- so many changes are accepted at most

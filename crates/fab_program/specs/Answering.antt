@@ -1,14 +1,14 @@
 -- What answering one connection does, from bytes to bytes.
 use Rattle.std.specs.Prelude.{ℕ, ◌≡◌, ◌⊎◌, List, Option, IfSome}
 use Rattle.std.specs.Io.KnownBytes.{Appends, Keeps}
-use Rattle.fab_program_base.specs.Failures.{one_more}
-use Rattle.fab_program_base.specs.Sent.{AppendsBeginning}
-use Rattle.fab_program_base.specs.Spelling.{Spelling, nothing, Spells}
-use Rattle.fab_program_base.specs.Replies.{text, status_of}
-use Rattle.fab_program_base.specs.declared.answers.Reply.{Reply}
-use Rattle.fab_program_base.specs.declared.answers.Reply.TheVariants as reply
-use Rattle.fab_program_base.specs.declared.answers.Outcome.{Outcome}
-use Rattle.fab_program_base.specs.declared.answers.Outcome.TheVariants as outcome
+use Rattle.fab_wire_base.specs.Failures.{one_more}
+use Rattle.fab_wire_base.specs.Sent.{AppendsBeginning}
+use Rattle.fab_wire_base.specs.Spelling.{Spelling, nothing, Spells}
+use Rattle.fab_wire_base.specs.Replies.{text, status_of}
+use Rattle.fab_wire_base.specs.declared.answers.Reply.{Reply}
+use Rattle.fab_wire_base.specs.declared.answers.Reply.TheVariants as reply
+use Rattle.fab_wire_base.specs.declared.answers.Outcome.{Outcome}
+use Rattle.fab_wire_base.specs.declared.answers.Outcome.TheVariants as outcome
 use Rattle.fab_program.specs.World.{World}
 use Rattle.fab_program.specs.Acting.{RepliesTo}
 

@@ -1,8 +1,8 @@
 -- Exit statuses.
 use Rattle.std.specs.Prelude.{ℕ, ◌≡◌, ◌⊎◌, List, [], true, codes}
 use Rattle.clap.specs.Words.{App, fault_of, new_app, with_subcommand}
-use Rattle.fab_program_base.specs.declared.answers.Outcome.{Outcome}
-use Rattle.fab_program_base.specs.declared.answers.Outcome.TheVariants as outcome
+use Rattle.fab_wire_base.specs.declared.answers.Outcome.{Outcome}
+use Rattle.fab_wire_base.specs.declared.answers.Outcome.TheVariants as outcome
 
 -- 0 where an answer was written or the input was empty, and 3 where a stream failed
 abbrev pub exit_status : Outcome → ℕ

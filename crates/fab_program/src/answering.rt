@@ -1,11 +1,11 @@
 //! One connection: a request is heard, carried out and answered.
-ghost use Rattle.fab_program_base.specs.Counting.{inner_of, failures_of};
+ghost use Rattle.fab_wire_base.specs.Counting.{inner_of, failures_of};
 ghost use Rattle.fab_program.specs.Answering.{Answers, side};
 
 use crate::first::First;
-use fab_program_base::answers::{Outcome, Reply, tell};
-use fab_program_base::counted::Counted;
-use fab_program_base::hear::{Heard, hear};
+use fab_wire_base::answers::{Outcome, Reply, tell};
+use fab_wire_base::counted::Counted;
+use fab_wire_base::hear::{Heard, hear};
 use std::alloc::{Allocator, Global};
 use std::io::{Read, Write};
 

@@ -3,12 +3,12 @@ ghost use Rattle.std.specs.Prelude.{◌≡◌, ◌≤◌, List};
 ghost use Rattle.fab_names.specs.declared.fabric.Fabric.TheVariants as fabrics;
 ghost use Rattle.fab_program.specs.World.{new_world, zoning_of, with_flag};
 ghost use Rattle.fab_program.specs.Acting.{Imports, AnswersJoined, Acts, RefusesImport, reply_to_fault};
-ghost use Rattle.fab_program_base.specs.Hearing.{order_of};
+ghost use Rattle.fab_wire_base.specs.Hearing.{order_of};
 
 use fab_inventory::{Inventory, InventoryFault, InventoryLimit, PortRow};
 use fab_names::{Fabric, Wwn};
-use fab_program_base::answers::{Limit, Reply};
-use fab_program_base::hear::Command;
+use fab_wire_base::answers::{Limit, Reply};
+use fab_wire_base::hear::Command;
 use fab_zoning::{DefaultFlag, Why, Zoning};
 use std::alloc::Allocator;
 use std::marker::Model;

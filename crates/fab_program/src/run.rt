@@ -8,8 +8,8 @@ use crate::answering::answer_one;
 use crate::first::First;
 use clap::error::ErrorKind;
 use clap::{Command, Error};
-use fab_program_base::answers::Outcome;
-use fab_program_base::counted::Counted;
+use fab_wire_base::answers::Outcome;
+use fab_wire_base::counted::Counted;
 use std::alloc::{AllocError, Global};
 use std::io::{Read, Write};
 

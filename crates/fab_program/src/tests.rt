@@ -7,8 +7,8 @@ mod words;
 
 use crate::answering::answer_one;
 use crate::first::First;
-use fab_program_base::answers::Outcome;
-use fab_program_base::counted::Counted;
+use fab_wire_base::answers::Outcome;
+use fab_wire_base::counted::Counted;
 use std::alloc::Global;
 use std::io;
 use std::io::Read;

@@ -2,8 +2,8 @@
 use super::{QUESTION, TWO_PORTS, answer_of, import_of};
 use crate::answering::answer_one;
 use crate::first::First;
-use fab_program_base::answers::Outcome;
-use fab_program_base::counted::Counted;
+use fab_wire_base::answers::Outcome;
+use fab_wire_base::counted::Counted;
 use fab_refusing::Refusing;
 use std::alloc::Global;
 use std::test::Fail;

@@ -2,7 +2,7 @@
 use super::{QUESTION, TWO_PORTS, answer_of, exchange, import_of};
 use crate::first::First;
 use fab_names::Fabric;
-use fab_program_base::answers::Outcome;
+use fab_wire_base::answers::Outcome;
 use fab_zoning::DefaultFlag;
 use http::StatusCode;
 use std::alloc::Global;

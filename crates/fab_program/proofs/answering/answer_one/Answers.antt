@@ -1,8 +1,8 @@
 use Rattle.std.proofs.Common.{refl, inr}
-use Rattle.fab_program_base.specs.Counting.{inner_of, failures_of}
-use Rattle.fab_program_base.specs.Hearing.{order_of}
-use Rattle.fab_program_base.specs.Spelling.{refused}
-use Rattle.fab_program_base.specs.declared.answers.Reply.TheVariants as reply
+use Rattle.fab_wire_base.specs.Counting.{inner_of, failures_of}
+use Rattle.fab_wire_base.specs.Hearing.{order_of}
+use Rattle.fab_wire_base.specs.Spelling.{refused}
+use Rattle.fab_wire_base.specs.declared.answers.Reply.TheVariants as reply
 use Rattle.fab_program.proofs.Told.{answered, replies_to_asked}
 use Rattle.fab_program.proofs.answering.answer_one.Goals as goal
 

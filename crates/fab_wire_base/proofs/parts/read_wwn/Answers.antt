@@ -1,0 +1,10 @@
+use Rattle.std.proofs.Common.{ℕ, List, subst, sym}
+use Rattle.fab_names.specs.WorldWideNames.{SpellsWwn}
+use Rattle.fab_wire_base.proofs.NameLemmas.{IsUtf8-wwn}
+use Rattle.fab_wire_base.proofs.parts.read_wwn.Goals as goal
+
+pub returns-in_default : goal.returns-in_default
+returns-in_default c n s = c.in_default.ensures.cases.0 (IsUtf8-wwn _ n s)
+
+pub returns-in-Err : goal.returns-in-Err
+returns-in-Err c n s = c.in-Err.ensures.err n (subst (λ (t : List ℕ). SpellsWwn t n) (sym c.in-Ok.ensures.cases.0) s)

@@ -1,0 +1,63 @@
+//! Names that stand in a request as bytes: in a body, or as a captured part of its path.
+
+ghost use Rattle.std.specs.Prelude.{ℕ, IfOk, MatchOption};
+ghost use Rattle.fab_names.specs.WorldWideNames.{SpellsWwn};
+ghost use Rattle.fab_names.specs.Fabrics.{SpellsFabric};
+ghost use Rattle.fab_names.specs.declared.fabric.Fabric as fabrics;
+ghost use Rattle.fab_wire_base.specs.Parts.{IsWwnPart, IsFabricPart};
+
+use crate::routes::decoded_segment;
+use fab_names::{Fabric, Wwn};
+use std::alloc::{AllocError, Allocator};
+use std::str;
+
+/// The world-wide name that bytes spell, if they spell one.
+pub fn read_wwn(bytes: &[u8]) -> Option<Wwn>
+    ensures { MatchOption result ((n : ℕ) → ¬ (SpellsWwn bytes.now n)) (SpellsWwn bytes.now) }
+{
+    let Ok(text) = str::from_utf8(bytes) else {
+        return None;
+    };
+    match Wwn::read(text) {
+        Ok(wwn) => Some(wwn),
+        Err(_) => None,
+    }
+}
+
+/// The fabric that bytes spell, if they spell one.
+pub fn read_fabric(bytes: &[u8]) -> Option<Fabric>
+    ensures { MatchOption result ((fabric : fabrics.Fabric) → ¬ (SpellsFabric bytes.now fabric))
+        (SpellsFabric bytes.now) }
+{
+    let Ok(text) = str::from_utf8(bytes) else {
+        return None;
+    };
+    match Fabric::read(text) {
+        Ok(fabric) => Some(fabric),
+        Err(_) => None,
+    }
+}
+
+/// The world-wide name that the part of a path behind so many slashes spells, if it spells one.
+pub fn wwn_part<A: Allocator>(
+    alloc: A,
+    path: &[u8],
+    slashes: usize,
+) -> Result<Option<Wwn>, AllocError>
+    ensures { IfOk result (IsWwnPart slashes path.now) }
+{
+    let part = decoded_segment(alloc, path, slashes)?;
+    Ok(read_wwn(part.as_slice()))
+}
+
+/// The fabric that the part of a path behind so many slashes spells, if it spells one.
+pub fn fabric_part<A: Allocator>(
+    alloc: A,
+    path: &[u8],
+    slashes: usize,
+) -> Result<Option<Fabric>, AllocError>
+    ensures { IfOk result (IsFabricPart slashes path.now) }
+{
+    let part = decoded_segment(alloc, path, slashes)?;
+    Ok(read_fabric(part.as_slice()))
+}
