@@ -1,3 +1,4 @@
 pub mod NameLemmas
 pub mod PortListLemmas
 pub mod RecordLemmas
+pub mod FaultLemmas

@@ -4,7 +4,8 @@ use Rattle.csv.specs.Records.{field_at}
 use Rattle.fab_names.specs.WorldWideNames.{SpellsWwn}
 use Rattle.fab_names.specs.Places.{SpellsPosition}
 use Rattle.fab_inventory.specs.declared.port.PortRow.{PortRow}
-use Rattle.fab_files_base.specs.PortLists.{Record, header, SpellsRow, SpellRows, BeginsWith, IsFaultAt, four_of}
+use Rattle.fab_files_base.specs.PortLists.{Record, header, SpellsRow, SpellRows, BeginsWith, IsFaultAt}
+use Rattle.fab_files_base.specs.FourFields.{four_of}
 
 -- a record has the fields below its length
 pub field-there : (fs : Record) (i : ℕ) → i < length fs → None ≡ field_at fs i → ⊥

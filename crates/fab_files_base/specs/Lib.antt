@@ -1,1 +1,2 @@
 pub mod PortLists
+pub mod FourFields

@@ -1,12 +1,11 @@
 -- The rows of a port list.
-use Rattle.std.specs.Prelude.{ℕ, ◌≡◌, ◌≢◌, ◌+◌, ◌⊎◌, List, [], ◌∷◌, ◌++◌, Option, Some, None, codes, length}
+use Rattle.std.specs.Prelude.{ℕ, ◌≡◌, ◌≢◌, ◌+◌, ◌⊎◌, List, [], ◌∷◌, ◌++◌, codes, length}
 use Rattle.csv.specs.Reading.{default_config, strip_bom, AreRecords, Reached}
 use Rattle.csv.specs.declared.parser.State.{State}
 use Rattle.csv.specs.declared.parser.State.TheVariants as state
 use Rattle.fab_names.specs.WorldWideNames.{SpellsWwn}
 use Rattle.fab_names.specs.Places.{SpellsPosition}
 use Rattle.fab_inventory.specs.declared.port.PortRow.{PortRow}
-use Rattle.fab_files_base.specs.declared.port_list.Texts.{Texts}
 use Rattle.fab_files_base.specs.declared.port_list.FileFault.{FileFault}
 use Rattle.fab_files_base.specs.declared.port_list.FileFault.TheVariants.{Line, Memory}
 
@@ -66,16 +65,3 @@ IsFaultAt text line = ((line ≡ 1) × HasNoHeader text) ⊎ ((before : ℕ) × 
 abbrev pub IsFileFault : List ℕ → FileFault → Type 0
 IsFileFault text (Line line) = IsFaultAt text line
 IsFileFault text Memory = Unit {0}
-
--- four texts as the fields of a record
-abbrev pub texts_of : Texts → Record
-texts_of texts = texts.name.now ∷ texts.node.now ∷ texts.domain.now ∷ texts.slot.now ∷ []
-
--- the fields of a record, where there are four
-abbrev pub four_of : Record → Option Record
-four_of [] = None
-four_of (a ∷ []) = None
-four_of (a ∷ b ∷ []) = None
-four_of (a ∷ b ∷ c ∷ []) = None
-four_of (a ∷ b ∷ c ∷ d ∷ []) = Some (a ∷ b ∷ c ∷ d ∷ [])
-four_of (a ∷ b ∷ c ∷ d ∷ e ∷ fields) = None

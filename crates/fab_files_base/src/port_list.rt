@@ -3,7 +3,8 @@
 ghost use Rattle.std.specs.Prelude.{◌≡◌, ◌≢◌, ◌<◌, IfOk, IfErr, Some, option_map, length, MatchOption, MatchBool};
 ghost use Rattle.csv.specs.Records.{fields_of, field_at};
 ghost use Rattle.fab_inventory.specs.declared.port.PortRow.{PortRow};
-ghost use Rattle.fab_files_base.specs.PortLists.{header, four_of, texts_of, SpellsRow, ListsPorts, IsFileFault};
+ghost use Rattle.fab_files_base.specs.PortLists.{header, SpellsRow, ListsPorts, IsFileFault};
+ghost use Rattle.fab_files_base.specs.FourFields.{four_of, texts_of};
 
 use crate::texts::read_wwn;
 use csv::{ByteRecord, ReaderBuilder};
