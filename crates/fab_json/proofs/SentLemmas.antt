@@ -1,11 +1,12 @@
 -- A text that goes out in parts.
-use Rattle.std.proofs.Common.{◌≡◌, ℕ, zero, suc, ◌+◌, ◌<◌, List, [], ◌∷◌, ◌++◌, length, take, drop, get_or, refl, ap, sym, ◌∙◌, subst, append_assoc, add-one, arith, Option, Some, None, Result, Ok, Err, OnErr}
+use Rattle.std.proofs.Common.{◌≡◌, ℕ, zero, suc, ◌+◌, ◌<◌, List, [], ◌∷◌, ◌++◌, length, take, drop, get_or, refl, ap, sym, ◌∙◌, subst, append_assoc, add-one, arith, Option, Result, Ok, Err, OnErr}
 use Rattle.std.specs.Io.KnownBytes.{Appends}
 use Rattle.std.specs.List.{flat_map}
 use Rattle.std.proofs.lemmas.Grind.{common_steps}
 use Rattle.std.proofs.lemmas.Bool.Decides.{nat_tests}
 use Rattle.fab_json.specs.Failures.{Rose, one_more}
 use Rattle.fab_json.specs.Sent.{AppendsBeginning}
+use Rattle.fab_json.specs.SentLaws.{Appends-append, AppendsBeginning-append, AppendsBeginning-behind}
 
 -- the front of a text has gone out, the rest has not, and no write failed
 pub record SentTo (old new : Option (List ℕ)) (before after : ℕ) (text rest : List ℕ) : Type 0 where
@@ -17,13 +18,6 @@ pub record SentTo (old new : Option (List ℕ)) (before after : ℕ) (text rest 
 -- one failure more is a rise, or the greatest count
 pub rose-one_more : (count : ℕ) → Rose count (one_more count)
 rose-one_more count = grind (arith, nat_tests)
-
--- what is appended in two turns is appended as one
-pub Appends-append : (a b c : Option (List ℕ)) (x y : List ℕ) → Appends a b x → Appends b c y → Appends a c (x ++ y)
-Appends-append None b c x y h k = tt
-Appends-append (Some xs) None c x y h k = absurd h
-Appends-append (Some xs) (Some ys) None x y h k = absurd k
-Appends-append (Some xs) (Some ys) (Some zs) x y h k = rw (k, h) (append_assoc xs x y)
 
 -- some bytes more go out
 pub sent-more : (a b c : Option (List ℕ)) (n m k : ℕ) (text x rest : List ℕ) → SentTo a b n m text (x ++ rest) → Appends b c x → k ≡ m → SentTo a c n k text rest
@@ -45,10 +39,6 @@ sent-taken a b c n m k i text rest left s h e d =
 pub sent-part : (a b c : Option (List ℕ)) (n m : ℕ) (text rest : List ℕ) → SentTo a b n m text rest → AppendsBeginning b c rest → AppendsBeginning a c text
 sent-part a b c n m text rest s h =
     (s.front ++ h.0, h.1, s.whole ∙ ap (λ t. s.front ++ t) h.2 ∙ sym (append_assoc s.front h.0 h.1), Appends-append a b c s.front h.0 s.appends h.3)
-
--- a beginning of a text is one of a longer text
-pub AppendsBeginning-append : (b c : Option (List ℕ)) (x y : List ℕ) → AppendsBeginning b c x → AppendsBeginning b c (x ++ y)
-AppendsBeginning-append b c x y h = (h.0, h.1 ++ y, ap (λ t. t ++ y) h.2 ∙ append_assoc h.0 h.1 y, h.3)
 
 flat-cut-suc : {X : Type 0} (f : X → List ℕ) (xs : List X) (i : ℕ) (d : X) → i < length xs → flat_map f (drop i xs) ≡ f (get_or xs i d) ++ flat_map f (drop (suc i) xs)
 flat-cut-suc f [] i d h = absurd (omega arith)
@@ -74,12 +64,6 @@ pub sent-text-part : {X : Type 0} (f : X → List ℕ) (a b c : Option (List ℕ
 sent-text-part f a b c n m text xs i d s h r =
     let P : List ℕ → Type 0 = λ t. SentTo a b n m text t in
     sent-part a b c n m text (f (get_or xs i d) ++ flat_map f (drop (i + 1) xs)) (subst P (flat-cut f xs i d h) s) (AppendsBeginning-append b c (f (get_or xs i d)) _ r)
-
--- a text, and then a beginning of another
-pub AppendsBeginning-behind : (a b c : Option (List ℕ)) (x y : List ℕ) → Appends a b x → AppendsBeginning b c y → AppendsBeginning a c (x ++ y)
-AppendsBeginning-behind a b c x y h k =
-    let start : SentTo a b 0 0 (x ++ y) y = record { front = x; whole = refl; appends = h; count = refl } in
-    sent-part a b c 0 0 (x ++ y) y start k
 
 -- the same, where the other text failed
 pub OnErr-behind : {V E : Type 0} (r : Result V E) (a b c : Option (List ℕ)) (x y : List ℕ) → Appends a b x → OnErr r (AppendsBeginning b c y) → OnErr r (AppendsBeginning a c (x ++ y))

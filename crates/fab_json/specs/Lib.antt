@@ -2,3 +2,12 @@ pub mod Counting
 pub mod Failures
 pub mod Received
 pub mod Sent
+pub mod SentLaws
+pub mod Taking
+pub mod Sinks
+pub mod SinkLaws
+pub mod Escapes
+pub mod JsonText
+pub mod Values
+pub mod Bounds
+pub mod Pieces

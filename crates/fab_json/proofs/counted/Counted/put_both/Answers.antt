@@ -1,4 +1,5 @@
-use Rattle.fab_json.proofs.SentLemmas.{AppendsBeginning-append, OnErr-behind}
+use Rattle.fab_json.specs.SentLaws.{AppendsBeginning-append}
+use Rattle.fab_json.proofs.SentLemmas.{OnErr-behind}
 use Rattle.fab_json.proofs.counted.Counted.put_both.Goals as goal
 
 pub returns-in_default-clause-err : goal.returns-in_default-clause-err
