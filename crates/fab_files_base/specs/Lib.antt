@@ -1,2 +1,3 @@
 pub mod PortLists
 pub mod FourFields
+pub mod RecordReaders

@@ -1,13 +1,14 @@
 //! Reads a port list: the CSV text (RFC 4180) of the ports that are logged in to one fabric.
 
-ghost use Rattle.std.specs.Prelude.{◌≡◌, ◌≢◌, ◌<◌, IfOk, IfErr, Some, option_map, length, MatchOption, MatchBool};
+ghost use Rattle.std.specs.Prelude.{◌≡◌, ◌≢◌, ◌<◌, ◌+◌, ◌↔◌, IsTrue, IfOk, IfErr, Some, option_map, length, MatchOption, MatchBool};
 ghost use Rattle.csv.specs.Records.{fields_of, field_at};
 ghost use Rattle.fab_inventory.specs.declared.port.PortRow.{PortRow};
 ghost use Rattle.fab_files_base.specs.PortLists.{header, SpellsRow, ListsPorts, IsFileFault};
 ghost use Rattle.fab_files_base.specs.FourFields.{four_of, texts_of};
+ghost use Rattle.fab_files_base.specs.RecordReaders.{IsReaderOf};
 
 use crate::texts::read_wwn;
-use csv::{ByteRecord, ReaderBuilder};
+use csv::{ByteRecord, Reader, ReaderBuilder};
 use fab_inventory::PortRow;
 use fab_names::Place;
 use std::alloc::{Allocator, Global};
@@ -34,19 +35,15 @@ pub fn read_ports<A: Allocator + Copy>(
     ensures ok { IfOk result (λ rows. ListsPorts text.now rows.items) }
     ensures err { IfErr result (IsFileFault text.now) }
 {
-    let reader = ReaderBuilder::new()
-        .has_headers(false)
-        .flexible(true)
-        .from_reader(global, text);
     let mut rows = Vec::new(alloc);
     let mut headed = false;
-    for item in reader.into_byte_records() {
+    for item in reader_of(global, text).into_byte_records() {
         let Ok(fields) = item else {
             return Err(FileFault::Memory);
         };
         if headed {
             let Some(row) = read_row(&fields) else {
-                return Err(FileFault::Line(rows.len() + 2));
+                return Err(FileFault::Line(line_behind(&rows)));
             };
             if rows.push(row).is_err() {
                 return Err(FileFault::Memory);
@@ -63,6 +60,23 @@ pub fn read_ports<A: Allocator + Copy>(
     } else {
         Err(FileFault::Line(1))
     }
+}
+
+/// A reader of the records of a text, of any length and with no header row set apart.
+fn reader_of(global: Global, text: &[u8]) -> Reader<&[u8]>
+    ensures { IsReaderOf text.now result }
+{
+    ReaderBuilder::new()
+        .has_headers(false)
+        .flexible(true)
+        .from_reader(global, text)
+}
+
+/// The number of the record behind the header and these rows.
+fn line_behind<A: Allocator>(rows: &Vec<PortRow, A>) -> usize
+    ensures { result ≡ length rows.now.items + 2 }
+{
+    rows.len() + 2
 }
 
 /// The row of a record, if its fields spell one.
@@ -126,7 +140,7 @@ struct Texts<'a> {
 fn texts_in(fields: &ByteRecord) -> Option<Texts<'_>>
     ensures { option_map texts_of result ≡ four_of (fields_of fields.now) }
 {
-    if fields.len() != 4 {
+    if !has_four(fields) {
         return None;
     }
     let name = field_in(fields, 0);
@@ -139,6 +153,13 @@ fn texts_in(fields: &ByteRecord) -> Option<Texts<'_>>
         domain,
         slot,
     })
+}
+
+/// Whether a record has four fields.
+fn has_four(fields: &ByteRecord) -> bool
+    ensures { IsTrue result ↔ (length (fields_of fields.now) ≡ 4) }
+{
+    fields.len() == 4
 }
 
 /// The field of a record at a place.

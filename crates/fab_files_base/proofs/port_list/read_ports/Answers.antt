@@ -1,4 +1,4 @@
-use Rattle.std.proofs.Common.{Bor, List, ℕ, ◌∙◌, sym, refl, inl, inr, Some, ◌∷◌, [], ◌++◌, ap, arith, Vec}
+use Rattle.std.proofs.Common.{length, Bor, List, ℕ, ◌∙◌, sym, refl, inl, inr, Some, ◌∷◌, [], ◌++◌, ap, arith, Vec}
 use Rattle.csv.specs.Reading.{default_config, strip_bom, Reached}
 use Rattle.csv.specs.Records.{fields_of}
 use Rattle.csv.specs.declared.parser.State.TheVariants as state
@@ -11,13 +11,13 @@ use Rattle.fab_files_base.proofs.port_list.read_ports.Goals as goal
 pub loop-item-init : goal.loop-item-init
 unfolding Reached
 loop-item-init g c =
-    let made = c.from_reader-reader.ensures in
+    let made = c.reader_of.ensures in
     let start = c.into_iter-item-iterator.ensures.into_iter_gives ∙ refl in
     rw (start, c.into_byte_records-item-items.ensures.rdr, c.new-rows.ensures.items) (
-      rw (c.flexible.ensures, c.has_headers.ensures) at made.trim ∙ c.new.ensures.trim,
-      inr (inr (rw (c.flexible.ensures, c.has_headers.ensures) at made.has_headers, made.headers)),
+      made.trim,
+      inr (inr (made.has_headers, made.headers)),
       c.into_byte_records-item-items.ensures.left,
-      rw (c.flexible.ensures, c.has_headers.ensures) at made.config ∙ c.new.ensures.config,
+      made.config,
       strip_bom c.args.text.now,
       made.source,
       [],
@@ -30,7 +30,7 @@ returns-in_default-read_row-clause-err g c =
     let inv = c.loop-item.invariant in
     let s = rw (c.in-Some.is, c.in-Ok.is) at ((c.next.ensures.steps inv.2 inv.0).0 inv.1) in
     let m = rows-more (λ (s : Bor (List ℕ)). Some s.now) c.loop-item.item-iterator.rdr c.next.new.self.rdr (fields_of c.in-Ok.fields) default_config state.StartRecord (strip_bom c.args.text.now) inv.4 inv.6 inv.3 inv.5 inv.7 s.0 in
-    bad-row c.loop-item.headed inv.6 c.loop-item.rows.items (fields_of c.in-Ok.fields) c.args.text.now c.len.result inv.8 c.if-headed.true c.in_default-read_row.ensures (_, m.0, m.2) (omega (arith, c.len.ensures, c.loop-item.rows.ok.0))
+    rw c.line_behind.ensures (bad-row c.loop-item.headed inv.6 c.loop-item.rows.items (fields_of c.in-Ok.fields) c.args.text.now (length c.loop-item.rows.items) inv.8 c.if-headed.true c.in_default-read_row.ensures (_, m.0, m.2) refl)
 
 pub returns-then-not-has_header-clause-err : goal.returns-then-not-has_header-clause-err
 returns-then-not-has_header-clause-err g c =
