@@ -7,3 +7,4 @@ pub mod SeenEntries
 pub mod MapsOfSets
 pub mod Passing
 pub mod Adding
+pub mod Filters

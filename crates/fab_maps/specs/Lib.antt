@@ -2,3 +2,4 @@ pub mod MapsOfSets
 pub mod Room
 pub mod Firsts
 pub mod Adding
+pub mod Lists

@@ -55,7 +55,7 @@ pub and_right : (a b : Bool) → (a && b) ≡ true → b ≡ true
 and_right true b h = h
 and_right false b h = absurd (true≢false (sym h))
 
-ascii_all : (xs : List ℕ) → list_all is_name_char xs ≡ true → (i : ℕ) → get_or xs i 0 < 128
+pub ascii_all : (xs : List ℕ) → list_all is_name_char xs ≡ true → (i : ℕ) → get_or xs i 0 < 128
 ascii_all [] h i = lit< tt
 ascii_all (x ∷ xs) h zero = ascii_char x (and_left (is_name_char x) _ h)
 ascii_all (x ∷ xs) h (suc i) = ascii_all xs (and_right (is_name_char x) _ h) i

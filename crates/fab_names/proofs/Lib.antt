@@ -5,3 +5,7 @@ pub mod OrderLaws
 pub mod Printed
 pub mod Readings
 pub mod Splits
+pub mod InOrder
+pub mod Unique
+pub mod Characters
+pub mod Negations

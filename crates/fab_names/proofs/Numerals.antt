@@ -1,5 +1,5 @@
 -- Number texts are what `parse` reads, and what is printed of a number.
-use Rattle.std.proofs.Common.{ℕ, ◌≡◌, ◌≢◌, ◌≤◌, ◌<◌, ◌^◌, List, [], ◌∷◌, zero, suc, length, get_or, true, Result, Ok, Err, MatchOption, subst, arith, rules, lit<, sym, ◌∙◌}
+use Rattle.std.proofs.Common.{ℕ, ◌≡◌, ◌≢◌, ◌≤◌, ◌<◌, ◌^◌, List, [], ◌∷◌, zero, suc, length, get_or, true, Result, Ok, Err, MatchOption, refl, subst, arith, rules, lit<, sym, ◌∙◌}
 use Rattle.std.specs.Char.{is_ascii_digit}
 use Rattle.std.specs.List.{list_all}
 use Rattle.std.specs.Fmt.{decimal}
@@ -7,7 +7,7 @@ use Rattle.std.specs.Int.{IsInRange}
 use Rattle.std.specs.Str.{IsUtf8}
 use Rattle.std.specs.Result.{result_ok, OkIff}
 use Rattle.std.specs.Str.Parse.{digits_value, ParsesUnsigned}
-use Rattle.std.proofs.lemmas.Fmt.{decimal_is_IsNumeral, length-decimal-le}
+use Rattle.std.proofs.lemmas.Fmt.{decimal_is_IsNumeral, length-decimal-le, decimal-digits_value}
 use Rattle.std.proofs.lemmas.Str.{IsUtf8-from_ascii}
 use Rattle.std.proofs.lemmas.Str.Parse.{IsNumeralModel, numerals_by_value, parse_digits, digits_value_short, not_in_digits, digit_at}
 use Rattle.fab_names.specs.Numbers.{SpellsNumber}
@@ -57,3 +57,13 @@ pub printed_number : (n : ℕ) → n < 2 ^ 64 → SpellsNumber (decimal n) n
 printed_number n small =
     let numeral = decimal_is_IsNumeral n small in
     record { digits = numeral.0; short = length-decimal-le 20 n (lit< tt) (omega arith) small; value = numeral.1 }
+
+-- a number text with no leading zero before other digits is what is printed of its number
+pub plain_number : (text : List ℕ) (n : ℕ) → SpellsNumber text n → n < 2 ^ 64 → ¬ ((get_or text 0 0 ≡ 48) × (2 ≤ length text)) → decimal n ≡ text
+plain_number text n s small none =
+    subst (λ m. decimal m ≡ text) s.value (decimal-digits_value own text (all_digits text n s) s.digits.0 (λ first. one first (length text) refl s.digits.0) (subst (λ m. m < 2 ^ 64) (sym s.value) small))
+  where
+    one : get_or text 0 0 ≡ 48 → (k : ℕ) → length text ≡ k → 0 < k → k ≡ 1
+    one first zero is some = absurd (omega arith)
+    one first (suc zero) is some = refl
+    one first (suc (suc k)) is some = absurd (none (first, omega arith))

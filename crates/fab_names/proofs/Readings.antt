@@ -1,10 +1,10 @@
 -- Readings of a text from the readings of its parts.
-use Rattle.std.proofs.Common.{ℕ, ◌≡◌, List, ◌∷◌, ◌++◌, Result, Ok, Err, MatchResult, OnErr, IfOk, IfErr, sym, ap, ◌∙◌, subst, arith, codes, get_or, drop}
+use Rattle.std.proofs.Common.{ℕ, ◌≡◌, List, ◌∷◌, ◌++◌, Option, Some, None, MatchOption, IsSomeAnd, Result, Ok, Err, MatchResult, OnErr, IfOk, IfErr, sym, ap, ◌∙◌, subst, arith, codes, get_or, drop}
 use Rattle.std.specs.Result.{IsOkAnd}
 use Rattle.fab_names.specs.Names.{IsNameText}
-use Rattle.fab_names.specs.WorldWideNames.{SpellsWwn}
+use Rattle.fab_names.specs.WorldWideNames.{SpellsWwn, SpellsPrintedWwn}
 use Rattle.fab_names.specs.Places.{Position, SpellsPosition, SpellsPlace}
-use Rattle.fab_names.specs.Members.{SpellsMember}
+use Rattle.fab_names.specs.Members.{SpellsMember, SpellsPrinted}
 use Rattle.fab_names.specs.Faults.{HasNoKind}
 use Rattle.fab_names.specs.declared.member.Member.{Member}
 use Rattle.fab_names.specs.declared.member.Member.TheVariants as member
@@ -40,6 +40,26 @@ mapped_fault P Q make (Ok x) (Ok y) h f p = tt
 mapped_fault P Q make (Ok x) (Err e) h f p = absurd h
 mapped_fault P Q make (Err e) (Ok y) h f p = tt
 mapped_fault P Q make (Err e) (Err g) h f p = let same : e ≡ g = cc in f g (subst P same p)
+
+-- what `map` of an option gives
+pub mapped_option : {X Y : Type 0} {P : X → Type 0} (Q : Y → Type 0) (make : X → Y) (r : Option X) (s : Option Y) → MatchOption r (s ≡ None) (λ x. IsSomeAnd s (λ y. y ≡ make x)) → ((x : X) → P x → Q (make x)) → (((x : X) → ¬ P x) → (y : Y) → ¬ Q y)
+    → MatchOption r ((x : X) → ¬ P x) P → MatchOption s ((y : Y) → ¬ Q y) Q
+mapped_option {Y = Y} Q make None s h there none p = subst (λ (o : Option Y). MatchOption o ((y : Y) → ¬ Q y) Q) (sym h) (none p)
+mapped_option Q make (Some x) (Some y) h there none p = subst Q (sym h) (there x p)
+mapped_option Q make (Some x) None h there none p = absurd h
+
+-- no printed form of a member by its N_Port_Name, or by its Node_Name
+pub no_printed_port : (text rest : List ℕ) → text ≡ codes "wwpn=" ++ rest → ((n : ℕ) → ¬ SpellsPrintedWwn rest n) → (m : Member) → ¬ SpellsPrinted text m
+no_printed_port text rest is none (member.Port n) s = let same : s.0.0 ≡ rest = ap (drop 5) (sym s.0.1 ∙ is) in none n (subst (λ t. SpellsWwn t n) same s.0.2, ap (drop 5) (sym is ∙ s.1))
+no_printed_port text rest is none (member.Node n) s = omega (arith, ap (λ (t : List ℕ). get_or t 2 0) (sym is ∙ s.0.1))
+no_printed_port text rest is none (member.Place p) s = omega (arith, ap (λ (t : List ℕ). get_or t 0 0) (sym is ∙ s.0.1))
+no_printed_port text rest is none (member.Alias a) s = omega (arith, ap (λ (t : List ℕ). get_or t 0 0) (sym is ∙ s.0.1))
+
+pub no_printed_node : (text rest : List ℕ) → text ≡ codes "wwnn=" ++ rest → ((n : ℕ) → ¬ SpellsPrintedWwn rest n) → (m : Member) → ¬ SpellsPrinted text m
+no_printed_node text rest is none (member.Port n) s = omega (arith, ap (λ (t : List ℕ). get_or t 2 0) (sym is ∙ s.0.1))
+no_printed_node text rest is none (member.Node n) s = let same : s.0.0 ≡ rest = ap (drop 5) (sym s.0.1 ∙ is) in none n (subst (λ t. SpellsWwn t n) same s.0.2, ap (drop 5) (sym is ∙ s.1))
+no_printed_node text rest is none (member.Place p) s = omega (arith, ap (λ (t : List ℕ). get_or t 0 0) (sym is ∙ s.0.1))
+no_printed_node text rest is none (member.Alias a) s = omega (arith, ap (λ (t : List ℕ). get_or t 0 0) (sym is ∙ s.0.1))
 
 -- a text spells no place where the parts around its first comma spell none
 pub no_place : (text domain slot : List ℕ) → text ≡ domain ++ 44 ∷ slot → Lacks 44 domain → ((p : Position) → ¬ SpellsPosition domain slot p) → (p : Position) → ¬ SpellsPlace text p

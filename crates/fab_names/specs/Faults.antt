@@ -1,8 +1,9 @@
 -- What a fault says of the text that is refused.
-use Rattle.std.specs.Prelude.{ℕ, ◌≡◌, ◌<◌, List, [], ◌∷◌, ◌++◌, length, codes, IsTrue, ◌⊎◌, EachIndex, slice_index, true}
+use Rattle.std.specs.Prelude.{ℕ, ◌≡◌, ◌≢◌, ◌<◌, List, [], ◌∷◌, ◌++◌, length, codes, IsTrue, ◌⊎◌, EachIndex, slice_index, true}
 use Rattle.std.specs.Char.{is_ascii_hexdigit}
 use Rattle.std.specs.List.{list_all}
-use Rattle.fab_names.specs.Names.{begins_with_letter, is_name_char}
+use Rattle.std.specs.Str.{chars}
+use Rattle.fab_names.specs.Names.{most_characters, begins_with_letter, is_name_char}
 use Rattle.fab_names.specs.Numbers.{SpellsNumber}
 use Rattle.fab_names.specs.WorldWideNames.{IsDigitsOf, SpellsDigits}
 use Rattle.fab_names.specs.Fabrics.{SpellsFabric}
@@ -14,8 +15,8 @@ use Rattle.fab_names.specs.declared.NameFault.TheVariants.{Empty, TooLong, BadCh
 -- of a text read as a name
 abbrev pub IsNameFault : List ℕ → NameFault → Type 0
 IsNameFault text Empty = text ≡ []
-IsNameFault text TooLong = 64 < length text
-IsNameFault text BadChar = (¬ IsTrue (begins_with_letter text)) ⊎ (¬ IsTrue (list_all is_name_char text))
+IsNameFault text TooLong = most_characters < length (chars text)
+IsNameFault text BadChar = (text ≢ []) × ((¬ IsTrue (begins_with_letter text)) ⊎ (¬ IsTrue (list_all is_name_char text)))
 IsNameFault text BadLength = ⊥
 IsNameFault text Zero = ⊥
 IsNameFault text OutOfRange = ⊥
@@ -42,7 +43,7 @@ IsWwnFault text Memory = ⊥
 abbrev pub IsFabricFault : List ℕ → NameFault → Type 0
 IsFabricFault text Empty = text ≡ []
 IsFabricFault text TooLong = ⊥
-IsFabricFault text BadChar = (fabric : Fabric) → ¬ SpellsFabric text fabric
+IsFabricFault text BadChar = (text ≢ []) × ((fabric : Fabric) → ¬ SpellsFabric text fabric)
 IsFabricFault text BadLength = ⊥
 IsFabricFault text Zero = ⊥
 IsFabricFault text OutOfRange = ⊥

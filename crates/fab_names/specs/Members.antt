@@ -19,3 +19,7 @@ member_text (member.Port name) = codes "wwpn=" ++ wwn_text name
 member_text (member.Node name) = codes "wwnn=" ++ wwn_text name
 member_text (member.Place place) = codes "dp=" ++ place_text place
 member_text (member.Alias name) = codes "alias=" ++ name
+
+-- the text is the printed form of the member
+abbrev pub SpellsPrinted : List ℕ → Member → Type 0
+SpellsPrinted text m = SpellsMember text m × (text ≡ member_text m)

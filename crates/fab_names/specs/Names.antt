@@ -2,6 +2,10 @@
 use Rattle.std.specs.Prelude.{ℕ, ◌≡◌, ◌≤◌, Bool, false, ◌&&◌, ◌||◌, nat_le, nat_eq, List, [], ◌∷◌, length, IsTrue}
 use Rattle.std.specs.List.{list_all}
 
+-- how many characters a name has at most
+abbrev pub most_characters : ℕ
+most_characters = 64
+
 -- an ASCII letter
 abbrev pub is_letter : ℕ → Bool
 is_letter c = (nat_le 65 c && nat_le c 90) || (nat_le 97 c && nat_le c 122)
@@ -17,7 +21,7 @@ begins_with_letter (c ∷ cs) = is_letter c
 
 -- 1 to 64 characters, first a letter, then name characters
 pub record IsNameText (text : List ℕ) : Type 0 where
-  pub short : length text ≤ 64
+  pub short : length text ≤ most_characters
   pub first : IsTrue (begins_with_letter text)
   pub chars : IsTrue (list_all is_name_char text)
 

@@ -59,6 +59,18 @@ abbrev pub digits_of : List ℕ → List ℕ
 digits_of [] = []
 digits_of (b ∷ bs) = hex_digit (b / 16) ∷ hex_digit (b % 16) ∷ digits_of bs
 
+-- sixteen lower-case digits
+abbrev pub plain_text : ℕ → List ℕ
+plain_text n = digits_of (to_be_bytes w64 n)
+
+-- the text is the name's sixteen lower-case digits
+abbrev pub SpellsPlain : List ℕ → ℕ → Type 0
+SpellsPlain text n = SpellsWwn text n × (text ≡ plain_text n)
+
 -- eight pairs of lower-case digits joined by colons
 abbrev pub wwn_text : ℕ → List ℕ
 wwn_text n = paired (digits_of (to_be_bytes w64 n))
+
+-- the text is the printed form of the name
+abbrev pub SpellsPrintedWwn : List ℕ → ℕ → Type 0
+SpellsPrintedWwn text n = SpellsWwn text n × (text ≡ wwn_text n)

@@ -6,6 +6,7 @@
 #![tactic(auto)]
 
 mod fabric;
+pub mod laws;
 mod member;
 mod name;
 mod number;
@@ -16,10 +17,10 @@ mod wwn;
 
 pub use fabric::Fabric;
 pub use member::Member;
-pub use name::Name;
-pub use number::read_number;
-pub use place::Place;
-pub use wwn::Wwn;
+pub use name::{MOST_CHARACTERS, Name};
+pub use number::{MOST_DIGITS, read_number};
+pub use place::{FIRST_DOMAIN, LAST_DOMAIN, LAST_SLOT, Place};
+pub use wwn::{PlainWwn, Wwn};
 
 /// Why a text is not read. Where several faults stand in a text, any one of them is answered.
 #[derive(Clone, Copy, Debug, PartialEq, Eq, Drop)]

@@ -1,7 +1,7 @@
 //! Members of zones and aliases.
-ghost use Rattle.std.specs.Prelude.{◌≡◌, Some, IfOk, IfErr, OnErr};
+ghost use Rattle.std.specs.Prelude.{◌≡◌, Some, IfOk, IfErr, OnErr, MatchOption};
 ghost use Rattle.std.specs.String.{string_bytes};
-ghost use Rattle.fab_names.specs.Members.{SpellsMember, member_text};
+ghost use Rattle.fab_names.specs.Members.{SpellsMember, SpellsPrinted, member_text};
 ghost use Rattle.fab_names.specs.Faults.{IsMemberFault};
 ghost use Rattle.fab_names.specs.declared.member.Member.{Member};
 
@@ -45,6 +45,22 @@ impl Member {
             "dp" => Place::read(value).map(Member::Place),
             "alias" => Name::read(value).map(Member::Alias),
             _ => Err(NameFault::BadChar),
+        }
+    }
+
+    /// Reads the printed form of a member, and no other. It takes no memory.
+    pub fn read_printed(text: &str) -> Option<Member>
+        ensures { MatchOption result ((member : Member) → ¬ SpellsPrinted text.now member) (SpellsPrinted text.now) }
+    {
+        let Some((kind, value)) = text.split_once('=') else {
+            return None;
+        };
+        match kind {
+            "wwpn" => Wwn::read_printed(value).map(Member::Port),
+            "wwnn" => Wwn::read_printed(value).map(Member::Node),
+            "dp" => Place::read_printed(value).map(Member::Place),
+            "alias" => Name::read(value).ok().map(Member::Alias),
+            _ => None,
         }
     }
 

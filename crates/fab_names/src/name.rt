@@ -1,5 +1,6 @@
 //! Names of records: aliases, zones, zone sets, hosts, arrays, volumes, groups and callers.
 ghost use Rattle.std.specs.Prelude.{◌≡◌, ℕ, ◌+◌, ◌-◌, ◌<◌, ◌≤◌, ◌++◌, List, length, take, drop, replicate, Some, refl, nat_eq, IfOk, IfErr, OnErr};
+ghost use Rattle.std.specs.Str.{chars};
 ghost use Rattle.std.specs.String.{string_bytes};
 ghost use Rattle.std.specs.List.{list_all};
 ghost use Rattle.std.specs.Ordering.{nat_cmp};
@@ -14,8 +15,11 @@ use std::cmp::Ordering;
 use std::marker::Model;
 use std::{fmt, str};
 
+/// How many characters a name has at most.
+pub const MOST_CHARACTERS: usize = 64;
+
 /// How many bytes a name has room for.
-const ROOM: usize = 64;
+const ROOM: usize = MOST_CHARACTERS;
 
 /// A name of 1 to 64 characters: first an ASCII letter, then letters, digits, `_`, `-`, `$`, `^`.
 ///
@@ -61,6 +65,13 @@ fn all_name_chars(text: &[u8]) -> bool
     text.iter().all(|c| is_name_char(*c))
 }
 
+/// How many characters the text has.
+fn characters_in(text: &str) -> usize
+    ensures { result ≡ length (chars text.now) }
+{
+    text.chars().count()
+}
+
 /// The bytes, and zeros behind them.
 fn padded(text: &[u8]) -> [u8; ROOM]
     requires { length text.now ≤ 64 }
@@ -77,19 +88,20 @@ impl Name {
     /// Reads a name.
     ///
     /// # Errors
-    /// `Empty`, `TooLong`, or `BadChar` where the first character is no letter or another is none
-    /// that a name may hold.
+    /// `Empty`, `TooLong` for more than 64 characters, or `BadChar` where the first character is no
+    /// letter or another is none that a name may hold.
+    #[tactic(auto, using(crate::proofs::Characters::too_long, crate::proofs::Characters::as_many))]
     pub fn read(text: &str) -> Result<Name, NameFault>
         ensures ok { IfOk result (names.SpellsName text.now) }
         ensures err { OnErr result (¬ names.IsNameText text.now) }
         ensures fault { IfErr result (IsNameFault text.now) }
     {
+        if characters_in(text) > MOST_CHARACTERS {
+            return Err(NameFault::TooLong);
+        }
         let text = text.as_bytes();
         if text.is_empty() {
             return Err(NameFault::Empty);
-        }
-        if text.len() > ROOM {
-            return Err(NameFault::TooLong);
         }
         if !text[0].is_ascii_alphabetic() {
             return Err(NameFault::BadChar);

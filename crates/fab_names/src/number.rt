@@ -7,7 +7,7 @@ ghost use Rattle.fab_names.specs.Numbers.{SpellsNumber};
 use std::str;
 
 /// How many digits a number text has at most.
-const MOST_DIGITS: usize = 20;
+pub const MOST_DIGITS: usize = 20;
 
 /// Reads a number text: 1 to 20 ASCII digits, leading zeros allowed.
 ///

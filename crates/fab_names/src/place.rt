@@ -1,7 +1,7 @@
 //! Places where a port may be logged in.
-ghost use Rattle.std.specs.Prelude.{◌≡◌, ℕ, ◌≤◌, Some, IfOk, IfErr, OnErr};
+ghost use Rattle.std.specs.Prelude.{◌≡◌, ◌≢◌, ℕ, ◌≤◌, length, get_or, Some, IfOk, IfErr, OnErr, MatchOption, IsTrue, ◌↔◌};
 ghost use Rattle.std.specs.String.{string_bytes};
-ghost use Rattle.fab_names.specs.Places.{Position, SpellsPosition, SpellsPlace, place_text};
+ghost use Rattle.fab_names.specs.Places.{Position, SpellsPosition, SpellsPlace, SpellsPrintedPlace, place_text, first_domain, last_domain, last_slot};
 ghost use Rattle.fab_names.specs.Faults.{IsPositionFault, IsPlaceFault};
 
 use crate::{NameFault, read_number};
@@ -10,13 +10,13 @@ use std::fmt;
 use std::marker::Model;
 
 /// The least Domain_ID.
-const FIRST_DOMAIN: u128 = 1;
+pub const FIRST_DOMAIN: u8 = 1;
 
 /// The greatest Domain_ID.
-const LAST_DOMAIN: u128 = 239;
+pub const LAST_DOMAIN: u8 = 239;
 
 /// The greatest physical port of a domain.
-const LAST_SLOT: u128 = 4095;
+pub const LAST_SLOT: u16 = 4095;
 
 /// A place in a fabric: the Domain_ID of a switch, 1 to 239, and a physical port of it, 0 to 4095
 /// (FC-GS, the zone member by Domain_ID and physical port).
@@ -40,11 +40,19 @@ impl Model for Place {
     ghost inverse = { λ s. record { domain = s.domain; slot = s.slot } };
 }
 
+/// Whether there are digits behind a leading zero.
+fn has_leading_zero(text: &str) -> bool
+    ensures { IsTrue result ↔ ((get_or text.now 0 0 ≡ 48) × (2 ≤ length text.now)) }
+{
+    let digits = text.as_bytes();
+    digits.len() >= 2 && digits[0] == b'0'
+}
+
 impl Place {
     /// The place at a domain and a physical port of it.
     pub fn new(domain: u8, slot: u16) -> Self
-        requires domain { (1 ≤ domain) × (domain ≤ 239) }
-        requires slot { slot ≤ 4095 }
+        requires domain { (first_domain ≤ domain) × (domain ≤ last_domain) }
+        requires slot { slot ≤ last_slot }
         ensures domain { result.domain ≡ domain }
         ensures slot { result.slot ≡ slot }
     {
@@ -66,7 +74,7 @@ impl Place {
         let Some(slot) = read_number(slot) else {
             return Err(NameFault::BadChar);
         };
-        if domain < FIRST_DOMAIN || domain > LAST_DOMAIN || slot > LAST_SLOT {
+        if domain < FIRST_DOMAIN as u128 || domain > LAST_DOMAIN as u128 || slot > LAST_SLOT as u128 {
             return Err(NameFault::OutOfRange);
         }
         Ok(Place {
@@ -91,11 +99,30 @@ impl Place {
         }
     }
 
+    /// Reads the printed form of a place, and no other. It takes no memory.
+    pub fn read_printed(text: &str) -> Option<Place>
+        ensures { MatchOption result ((place : Position) → ¬ SpellsPrintedPlace text.now place) (SpellsPrintedPlace text.now) }
+    {
+        let Some((domain, slot)) = text.split_once(',') else {
+            return None;
+        };
+        if has_leading_zero(domain) {
+            return None;
+        }
+        if has_leading_zero(slot) {
+            return None;
+        }
+        match Place::from_texts(domain.as_bytes(), slot.as_bytes()) {
+            Ok(place) => Some(place),
+            Err(_) => None,
+        }
+    }
+
     /// The Domain_ID, 1 to 239.
     pub fn domain(self) -> u8
         ensures value { result ≡ self.domain }
-        ensures low { 1 ≤ result }
-        ensures high { result ≤ 239 }
+        ensures low { first_domain ≤ result }
+        ensures high { result ≤ last_domain }
     {
         self.domain
     }
@@ -103,7 +130,7 @@ impl Place {
     /// The physical port, 0 to 4095.
     pub fn slot(self) -> u16
         ensures value { result ≡ self.slot }
-        ensures high { result ≤ 4095 }
+        ensures high { result ≤ last_slot }
     {
         self.slot
     }

@@ -29,6 +29,34 @@ impl Model for Wwn {
     ghost inverse = { λ n. record { number = n } };
 }
 
+/// The sixteen lower-case digits of a world-wide name, as a text.
+#[derive(Clone, Copy)]
+pub struct PlainWwn {
+    digits: [u8; 16],
+}
+
+impl Model for PlainWwn {
+    ghost use Rattle.std.specs.Prelude.{ℕ, List};
+    ghost use Rattle.std.specs.Str.{IsUtf8};
+
+    ghost Value = { List ℕ };
+
+    ghost view = { λ p. p.digits };
+
+    ghost invariant = { λ p. IsUtf8 p.digits };
+
+    ghost inverse = { λ v. record { digits = v } };
+}
+
+impl PlainWwn {
+    /// The digits.
+    pub fn as_str(&self) -> &str
+        ensures { result.now ≡ self.now }
+    {
+        unsafe { str::from_utf8_unchecked(&self.digits) }
+    }
+}
+
 /// The sixteen digits of a text, where it is laid out as one of the three forms.
 fn digits_in(t: &[u8]) -> Option<[u8; 16]>
     ensures { MatchOption result ((ds : _) → length ds ≡ 16 → ¬ IsDigitsOf ds t.now) (λ ds. IsDigitsOf ds t.now) }
@@ -122,6 +150,31 @@ fn hex_digit(d: u8) -> u8
     if d < 10 { b'0' + d } else { b'a' + (d - 10) }
 }
 
+/// Sixteen digits.
+fn plain_digits_of(number: u64) -> [u8; 16]
+    ensures { result ≡ spec.plain_text number }
+{
+    let b = number.to_be_bytes();
+    [
+        hex_digit(b[0] / 16),
+        hex_digit(b[0] % 16),
+        hex_digit(b[1] / 16),
+        hex_digit(b[1] % 16),
+        hex_digit(b[2] / 16),
+        hex_digit(b[2] % 16),
+        hex_digit(b[3] / 16),
+        hex_digit(b[3] % 16),
+        hex_digit(b[4] / 16),
+        hex_digit(b[4] % 16),
+        hex_digit(b[5] / 16),
+        hex_digit(b[5] % 16),
+        hex_digit(b[6] / 16),
+        hex_digit(b[6] % 16),
+        hex_digit(b[7] / 16),
+        hex_digit(b[7] % 16),
+    ]
+}
+
 /// Eight pairs of digits joined by colons.
 fn letters_of(number: u64) -> [u8; 23]
     ensures { result ≡ spec.wwn_text number }
@@ -163,11 +216,6 @@ impl fmt::Display for Wwn {
     }
 }
 
-/// What is printed of a number is a text form of it.
-pub fn printed_wwn_is_read()
-    ensures { (n : ℕ) → 0 < n → n < 2 ^ 64 → SpellsWwn (spec.wwn_text n) n }
-{}
-
 impl Wwn {
     /// Reads sixteen hexadecimal digits of either case, plain, after `0x`, or as eight pairs
     /// joined by `:`. It takes no memory.
@@ -193,6 +241,34 @@ impl Wwn {
         Ok(Wwn { number })
     }
 
+    /// Reads the sixteen lower-case digits of a name, and no other form. It takes no memory.
+    pub fn read_plain(text: &str) -> Option<Wwn>
+        ensures { MatchOption result ((n : ℕ) → ¬ spec.SpellsPlain text.now n) (spec.SpellsPlain text.now) }
+    {
+        let Ok(wwn) = Wwn::read(text) else {
+            return None;
+        };
+        let digits = plain_digits_of(wwn.number());
+        if text.as_bytes() != &digits[..] {
+            return None;
+        }
+        Some(wwn)
+    }
+
+    /// Reads the printed form of a name, and no other. It takes no memory.
+    pub fn read_printed(text: &str) -> Option<Wwn>
+        ensures { MatchOption result ((n : ℕ) → ¬ spec.SpellsPrintedWwn text.now n) (spec.SpellsPrintedWwn text.now) }
+    {
+        let Ok(wwn) = Wwn::read(text) else {
+            return None;
+        };
+        let letters = wwn.letters();
+        if text.as_bytes() != &letters[..] {
+            return None;
+        }
+        Some(wwn)
+    }
+
     /// The name with this number.
     pub fn new(number: u64) -> Self
         requires { 0 < number }
@@ -207,6 +283,15 @@ impl Wwn {
         ensures nonzero { 0 < result }
     {
         self.number
+    }
+
+    /// The sixteen lower-case digits of the name, without memory.
+    pub fn plain(self) -> PlainWwn
+        ensures { result ≡ spec.plain_text self }
+    {
+        PlainWwn {
+            digits: plain_digits_of(self.number),
+        }
     }
 
     /// The characters of the printed form, without memory.
