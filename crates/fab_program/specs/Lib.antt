@@ -1,4 +1,1 @@
-pub mod World
-pub mod Acting
-pub mod Answering
 pub mod Exits

@@ -1,23 +1,24 @@
 //! `sandesk`: a change desk for SAN zoning and volume mapping, over HTTP.
 #![tactic(auto)]
 
-pub mod answering;
-pub mod first;
 mod run;
 #[cfg(test)]
 mod tests;
+mod words;
 
+use std::io;
 use std::process::ExitCode;
-use std::{env, io};
 
-fn main(rt: HostRuntime) -> io::Result<ExitCode> {
-    let words: Vec<String> = env::args(&rt)?.collect(rt.alloc())?;
-    let status = run::run(
-        rt.alloc(),
-        words.as_slice(),
-        rt.reader(),
-        io::writer(&rt),
-        &mut rt.stderr(),
-    );
-    Ok(ExitCode::from(status))
+fn main(rt: HostRuntime) -> ExitCode {
+    let status = match words::words_of(&rt) {
+        Ok(words) => run::run(
+            rt.alloc(),
+            words.as_slice(),
+            rt.reader(),
+            io::writer(&rt),
+            &mut rt.stderr(),
+        ),
+        Err(fault) => run::refuse_fault(&mut rt.stderr(), fault),
+    };
+    ExitCode::from(status)
 }

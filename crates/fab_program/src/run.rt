@@ -1,15 +1,16 @@
-//! The words of the command line, and the exit status.
+//! What the words of the command line ask for, and the exit status.
 ghost use Rattle.std.specs.Prelude.{◌≡◌, ◌≢◌, ◌⊎◌, IfOk, map, string_bytes};
 ghost use Rattle.clap.specs.Words.{app_of, kind_of};
 ghost use Rattle.clap.specs.declared.error.kind.ErrorKind.TheVariants.{OutOfMemory};
-ghost use Rattle.fab_program.specs.Exits.{IsExitStatus, AreUnderstood, desk_app, exit_status};
+ghost use Rattle.fab_program.specs.Exits.{IsExitStatus, AreUnderstood, desk_app, exit_status, fault_status};
 
-use crate::answering::answer_one;
-use crate::first::First;
+use crate::words::WordsFault;
 use clap::error::ErrorKind;
 use clap::{Command, Error};
-use fab_wire_base::answers::Outcome;
-use fab_wire_base::counted::Counted;
+use fab_first::answering::answer_one;
+use fab_first::answers::Outcome;
+use fab_first::first::First;
+use fab_json::counted::Counted;
 use std::alloc::{AllocError, Global};
 use std::io::{Read, Write};
 
@@ -23,6 +24,7 @@ pub const WRONG_WORDS: u8 = 2;
 pub const FAILED: u8 = 3;
 
 /// The words that are understood.
+#[tactic(auto, unfolding(crate::specs::Exits::desk_app))]
 fn command_line<'a>(alloc: Global) -> Result<Command<'a>, AllocError>
     ensures { IfOk result (λ command. app_of command ≡ desk_app) }
 {
@@ -94,6 +96,19 @@ fn refuse_words<E: Write>(errors: &mut E, error: &Error) -> u8
     }
     let _ = write!(errors, "{error}");
     WRONG_WORDS
+}
+
+/// Tells why there are no words, and gives the exit status.
+pub fn refuse_fault<E: Write>(errors: &mut E, fault: WordsFault) -> u8
+    ensures { result ≡ fault_status fault }
+{
+    match fault {
+        WordsFault::NotText => {
+            let _ = writeln!(errors, "sandesk: a word is not UTF-8");
+            WRONG_WORDS
+        }
+        WordsFault::Memory => fail(errors, "memory"),
+    }
 }
 
 /// Tells in one line what failed.

@@ -1,5 +1,5 @@
 -- What an input spells, from its head and the bytes behind it.
-use Rattle.std.proofs.Common.{◌≡◌, ℕ, ◌<◌, ◌≤◌, inr, List, ◌++◌, length, take, drop, Option, Some, None, IfSome, refl, subst, true, false, arith, map}
+use Rattle.std.proofs.Common.{◌≡◌, ℕ, ◌<◌, ◌≤◌, inr, List, [], ◌++◌, length, take, drop, Option, Some, None, IfSome, refl, sym, subst, Bool, true, false, arith, map, length-append}
 use Rattle.std.specs.Prelude.{nat_le}
 use Rattle.std.proofs.lemmas.Bool.Decides.{nat_tests}
 use Rattle.httparse.specs.Grammar.{print_request}
@@ -10,21 +10,24 @@ use Rattle.httparse.specs.declared.spans.RequestSpans.{RequestSpans}
 use Rattle.fab_wire_base.specs.Lines.{Line, lines_of}
 use Rattle.fab_wire_base.specs.Asking.{Asking, asks, HeadAsks}
 use Rattle.fab_wire_base.specs.Spelling.{Spelling, refused, unnamed, asked, SpellsCommand, SpellsBehind, Spells}
-use Rattle.fab_wire_base.specs.Hearing.{IsHeard, IsHeardOf, IsHeardBehind, order_of}
-use Rattle.fab_wire_base.specs.declared.routes.Route.{Route}
+use Rattle.fab_wire_base.specs.Hearing.{IsHeard, IsHeardOf, IsHeardBy, IsMeant, order_of}
+use Rattle.fab_wire_base.specs.declared.kinds.Kind.{Kind}
 use Rattle.fab_wire_base.specs.declared.requests.Refusal.TheVariants as no
+use Rattle.fab_wire_base.specs.declared.hear.Meant.{Meant}
+use Rattle.fab_wire_base.specs.declared.hear.Meant.TheVariants as meant
 use Rattle.fab_wire_base.specs.declared.hear.Heard.{Heard}
 use Rattle.fab_wire_base.specs.declared.hear.Heard.TheVariants as heard
+use Rattle.fab_wire_base.proofs.SpellingLemmas.{head-some}
 
 -- a head that has been read, and what it asks for, spell for the whole input
-pub spells-read : (got more : List ℕ) (headers : List HeaderSpan) (spans : RequestSpans) (asking : Asking) (s : Spelling)
+pub spells-read : (knows : List ℕ → Bool) (got more : List ℕ) (headers : List HeaderSpan) (spans : RequestSpans) (asking : Asking) (s : Spelling)
     → IsRequestOf got headers spans → length got ≤ 8192 → spans.len ≤ length got
-    → HeadAsks (span_bytes got spans.method) (span_bytes got spans.path) (lines_of got (take spans.headers headers)) asking
-    → SpellsBehind (span_bytes got spans.path) (drop spans.len got ++ more) asking s → Spells (got ++ more) s
-spells-read got more headers spans asking s (h, at) small within asks_it behind =
+    → HeadAsks knows (span_bytes got spans.method) (span_bytes got spans.path) (lines_of got (take spans.headers headers)) asking
+    → SpellsBehind (span_bytes got spans.path) (drop spans.len got ++ more) asking s → Spells knows (got ++ more) s
+spells-read knows got more headers spans asking s (h, at) small within asks_it behind =
     let short : length (print_request h) ≤ 8192 = omega (arith, at.len) in
-    let same : HeadAsks h.method h.target (lines_of got (take spans.headers headers)) asking = rw (at.method, at.path) at asks_it in
-    let named : HeadAsks h.method h.target (map name_and_value h.fields) asking = subst (λ (ls : List Line). HeadAsks h.method h.target ls asking) at.fields same in
+    let same : HeadAsks knows h.method h.target (lines_of got (take spans.headers headers)) asking = rw (at.method, at.path) at asks_it in
+    let named : HeadAsks knows h.method h.target (map name_and_value h.fields) asking = subst (λ (ls : List Line). HeadAsks knows h.method h.target ls asking) at.fields same in
     inr (inr (h, drop spans.len got ++ more, (ReadsRequest-append got h (drop spans.len got) more at.reads, short), (asking, named, rw at.path at behind)))
 
 -- what holds of every value holds of the value that is there
@@ -37,35 +40,50 @@ pub IfSome-map : {X : Type 0} (o : Option X) (P Q : X → Type 0) → ((x : X) �
 IfSome-map None P Q f h = tt
 IfSome-map (Some x) P Q f h = f x h
 
--- what is heard behind a head is heard of the input
-pub heard-behind : {A : Type 0} (answer : Heard A) (input token : List ℕ) (r : Route) (target body : List ℕ)
-    → ((s : Spelling) → SpellsCommand token r target body s → Spells input s) → IsHeardBehind r target body answer → IsHeard input answer
-heard-behind heard.Nothing input token r target body f h = absurd h
-heard-behind (heard.Refused why) input token r target body f h = f (refused why) (h token)
-heard-behind heard.Unnamed input token r target body f h = f unnamed (h token)
-heard-behind (heard.Asked command) input token r target body f h = (token, f (asked token (order_of command)) (h token))
-heard-behind heard.ReadFailed input token r target body f h = tt
-heard-behind heard.Memory input token r target body f h = tt
+-- bytes that begin with a head are some
+pub some-read : (got more : List ℕ) (headers : List HeaderSpan) (spans : RequestSpans) → IsRequestOf got headers spans → 0 < length (got ++ more)
+some-read got more headers spans (h, at) = let some : 0 < length got = head-some got h (drop spans.len got) at.reads in simp length-append (omega arith)
+
+-- what is heard by a token, and is meant behind a head, is heard of the input
+pub heard-behind : {A : Type 0} (answer : Heard A) (what : Meant A) (knows : List ℕ → Bool) (input token : List ℕ) (k : Kind) (target body : List ℕ)
+    → 0 < length input → ((s : Spelling) → SpellsCommand token k target body s → Spells knows input s) → IsMeant k target body what → IsHeardBy token what answer → IsHeard knows input answer
+heard-behind {A} heard.Nothing what knows input token k target body some f m h = absurd h
+heard-behind {A} (heard.Refused why) what knows input token k target body some f m h = f (refused why) ((subst (λ (w : Meant A). IsMeant k target body w) h m) token)
+heard-behind {A} heard.Unnamed what knows input token k target body some f m h = f unnamed ((subst (λ (w : Meant A). IsMeant k target body w) h m) token)
+heard-behind {A} (heard.Asked by command) what knows input token k target body some f m h =
+    subst (λ (t : List ℕ). Spells knows input (asked t (order_of command))) (sym h.0)
+    (f (asked token (order_of command)) ((subst (λ (w : Meant A). IsMeant k target body w) h.1 m) token))
+heard-behind {A} heard.ReadFailed what knows input token k target body some f m h = tt
+heard-behind {A} heard.Memory what knows input token k target body some f m h = some
 
 -- all of a body is there
-pub behind-whole : (token : List ℕ) (r : Route) (target rest : List ℕ) (size : ℕ) (s : Spelling) → size ≤ length rest
-    → SpellsCommand token r target (take size rest) s → SpellsBehind target rest (asks token r (Some size)) s
-behind-whole token r target rest size s h k = let e : nat_le size (length rest) ≡ true = grind (arith, nat_tests) in rw e k
+pub behind-whole : (token : List ℕ) (what : Kind) (target rest : List ℕ) (size : ℕ) (s : Spelling) → size ≤ length rest
+    → SpellsCommand token what target (take size rest) s → SpellsBehind target rest (asks token what (Some size)) s
+behind-whole token what target rest size s h k = let e : nat_le size (length rest) ≡ true = grind (arith, nat_tests) in rw e k
 
 -- a body is too short
-pub behind-short : (token : List ℕ) (r : Route) (target rest : List ℕ) (size : ℕ) → length rest < size
-    → SpellsBehind target rest (asks token r (Some size)) (refused (no.BadBody 0))
-behind-short token r target rest size h = let e : nat_le size (length rest) ≡ false = grind (arith, nat_tests) in rw e refl
+pub behind-short : (token : List ℕ) (what : Kind) (target rest : List ℕ) (size : ℕ) → length rest < size
+    → SpellsBehind target rest (asks token what (Some size)) (refused (no.BadBody 0))
+behind-short token what target rest size h = let e : nat_le size (length rest) ≡ false = grind (arith, nat_tests) in rw e refl
 
--- what is heard behind a head and a body is heard of the input
-pub heard-whole : {A : Type 0} (answer : Heard A) (got more : List ℕ) (headers : List HeaderSpan) (spans : RequestSpans) (token : List ℕ) (r : Route) (size : ℕ) (body : List ℕ)
+-- what is heard by a token, and is meant behind a head without a body, is heard of the input
+pub heard-bare : {A : Type 0} (answer : Heard A) (what : Meant A) (knows : List ℕ → Bool) (got more : List ℕ) (headers : List HeaderSpan) (spans : RequestSpans) (token : List ℕ) (k : Kind)
     → IsRequestOf got headers spans → length got ≤ 8192 → spans.len ≤ length got
-    → HeadAsks (span_bytes got spans.method) (span_bytes got spans.path) (lines_of got (take spans.headers headers)) (asks token r (Some size))
+    → HeadAsks knows (span_bytes got spans.method) (span_bytes got spans.path) (lines_of got (take spans.headers headers)) (asks token k None)
+    → IsMeant k (span_bytes got spans.path) [] what → IsHeardBy token what answer → IsHeardOf knows got more answer
+heard-bare answer what knows got more headers spans token k head short within judged behind by =
+    heard-behind answer what knows (got ++ more) token k (span_bytes got spans.path) [] (some-read got more headers spans head)
+    (λ s h. spells-read knows got more headers spans (asks token k None) s head short within judged h) behind by
+
+-- the same behind a head and a body
+pub heard-whole : {A : Type 0} (answer : Heard A) (what : Meant A) (knows : List ℕ → Bool) (got more : List ℕ) (headers : List HeaderSpan) (spans : RequestSpans) (token : List ℕ) (k : Kind) (size : ℕ) (body : List ℕ)
+    → IsRequestOf got headers spans → length got ≤ 8192 → spans.len ≤ length got
+    → HeadAsks knows (span_bytes got spans.method) (span_bytes got spans.path) (lines_of got (take spans.headers headers)) (asks token k (Some size))
     → size ≤ length (drop spans.len got ++ more) → body ≡ take size (drop spans.len got ++ more)
-    → IsHeardBehind r (span_bytes got spans.path) body answer → IsHeardOf got more answer
-heard-whole answer got more headers spans token r size body head short within judged fits whole behind =
-    heard-behind answer (got ++ more) token r (span_bytes got spans.path) body
-    (λ s k. spells-read got more headers spans (asks token r (Some size)) s head short within judged
-    (behind-whole token r (span_bytes got spans.path) (drop spans.len got ++ more) size s fits
-    (subst (λ (b : List ℕ). SpellsCommand token r (span_bytes got spans.path) b s) whole k)))
-    behind
+    → IsMeant k (span_bytes got spans.path) body what → IsHeardBy token what answer → IsHeardOf knows got more answer
+heard-whole answer what knows got more headers spans token k size body head short within judged fits whole behind by =
+    heard-behind answer what knows (got ++ more) token k (span_bytes got spans.path) body (some-read got more headers spans head)
+    (λ s h. spells-read knows got more headers spans (asks token k (Some size)) s head short within judged
+    (behind-whole token k (span_bytes got spans.path) (drop spans.len got ++ more) size s fits
+    (subst (λ (b : List ℕ). SpellsCommand token k (span_bytes got spans.path) b s) whole h)))
+    behind by

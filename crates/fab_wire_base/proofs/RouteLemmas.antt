@@ -3,13 +3,13 @@ use Rattle.std.proofs.Common.{◌≡◌, ℕ, ◌+◌, ◌-◌, ◌<◌, ◌≤�
 use Rattle.std.specs.Prelude.{is_none}
 use Rattle.matchit.proofs.OnLiterals.{matchit_on_literals}
 use Rattle.matchit.specs.declared.error.InsertError.TheVariants.{Conflict, OutOfMemory, InvalidParamSegment, InvalidParam, InvalidCatchAll}
-use Rattle.fab_wire_base.specs.declared.routes.TheConstants.{ROUTES}
 use Rattle.std.proofs.lemmas.Grind.{common_steps}
 use Rattle.matchit.specs.Route.{Scan, parse_route}
 use Rattle.matchit.specs.Router.{InsertsRead, nearest}
 use Rattle.matchit.specs.declared.error.InsertError.{InsertError}
-use Rattle.fab_wire_base.specs.declared.routes.Route.{Route}
-use Rattle.fab_wire_base.specs.Routes.{Table, path_of, with_scan, with_route, fits_scan, fits, table_from}
+use Rattle.fab_wire_base.specs.declared.kinds.Route.{Route}
+use Rattle.fab_wire_base.specs.Table.{all_routes, path_of}
+use Rattle.fab_wire_base.specs.Routes.{Table, with_scan, with_route, fits_scan, fits, table_from}
 use Rattle.fab_wire_base.specs.Segments.{from_slash_on, segment_at}
 
 by-scan : (read : Result Scan InsertError) (r : Route) (old new : Table) (done : Result (Unit {0}) InsertError) → InsertsRead read r old new done → OnOk done (new ≡ with_scan read r old)
@@ -42,7 +42,7 @@ unfoldable pub all_fit : Table → List Route → Bool
 all_fit table [] = true
 all_fit table (r ∷ routes) = fits r table && all_fit (with_route r table) routes
 
-pub routes_fit : all_fit [] ROUTES ≡ true
+pub routes_fit : all_fit [] all_routes ≡ true
 unfolding matchit_on_literals with_route fits all_fit
 routes_fit = refl
 

@@ -19,14 +19,14 @@ use Rattle.fab_wire_base.specs.Fields.{IsLengthOf, is_given}
 use Rattle.fab_wire_base.specs.Callers.{caller_of}
 use Rattle.fab_wire_base.specs.Parts.{part_at}
 use Rattle.fab_wire_base.specs.Asking.{Asking, refuses, asks, HeadAsks, by_head, target_route}
-use Rattle.fab_wire_base.specs.PortLists.{Record, header, SpellRows, ListsPorts, HasNoHeader, HasBadRowBehind, IsFaultAt}
+use Rattle.fab_files_base.specs.PortLists.{Record, header, SpellRows, ListsPorts, HasNoHeader, HasBadRowBehind, IsFaultAt}
 use Rattle.fab_wire_base.specs.Spelling.{imports, joined, Spelling, refused, unnamed, asked, SpellsImport, SpellsJoined, SpellsCommand, SpellsBehind, SpellsRequest, Spells}
 use Rattle.fab_wire_base.specs.declared.fields.Length.{Length}
 use Rattle.fab_wire_base.specs.declared.fields.Length.TheVariants as len
-use Rattle.fab_wire_base.specs.declared.routes.Route.{Route}
-use Rattle.fab_wire_base.specs.declared.routes.Route.TheVariants as route
+use Rattle.fab_wire_base.specs.declared.kinds.Kind.{Kind}
+use Rattle.fab_wire_base.specs.declared.kinds.Kind.TheVariants as kind
 use Rattle.fab_wire_base.specs.declared.requests.Refusal.TheVariants as no
-use Rattle.fab_wire_base.proofs.RecordLemmas.{all-front, two-fronts, one-list, one_wwn, one_listing, rows-long, row-inside, last-inside}
+use Rattle.fab_files_base.proofs.RecordLemmas.{all-front, two-fronts, one-list, one_wwn, one_listing, rows-long, row-inside, last-inside}
 
 -- no port list that lists rows has a faulty record
 no-fault : (text : List ℕ) (rows : List PortRow) (line : ℕ) → ListsPorts text rows → IsFaultAt text line → ⊥
@@ -126,9 +126,10 @@ joined-agree token target s t (whole p q e h l) (whole p' q' f h' l') =
     let second : q ≡ q' = one_wwn (part_at 3 target) q q' l l' in
     cc (e, f, first, second)
 
-one_command : (token : List ℕ) (r : Route) (target body : List ℕ) (s t : Spelling) → SpellsCommand token r target body s → SpellsCommand token r target body t → s ≡ t
-one_command token route.Imports target body s t h k = shapes-agree token target body s t (import-shape token target body s h) (import-shape token target body t k)
-one_command token route.Joined target body s t h k = joined-agree token target s t (joined-shape token target s h) (joined-shape token target t k)
+one_command : (token : List ℕ) (k : Kind) (target body : List ℕ) (s t : Spelling) → SpellsCommand token k target body s → SpellsCommand token k target body t → s ≡ t
+one_command token kind.Import target body s t h k = shapes-agree token target body s t (import-shape token target body s h) (import-shape token target body t k)
+one_command token kind.Joined target body s t h k = joined-agree token target s t (joined-shape token target s h) (joined-shape token target t k)
+one_command token other target body s t h k = h ∙ sym k
 
 one_body : (b : Bool) (P Q : Spelling → Type 0) (s t : Spelling) → ((s t : Spelling) → P s → P t → s ≡ t) → ((s t : Spelling) → Q s → Q t → s ≡ t) → MatchBool b (P s) (Q s) → MatchBool b (P t) (Q t) → s ≡ t
 one_body true P Q s t f g h k = f s t h k
@@ -136,10 +137,10 @@ one_body false P Q s t f g h k = g s t h k
 
 one_behind : (target rest : List ℕ) (asking : Asking) (s t : Spelling) → SpellsBehind target rest asking s → SpellsBehind target rest asking t → s ≡ t
 one_behind target rest (refuses why) s t h k = h ∙ sym k
-one_behind target rest (asks token r None) s t h k = one_command token r target [] s t h k
-one_behind target rest (asks token r (Some size)) s t h k =
-    one_body (nat_le size (length rest)) (SpellsCommand token r target (take size rest)) (λ x. x ≡ refused (no.BadBody 0)) s t
-    (one_command token r target (take size rest)) (λ x y e f. e ∙ sym f) h k
+one_behind target rest (asks token what None) s t h k = one_command token what target [] s t h k
+one_behind target rest (asks token what (Some size)) s t h k =
+    one_body (nat_le size (length rest)) (SpellsCommand token what target (take size rest)) (λ x. x ≡ refused (no.BadBody 0)) s t
+    (one_command token what target (take size rest)) (λ x y e f. e ∙ sym f) h k
 
 -- header lines give one length
 one_length : (values : List (List ℕ)) (a b : Length) → IsLengthOf values a → IsLengthOf values b → a ≡ b
@@ -155,30 +156,31 @@ one_length values len.Bad len.Missing h k = absurd (h 0 (subst (λ (vs : List (L
 one_length values len.Bad (len.Is n) h k = absurd (h n k.1)
 one_length values len.Bad len.Bad h k = refl
 
-one_asking : (method target : List ℕ) (lines : List Line) (a b : Asking) → HeadAsks method target lines a → HeadAsks method target lines b → a ≡ b
-one_asking method target lines a b (l, h, e) (m, k, f) =
+one_asking : (knows : List ℕ → Bool) (method target : List ℕ) (lines : List Line) (a b : Asking) → HeadAsks knows method target lines a → HeadAsks knows method target lines b → a ≡ b
+one_asking knows method target lines a b (l, h, e) (m, k, f) =
     let same : l ≡ m = one_length (values_of (codes "content-length") lines) l m h k in
-    e ∙ ap (λ x. by_head x (caller_of lines) (target_route target) method (is_given (values_of (codes "transfer-encoding") lines))) same ∙ sym f
+    e ∙ ap (λ x. by_head x (caller_of knows lines) (target_route target) method (is_given (values_of (codes "transfer-encoding") lines))) same ∙ sym f
 
-one_request : (head : RequestHead) (rest : List ℕ) (s t : Spelling) → SpellsRequest head rest s → SpellsRequest head rest t → s ≡ t
-one_request head rest s t (a, h, x) (b, k, y) =
-    let same : a ≡ b = one_asking head.method head.target (map name_and_value head.fields) a b h k in
+one_request : (knows : List ℕ → Bool) (head : RequestHead) (rest : List ℕ) (s t : Spelling) → SpellsRequest knows head rest s → SpellsRequest knows head rest t → s ≡ t
+one_request knows head rest s t (a, h, x) (b, k, y) =
+    let same : a ≡ b = one_asking knows head.method head.target (map name_and_value head.fields) a b h k in
     one_behind head.target rest b s t (subst (λ z. SpellsBehind head.target rest z s) same x) y
 
-head-some : (input : List ℕ) (head : RequestHead) (rest : List ℕ) → ReadsRequest input head rest → 0 < length input
+-- a head has a byte
+pub head-some : (input : List ℕ) (head : RequestHead) (rest : List ℕ) → ReadsRequest input head rest → 0 < length input
 unfolding print_request
 head-some input head rest (h, e) = rw e (simp length-append (omega (arith, h.target.0)))
 
 -- an input spells one thing
-pub spells_one : (input : List ℕ) (s t : Spelling) → Spells input s → Spells input t → s ≡ t
-spells_one input s t (inl h) (inl k) = h.1 ∙ sym k.1
-spells_one input s t (inl h) (inr (inl k)) = absurd (omega (arith, ap length h.0))
-spells_one input s t (inl h) (inr (inr k)) = absurd (omega (arith, ap length h.0, head-some input k.0 k.1 k.2.0))
-spells_one input s t (inr (inl h)) (inl k) = absurd (omega (arith, ap length k.0))
-spells_one input s t (inr (inl h)) (inr (inl k)) = h.2 ∙ sym k.2
-spells_one input s t (inr (inl h)) (inr (inr k)) = absurd (h.1 k.0 k.1 k.2)
-spells_one input s t (inr (inr h)) (inl k) = absurd (omega (arith, ap length k.0, head-some input h.0 h.1 h.2.0))
-spells_one input s t (inr (inr h)) (inr (inl k)) = absurd (k.1 h.0 h.1 h.2)
-spells_one input s t (inr (inr (head, rest, is, h))) (inr (inr (head', rest', is', k))) =
+pub spells_one : (knows : List ℕ → Bool) (input : List ℕ) (s t : Spelling) → Spells knows input s → Spells knows input t → s ≡ t
+spells_one knows input s t (inl h) (inl k) = h.1 ∙ sym k.1
+spells_one knows input s t (inl h) (inr (inl k)) = absurd (omega (arith, ap length h.0))
+spells_one knows input s t (inl h) (inr (inr k)) = absurd (omega (arith, ap length h.0, head-some input k.0 k.1 k.2.0))
+spells_one knows input s t (inr (inl h)) (inl k) = absurd (omega (arith, ap length k.0))
+spells_one knows input s t (inr (inl h)) (inr (inl k)) = h.2 ∙ sym k.2
+spells_one knows input s t (inr (inl h)) (inr (inr k)) = absurd (h.1 k.0 k.1 k.2)
+spells_one knows input s t (inr (inr h)) (inl k) = absurd (omega (arith, ap length k.0, head-some input h.0 h.1 h.2.0))
+spells_one knows input s t (inr (inr h)) (inr (inl k)) = absurd (k.1 h.0 h.1 h.2)
+spells_one knows input s t (inr (inr (head, rest, is, h))) (inr (inr (head', rest', is', k))) =
     let same = request_unique input head head' rest rest' is.0 is'.0 in
-    one_request head' rest' s t (subst (λ x. SpellsRequest x rest' s) same.0 (subst (λ x. SpellsRequest head x s) same.1 h)) k
+    one_request knows head' rest' s t (subst (λ x. SpellsRequest knows x rest' s) same.0 (subst (λ x. SpellsRequest knows head x s) same.1 h)) k

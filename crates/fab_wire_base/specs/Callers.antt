@@ -13,11 +13,11 @@ is_token_byte b = is_ascii_alphanumeric b || list_any (λ c. c == b) (codes "-._
 abbrev pub is_token : List ℕ → Bool
 is_token text = nat_le 1 (length text) && nat_le (length text) 128 && list_all is_token_byte text
 
--- the token of a caller that is known; without a policy, each of the text form is
-abbrev pub known_token : Option (List ℕ) → Option (List ℕ)
-known_token None = None
-known_token (Some token) = if is_token token then Some token else None
+-- a token, where it is a caller's
+abbrev pub known_token : (List ℕ → Bool) → Option (List ℕ) → Option (List ℕ)
+known_token knows None = None
+known_token knows (Some token) = if knows token then Some token else None
 
--- the token of the known caller that header lines name
-abbrev pub caller_of : List Line → Option (List ℕ)
-caller_of lines = known_token (token_of (values_of (codes "authorization") lines))
+-- the token of the caller that header lines name
+abbrev pub caller_of : (List ℕ → Bool) → List Line → Option (List ℕ)
+caller_of knows lines = known_token knows (token_of (values_of (codes "authorization") lines))

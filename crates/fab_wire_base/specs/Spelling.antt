@@ -1,5 +1,5 @@
 -- What the input of a connection spells.
-use Rattle.std.specs.Prelude.{ℕ, ◌≡◌, ◌<◌, ◌⊎◌, List, [], Some, None, length, take, map, nat_le, MatchBool}
+use Rattle.std.specs.Prelude.{ℕ, ◌≡◌, ◌<◌, ◌⊎◌, List, [], Bool, Some, None, length, take, map, nat_le, MatchBool}
 use Rattle.httparse.specs.Grammar.{RequestHead}
 use Rattle.httparse.specs.Spans.{name_and_value}
 use Rattle.fab_names.specs.Fabrics.{SpellsFabric}
@@ -9,9 +9,9 @@ use Rattle.fab_inventory.specs.declared.port.PortRow.{PortRow}
 use Rattle.fab_wire_base.specs.Heads.{IsHead, HasNoHead}
 use Rattle.fab_wire_base.specs.Parts.{part_at}
 use Rattle.fab_wire_base.specs.Asking.{Asking, refuses, asks, HeadAsks}
-use Rattle.fab_wire_base.specs.PortLists.{ListsPorts, IsFaultAt}
-use Rattle.fab_wire_base.specs.declared.routes.Route.{Route}
-use Rattle.fab_wire_base.specs.declared.routes.Route.TheVariants as route
+use Rattle.fab_files_base.specs.PortLists.{ListsPorts, IsFaultAt}
+use Rattle.fab_wire_base.specs.declared.kinds.Kind.{Kind}
+use Rattle.fab_wire_base.specs.declared.kinds.Kind.TheVariants as kind
 use Rattle.fab_wire_base.specs.declared.requests.Refusal.{Refusal}
 use Rattle.fab_wire_base.specs.declared.requests.Refusal.TheVariants as no
 
@@ -40,30 +40,35 @@ SpellsJoined token target unnamed = ((p : ℕ) → ¬ (SpellsWwn (part_at 2 targ
 SpellsJoined token target (asked by (joined p q)) = (by ≡ token) × SpellsWwn (part_at 2 target) p × SpellsWwn (part_at 3 target) q
 SpellsJoined token target other = ⊥
 
--- a route, a path and a body spell a command of a caller
-abbrev pub SpellsCommand : List ℕ → Route → List ℕ → List ℕ → Spelling → Type 0
-SpellsCommand token route.Imports target body spelling = SpellsImport token target body spelling
-SpellsCommand token route.Joined target body spelling = SpellsJoined token target spelling
+-- what is asked for, a path and a body spell a command of a caller; what is not carried out yet is refused as a path without a route
+abbrev pub SpellsCommand : List ℕ → Kind → List ℕ → List ℕ → Spelling → Type 0
+SpellsCommand token kind.Import target body spelling = SpellsImport token target body spelling
+SpellsCommand token kind.Joined target body spelling = SpellsJoined token target spelling
+SpellsCommand token other target body spelling = spelling ≡ refused no.NoRoute
 
 -- what a head asks for, and the bytes behind it, spell: a refusal; a command without a body; or one with the body, if all of it is there
 abbrev pub SpellsBehind : List ℕ → List ℕ → Asking → Spelling → Type 0
 SpellsBehind target rest (refuses why) spelling = spelling ≡ refused why
-SpellsBehind target rest (asks token r None) spelling = SpellsCommand token r target [] spelling
-SpellsBehind target rest (asks token r (Some size)) spelling =
-    MatchBool (nat_le size (length rest)) (SpellsCommand token r target (take size rest) spelling) (spelling ≡ refused (no.BadBody 0))
+SpellsBehind target rest (asks token k None) spelling = SpellsCommand token k target [] spelling
+SpellsBehind target rest (asks token k (Some size)) spelling =
+    MatchBool (nat_le size (length rest)) (SpellsCommand token k target (take size rest) spelling) (spelling ≡ refused (no.BadBody 0))
 
--- a head and the bytes behind it spell
-abbrev pub SpellsRequest : RequestHead → List ℕ → Spelling → Type 0
-SpellsRequest head rest spelling =
-    (asking : Asking) × HeadAsks head.method head.target (map name_and_value head.fields) asking × SpellsBehind head.target rest asking spelling
+-- a head and the bytes behind it spell, where these tokens are known
+abbrev pub SpellsRequest : (List ℕ → Bool) → RequestHead → List ℕ → Spelling → Type 0
+SpellsRequest knows head rest spelling =
+    (asking : Asking) × HeadAsks knows head.method head.target (map name_and_value head.fields) asking × SpellsBehind head.target rest asking spelling
 
--- an input spells nothing where it is empty, a bad head where no beginning of it is a head, and else what its head and the bytes behind that spell
-abbrev pub Spells : List ℕ → Spelling → Type 0
-Spells input spelling =
+-- where these tokens are known, an input spells nothing where it is empty, a bad head where no beginning of it is a head, and else what its head and the bytes behind that spell
+abbrev pub Spells : (List ℕ → Bool) → List ℕ → Spelling → Type 0
+Spells knows input spelling =
     ((input ≡ []) × (spelling ≡ nothing))
     ⊎ (((0 < length input) × HasNoHead input × (spelling ≡ refused no.BadHead))
-    ⊎ ((head : RequestHead) × (rest : List ℕ) × IsHead input head rest × SpellsRequest head rest spelling))
+    ⊎ ((head : RequestHead) × (rest : List ℕ) × IsHead input head rest × SpellsRequest knows head rest spelling))
 
 -- an input spells one thing
 abbrev pub SpellsOne : Type 0
-SpellsOne = (input : List ℕ) (s t : Spelling) → Spells input s → Spells input t → s ≡ t
+SpellsOne = (knows : List ℕ → Bool) (input : List ℕ) (s t : Spelling) → Spells knows input s → Spells knows input t → s ≡ t
+
+-- an input spells something: it can't be that it spells none of all
+abbrev pub SpellsSome : Type 0
+SpellsSome = (knows : List ℕ → Bool) (input : List ℕ) → ¬ ((spelling : Spelling) → ¬ (Spells knows input spelling))

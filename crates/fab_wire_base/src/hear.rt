@@ -2,18 +2,18 @@
 
 ghost use Rattle.std.specs.Prelude.{ℕ, ◌≡◌, ◌≤◌, List, length, IfSome};
 ghost use Rattle.httparse.specs.Spans.{IsRequestOf, IsRequestWithin};
-ghost use Rattle.fab_wire_base.specs.Counting.{inner_of, failures_of};
-ghost use Rattle.fab_wire_base.specs.Spelling.{SpellsOne};
-ghost use Rattle.fab_wire_base.specs.Hearing.{IsHeard, IsHeardOf, IsHeardBehind, failures_after_heard};
+ghost use Rattle.fab_json.specs.Counting.{inner_of, failures_of};
+ghost use Rattle.fab_wire_base.specs.Hearing.{IsHeard, IsHeardOf, IsHeardBy, IsMeant, failures_after_heard};
 
 use crate::bodies::{Body, take_body};
-use crate::counted::Counted;
+use crate::callers::Callers;
 use crate::head::{HeadRead, MOST_HEAD, MOST_LINES, read_head};
+use crate::kinds::Kind;
 use crate::parts::{fabric_part, wwn_part};
-use crate::port_list::{FileFault, read_ports};
 use crate::requests::{Judged, Refusal, judge_by_routes};
-use crate::routes::Route;
+use fab_files_base::port_list::{FileFault, read_ports};
 use fab_inventory::PortRow;
+use fab_json::counted::Counted;
 use fab_names::{Fabric, Wwn};
 use httparse::spans::{EMPTY_HEADER_SPAN, HeaderSpan, RequestSpans};
 use std::alloc::{Allocator, Global};
@@ -37,25 +37,40 @@ pub enum Heard<A: Allocator> {
     Refused(Refusal),
     /// A captured part of the path names nothing.
     Unnamed,
-    /// A command of a known caller.
-    Asked(Command<A>),
+    /// The token of a caller, and the command.
+    Asked(Vec<u8, A>, Command<A>),
     /// A read failed, and nothing was read behind it.
     ReadFailed,
+    /// There was no memory. It is not answered to an empty input.
+    Memory,
+}
+
+/// What a request means, whoever asks.
+#[derive(Drop)]
+pub enum Meant<A: Allocator> {
+    /// The body has a fault, or what is asked for is not carried out yet.
+    Refused(Refusal),
+    /// A captured part of the path names nothing.
+    Unnamed,
+    /// A command.
+    Asks(Command<A>),
     /// There was no memory.
     Memory,
 }
 
 /// Hears one request.
 ///
-/// What is heard is what the input spells, however its reads are cut. `ReadFailed` comes only
-/// where a read failed, and then at once. Bodies and rows come from `alloc`; the router, and what
-/// `csv` needs, from `global`.
-pub fn hear<A: Allocator + Copy, R: Read>(
+/// What is heard is what the input spells where the tokens of `callers` are known, however its
+/// reads are cut. `ReadFailed` comes only where a read failed, and then at once. Tokens, bodies and
+/// rows come from `alloc`; the router, and what `csv` needs, from `global`.
+pub fn hear<A: Allocator + Copy, C: Callers, R: Read>(
     alloc: A,
     global: Global,
+    callers: &C,
     reader: &mut Counted<R>,
 ) -> Heard<A>
-    ensures spelled { IfSome (R.remaining (inner_of reader.old)) (λ input. IsHeard input result) }
+    ensures spelled { IfSome (R.remaining (inner_of reader.old))
+        (λ input. IsHeard (C.knows_token callers.now) input result) }
     ensures count { failures_of reader.new
         ≡ failures_after_heard result (failures_of reader.old) }
 {
@@ -63,7 +78,15 @@ pub fn hear<A: Allocator + Copy, R: Read>(
     let mut headers = [EMPTY_HEADER_SPAN; MOST_LINES];
     match read_head(reader, &mut buf, &mut headers) {
         HeadRead::Head(spans, filled) => {
-            hear_request(alloc, global, reader, &buf[..filled], &headers, spans)
+            hear_request(
+                alloc,
+                global,
+                callers,
+                reader,
+                &buf[..filled],
+                &headers,
+                spans,
+            )
         }
         HeadRead::BadHead => Heard::Refused(Refusal::BadHead),
         HeadRead::Empty => Heard::Nothing,
@@ -72,9 +95,10 @@ pub fn hear<A: Allocator + Copy, R: Read>(
 }
 
 /// Judges a head that has been read, and takes the body that it announces.
-fn hear_request<A: Allocator + Copy, R: Read>(
+fn hear_request<A: Allocator + Copy, C: Callers, R: Read>(
     alloc: A,
     global: Global,
+    callers: &C,
     reader: &mut Counted<R>,
     got: &[u8],
     headers: &[HeaderSpan],
@@ -84,20 +108,28 @@ fn hear_request<A: Allocator + Copy, R: Read>(
     requires head { IsRequestOf got.now headers.now spans }
     requires short { length got.now ≤ 8192 }
     ensures spelled { IfSome (R.remaining (inner_of reader.old))
-        (λ more. IsHeardOf got.now more result) }
+        (λ more. IsHeardOf (C.knows_token callers.now) got.now more result) }
     ensures count { failures_of reader.new
         ≡ failures_after_heard result (failures_of reader.old) }
 {
     let target = spans.path.of(got);
     let lines = &headers[..spans.headers];
-    match judge_by_routes(global, got, lines, spans.method.of(got), target) {
+    match judge_by_routes(global, callers, got, lines, spans.method.of(got), target) {
         None => Heard::Memory,
         Some(Judged::Refused(why)) => Heard::Refused(why),
-        Some(Judged::Asks(_, route, None)) => command_of(alloc, global, route, target, &[]),
-        Some(Judged::Asks(_, route, Some(size))) => {
+        Some(Judged::Asks(token, kind, None)) => {
+            heard_by(alloc, token, meant_by(alloc, global, kind, target, &[]))
+        }
+        Some(Judged::Asks(token, kind, Some(size))) => {
             let (_, have) = got.split_at(spans.len);
             match take_body(alloc, reader, have, size) {
-                Body::Whole(body) => command_of(alloc, global, route, target, body.as_slice()),
+                Body::Whole(body) => {
+                    heard_by(
+                        alloc,
+                        token,
+                        meant_by(alloc, global, kind, target, body.as_slice()),
+                    )
+                }
                 Body::Short => Heard::Refused(Refusal::BadBody(0)),
                 Body::ReadFailed => Heard::ReadFailed,
                 Body::Memory => Heard::Memory,
@@ -106,58 +138,69 @@ fn hear_request<A: Allocator + Copy, R: Read>(
     }
 }
 
-/// The command of a route, its target and its body.
-fn command_of<A: Allocator + Copy>(
+/// What is heard where this is meant, by the caller of this token.
+fn heard_by<A: Allocator>(alloc: A, token: &[u8], what: Meant<A>) -> Heard<A>
+    ensures { IsHeardBy token.now what result }
+{
+    match what {
+        Meant::Refused(why) => Heard::Refused(why),
+        Meant::Unnamed => Heard::Unnamed,
+        Meant::Asks(command) => match Vec::from_slice(alloc, token) {
+            Ok(token) => Heard::Asked(token, command),
+            Err(_) => Heard::Memory,
+        },
+        Meant::Memory => Heard::Memory,
+    }
+}
+
+/// What a kind, a target and a body mean.
+fn meant_by<A: Allocator + Copy>(
     alloc: A,
     global: Global,
-    route: Route,
+    kind: Kind,
     target: &[u8],
     body: &[u8],
-) -> Heard<A>
-    ensures { IsHeardBehind route target.now body.now result }
+) -> Meant<A>
+    ensures { IsMeant kind target.now body.now result }
 {
-    match route {
-        Route::Imports => import_of(alloc, global, target, body),
-        Route::Joined => joined_of(alloc, target),
+    match kind {
+        Kind::Import => import_of(alloc, global, target, body),
+        Kind::Joined => joined_of(alloc, target),
+        _ => Meant::Refused(Refusal::NoRoute),
     }
 }
 
 /// The command Import: the rows of the body, and then the fabric that the path names.
-fn import_of<A: Allocator + Copy>(alloc: A, global: Global, target: &[u8], body: &[u8]) -> Heard<A>
-    ensures { IsHeardBehind Route.Imports target.now body.now result }
+fn import_of<A: Allocator + Copy>(alloc: A, global: Global, target: &[u8], body: &[u8]) -> Meant<A>
+    ensures { IsMeant Kind.Import target.now body.now result }
 {
     let rows = match read_ports(alloc, global, body) {
         Ok(rows) => rows,
-        Err(FileFault::Line(line)) => return Heard::Refused(Refusal::BadBody(line)),
-        Err(FileFault::Memory) => return Heard::Memory,
+        Err(FileFault::Line(line)) => return Meant::Refused(Refusal::BadBody(line)),
+        Err(FileFault::Memory) => return Meant::Memory,
     };
     match fabric_part(alloc, target, 2) {
-        Ok(Some(fabric)) => Heard::Asked(Command::Import(fabric, rows)),
-        Ok(None) => Heard::Unnamed,
-        Err(_) => Heard::Memory,
+        Ok(Some(fabric)) => Meant::Asks(Command::Import(fabric, rows)),
+        Ok(None) => Meant::Unnamed,
+        Err(_) => Meant::Memory,
     }
 }
 
 /// The command Joined: the two ports that the path names.
-fn joined_of<A: Allocator + Copy>(alloc: A, target: &[u8]) -> Heard<A>
-    ensures { (body : List ℕ) → IsHeardBehind Route.Joined target.now body result }
+fn joined_of<A: Allocator + Copy>(alloc: A, target: &[u8]) -> Meant<A>
+    ensures { (body : List ℕ) → IsMeant Kind.Joined target.now body result }
 {
     let Ok(first) = wwn_part(alloc, target, 2) else {
-        return Heard::Memory;
+        return Meant::Memory;
     };
     let Ok(second) = wwn_part(alloc, target, 3) else {
-        return Heard::Memory;
+        return Meant::Memory;
     };
     let Some(p) = first else {
-        return Heard::Unnamed;
+        return Meant::Unnamed;
     };
     match second {
-        Some(q) => Heard::Asked(Command::Joined(p, q)),
-        None => Heard::Unnamed,
+        Some(q) => Meant::Asks(Command::Joined(p, q)),
+        None => Meant::Unnamed,
     }
 }
-
-/// An input spells one thing.
-pub fn inputs_spell_one_thing()
-    ensures { SpellsOne }
-{}

@@ -1,28 +1,15 @@
-//! Names that stand in a request as bytes: in a body, or as a captured part of its path.
+//! Names that stand as captured parts in the path of a request.
 
-ghost use Rattle.std.specs.Prelude.{ℕ, IfOk, MatchOption};
-ghost use Rattle.fab_names.specs.WorldWideNames.{SpellsWwn};
+ghost use Rattle.std.specs.Prelude.{IfOk, MatchOption};
 ghost use Rattle.fab_names.specs.Fabrics.{SpellsFabric};
 ghost use Rattle.fab_names.specs.declared.fabric.Fabric as fabrics;
 ghost use Rattle.fab_wire_base.specs.Parts.{IsWwnPart, IsFabricPart};
 
 use crate::routes::decoded_segment;
+use fab_files_base::texts::read_wwn;
 use fab_names::{Fabric, Wwn};
 use std::alloc::{AllocError, Allocator};
 use std::str;
-
-/// The world-wide name that bytes spell, if they spell one.
-pub fn read_wwn(bytes: &[u8]) -> Option<Wwn>
-    ensures { MatchOption result ((n : ℕ) → ¬ (SpellsWwn bytes.now n)) (SpellsWwn bytes.now) }
-{
-    let Ok(text) = str::from_utf8(bytes) else {
-        return None;
-    };
-    match Wwn::read(text) {
-        Ok(wwn) => Some(wwn),
-        Err(_) => None,
-    }
-}
 
 /// The fabric that bytes spell, if they spell one.
 pub fn read_fabric(bytes: &[u8]) -> Option<Fabric>

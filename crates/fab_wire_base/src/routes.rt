@@ -1,77 +1,25 @@
-//! The routes of the desk: their paths, their methods, and the parts that a path captures.
+//! The router over the table of kinds, and the parts that a path captures.
 
-ghost use Rattle.std.specs.Prelude.{◌≡◌, OnOk, IfOk, IfErr, true, []};
-ghost use Rattle.std.specs.List.{list_any};
-ghost use Rattle.std.specs.Str.{bytes_eq};
-ghost use Rattle.fab_wire_base.specs.Routes.{path_of, methods_of, allow_line_of, fits, with_route, table_from, route_of};
+ghost use Rattle.std.specs.Prelude.{◌≡◌, OnOk, IfOk, IfErr, true};
+ghost use Rattle.fab_wire_base.specs.Routes.{fits, with_route, desk_table, route_of};
 ghost use Rattle.fab_wire_base.specs.Parts.{part_at};
 ghost use Rattle.fab_wire_base.specs.Segments.{segment_at, from_slash_on, to_slash};
 
-use http::Method;
+use crate::kinds::{Route, every_route};
 use matchit::{InsertError, Router};
 use percent_encoding::percent_decode;
 use std::alloc::{AllocError, Allocator, Global};
 
-/// A route: what the path of a request asks for.
-#[derive(Clone, Copy, Debug, PartialEq, Eq)]
-pub enum Route {
-    /// `/imports/{fabric}`: the port list of a fabric.
-    Imports,
-    /// `/joined/{p}/{q}`: whether two ports may communicate.
-    Joined,
-}
-
-/// Every route, in the order in which the router takes them.
-pub const ROUTES: [Route; 2] = [Route::Imports, Route::Joined];
-
-impl Route {
-    /// The path of a route, with its captured parts in braces.
-    pub fn path(self) -> &'static str
-        ensures { result.now ≡ path_of self }
-    {
-        match self {
-            Route::Imports => "/imports/{fabric}",
-            Route::Joined => "/joined/{p}/{q}",
-        }
-    }
-
-    /// Whether a route takes a method, given by its name.
-    pub fn allows(self, method: &[u8]) -> bool
-        ensures { result ≡ list_any (λ allowed. bytes_eq allowed method.now) (methods_of self) }
-    {
-        match self {
-            Route::Imports => is_method(&Method::POST, method),
-            Route::Joined => is_method(&Method::GET, method),
-        }
-    }
-
-    /// The header line that lists the methods that a route takes (RFC 9110, section 10.2.1).
-    pub fn allow_line(self) -> &'static str
-        ensures { result.now ≡ allow_line_of self }
-    {
-        match self {
-            Route::Imports => "Allow: POST\r\n",
-            Route::Joined => "Allow: GET\r\n",
-        }
-    }
-}
-
-/// Whether a method has this name.
-fn is_method(method: &Method, name: &[u8]) -> bool
-    ensures { result ≡ bytes_eq method.now name.now }
-{
-    method.as_str().as_bytes() == name
-}
-
-/// A router over `ROUTES`.
+/// A router over every route.
 ///
 /// `OutOfMemory` is its only error, since no route conflicts with those before it.
 pub fn make_router(alloc: Global) -> Result<Router<Route>, InsertError>
-    ensures ok { IfOk result (λ router. router ≡ table_from [] ROUTES) }
+    ensures ok { IfOk result (λ router. router ≡ desk_table) }
     ensures err { IfErr result (λ fault. fault ≡ InsertError.OutOfMemory) }
 {
     let mut router = Router::new(alloc);
-    for route in ROUTES.as_slice() {
+    let routes = every_route();
+    for route in routes.as_slice() {
         add(&mut router, *route)?;
     }
     Ok(router)
@@ -88,7 +36,7 @@ fn add(router: &mut Router<Route>, route: Route) -> Result<(), InsertError>
 
 /// The route of a path, if it has one.
 pub fn find_route(router: &Router<Route>, path: &str) -> Option<Route>
-    requires { router.now ≡ table_from [] ROUTES }
+    requires { router.now ≡ desk_table }
     ensures { result ≡ route_of path.now }
 {
     match router.at(path) {

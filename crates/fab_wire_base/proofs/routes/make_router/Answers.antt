@@ -4,7 +4,7 @@ use Rattle.fab_wire_base.proofs.RouteLemmas.{table-more, table-done, routes_fit,
 use Rattle.fab_wire_base.proofs.routes.make_router.Goals as goal
 
 pub loop-route-init : goal.loop-route-init
-loop-route-init c = rw (c.new-router.ensures, c.as_slice-route-items.ensures) (refl, routes_fit)
+loop-route-init c = rw (c.new-router.ensures, c.as_slice-route-items.ensures, c.every_route-routes.ensures) (refl, routes_fit)
 
 pub add-requires : goal.add-requires
 add-requires c = next-fits _ _ c.loop-route.route-index _ c.loop-route-test.true c.loop-route.invariant.1
@@ -16,4 +16,4 @@ loop-route-preserved c = (
 )
 
 pub returns-clause-ok : goal.returns-clause-ok
-returns-clause-ok c = table-done _ _ c.loop-route.route-index _ c.loop-route-test.false c.loop-route.invariant.0 ∙ ap (λ rs. table_from [] rs) c.as_slice-route-items.ensures
+returns-clause-ok c = table-done _ _ c.loop-route.route-index _ c.loop-route-test.false c.loop-route.invariant.0 ∙ ap (λ rs. table_from [] rs) (c.as_slice-route-items.ensures ∙ c.every_route-routes.ensures)

@@ -1,5 +1,0 @@
-use Rattle.fab_wire_base.proofs.SpellingLemmas.{spells_one}
-use Rattle.fab_wire_base.proofs.hear.inputs_spell_one_thing.Goals as goal
-
-pub returns : goal.returns
-returns c = spells_one

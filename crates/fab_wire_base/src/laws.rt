@@ -1,0 +1,31 @@
+//! Laws of the wire: what holds of every path that has a route, and of every input.
+
+ghost use Rattle.fab_wire_base.specs.Matching.{FoundMatches};
+ghost use Rattle.fab_wire_base.specs.Captures.{FirstCaptures, SecondCaptures};
+ghost use Rattle.fab_wire_base.specs.Spelling.{SpellsOne, SpellsSome};
+
+/// A path whose route is found matches the pattern of the route.
+pub fn found_path_matches()
+    ensures { FoundMatches }
+{}
+
+/// What the first name of a route's path captures, as matchit has it, is the segment behind the
+/// second slash.
+pub fn first_part_is_captured()
+    ensures { FirstCaptures }
+{}
+
+/// What the second name of a route's path captures is the segment behind the third slash.
+pub fn second_part_is_captured()
+    ensures { SecondCaptures }
+{}
+
+/// An input spells one thing.
+pub fn inputs_spell_one_thing()
+    ensures { SpellsOne }
+{}
+
+/// Every input spells something.
+pub fn every_input_spells_something()
+    ensures { SpellsSome }
+{}
