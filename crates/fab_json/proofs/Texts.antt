@@ -4,10 +4,12 @@ use Rattle.std.proofs.lemmas.Grind.{common_steps}
 use Rattle.std.proofs.lemmas.Bool.Decides.{nat_tests}
 use Rattle.std.specs.Prelude.{Result, Ok, Err, OnOk}
 use Rattle.std.proofs.Math.Seq.{take-suc}
+use Rattle.std.specs.List.{flat_map}
 use Rattle.json.specs.Print.{escape_byte}
 use Rattle.serde_json.specs.Data.{Data, string, object, array, Items, no_items, item, Members, no_members, member}
 use Rattle.serde_json.specs.View.{items_of}
 use Rattle.serde_json.specs.Written.{comma_if}
+use Rattle.fab_json.proofs.SentLemmas.{flat-cut}
 use Rattle.fab_json.specs.JsonText.{json_text, members_json, quoted_json}
 use Rattle.fab_json.specs.Values.{list_data}
 use Rattle.fab_json.specs.Bounds.{string_most, key_most, sum_of}
@@ -109,6 +111,11 @@ escapes-short (b ∷ s) = rw (escapes-cons, length-append) (omega (arith, escape
 pub quoted-short : (s : List ℕ) → length (quoted_json s) ≤ string_most (length s)
 quoted-short s = rw (quoted-parts, length-append, length-append) (omega (arith, escapes-short s))
 
+-- the text of a string
+pub string-text : (s : List ℕ) → json_text (string s) ≡ quoted_json s
+unfolding json_text quoted_json
+string-text s = refl
+
 pub string-is : (s : List ℕ) → length (json_text (string s)) ≤ string_most (length s)
 unfolding json_text quoted_json
 string-is s = quoted-short s
@@ -169,3 +176,15 @@ bounded-all f g later xs i h b =
 pub sum-const : {X : Type 0} (k : ℕ) (xs : List X) → sum_of (λ x. k) xs ≡ length xs * k
 sum-const k [] = omega arith
 sum-const k (x ∷ xs) = rw (sum-const k xs) (omega arith)
+
+-- the texts of a string from a place on begin with the text there
+pub joined-cut : {X : Type 0} (f : X → List ℕ) (xs : List X) (i : ℕ) (d : X) → i < length xs
+    → escapes_json (flat_map f (drop i xs)) ++ (34 ∷ []) ≡ escapes_json (f (get_or xs i d)) ++ (escapes_json (flat_map f (drop (i + 1) xs)) ++ (34 ∷ []))
+joined-cut f xs i d h =
+    ap (λ (t : List ℕ). escapes_json t ++ (34 ∷ [])) (flat-cut f xs i d h)
+    ∙ ap (λ (t : List ℕ). t ++ (34 ∷ [])) (escapes-append (f (get_or xs i d)) (flat_map f (drop (i + 1) xs)))
+    ∙ append_assoc (escapes_json (f (get_or xs i d))) (escapes_json (flat_map f (drop (i + 1) xs))) (34 ∷ [])
+
+-- behind the last text stands the closing quote
+pub joined-done : {X : Type 0} (f : X → List ℕ) (xs : List X) (i : ℕ) → length xs ≤ i → escapes_json (flat_map f (drop i xs)) ++ (34 ∷ []) ≡ 34 ∷ []
+joined-done f xs i h = let e : drop i xs ≡ [] = drop-all i xs h in rw (e, escapes-nil) refl

@@ -1,6 +1,7 @@
 //! Texts between quotes, with the escapes of JSON (RFC 8259, section 7).
 
 ghost use Rattle.std.specs.Prelude.{ℕ, ◌≡◌, ◌<◌, ◌≤◌, length, take};
+ghost use Rattle.std.specs.List.{flat_map};
 ghost use Rattle.std.specs.Char.{digit_char};
 ghost use Rattle.fab_json.specs.Taking.{Takes};
 ghost use Rattle.fab_json.specs.JsonText.{quoted_json};
@@ -21,6 +22,22 @@ pub fn put_string<S: Sink>(sink: &mut S, text: &[u8]) -> Result<(), WriteFailed>
     let Ok(()) = put_escaped(sink, text) else {
         return Err(WriteFailed);
     };
+    sink.take(b"\"")
+}
+
+/// Puts texts as one string: one after the other between two quotes, as `put_string` puts one.
+pub fn put_joined<S: Sink>(sink: &mut S, texts: &[&[u8]]) -> Result<(), WriteFailed>
+    ensures { Takes S.took S.cut sink.old (quoted_json (flat_map (λ text. text.now) texts.now))
+        sink.new result }
+{
+    let Ok(()) = sink.take(b"\"") else {
+        return Err(WriteFailed);
+    };
+    for text in texts {
+        let Ok(()) = put_escaped(sink, text) else {
+            return Err(WriteFailed);
+        };
+    }
     sink.take(b"\"")
 }
 

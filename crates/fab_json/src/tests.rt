@@ -5,10 +5,9 @@ use crate::escapes::put_string;
 use crate::object;
 use crate::structures::Array;
 use crate::values::{Json, Text, text_len};
-use fab_names::{Fabric, Name, Wwn};
+use fab_names::{Fabric, Member, Name, Place, Wwn};
 use std::io;
 use std::io::{Error, ErrorKind, Read, Write};
-use std::test::Fail;
 
 /// What each way of writing writes.
 const WRITTEN: &[u8] = b"{\"a\":[\"\\n\",\"x\"],\"b\":null}";
@@ -177,30 +176,88 @@ fn is_written<T: Json>(value: &T, text: &[u8]) -> bool {
     value.put(&mut writer).is_ok() && writer.into_inner().left.is_empty()
 }
 
+fn numbers_are_written() -> bool {
+    is_written(
+        &Array(&[0u64, 18446744073709551615]),
+        b"[0,18446744073709551615]",
+    ) && is_written(
+        &object! { "a": 65535u16, "b": 255u8 },
+        b"{\"a\":65535,\"b\":255}",
+    )
+}
+
+fn missing_values_are_written() -> bool {
+    let value = object! { "a": None::<u8>, "b"? None::<u8>, "c"? Some(true), "d": false };
+    is_written(&value, b"{\"a\":null,\"c\":true,\"d\":false}")
+}
+
+fn empty_lists_are_written() -> bool {
+    let value = object! { "a": Array::<'_, u8>(&[]), "b": object! {} };
+    is_written(&value, b"{\"a\":[],\"b\":{}}")
+}
+
+fn names_are_written(name: Name) -> bool {
+    let value = object! { "f": Fabric::B, "n": name, "w": Wwn::new(0x50000000000000ab) };
+    is_written(
+        &value,
+        b"{\"f\":\"B\",\"n\":\"db$1^\",\"w\":\"50:00:00:00:00:00:00:ab\"}",
+    )
+}
+
+/// Members of each kind, as JSON.
+const MEMBERS: &[u8] =
+    b"[\"wwpn=00:00:00:00:00:00:00:01\",\"wwnn=00:00:00:00:00:00:00:02\",\"dp=239,4095\",\"alias=db$1^\"]";
+
+fn members_are_written(name: Name) -> bool {
+    let members = [
+        Member::Port(Wwn::new(1)),
+        Member::Node(Wwn::new(2)),
+        Member::Place(Place::new(239, 4095)),
+        Member::Alias(name),
+    ];
+    is_written(&Array(&members), MEMBERS)
+}
+
+fn all_names_are_written() -> bool {
+    match Name::read("db$1^") {
+        Ok(name) => names_are_written(name) && members_are_written(name),
+        Err(_) => false,
+    }
+}
+
+fn texts_are_written() -> bool {
+    is_written(&Text("é \u{7f}/"), b"\"\xc3\xa9 \x7f/\"")
+}
+
+fn bytes_are_counted() -> bool {
+    text_len(&Array(&[Text("\n"), Text("")])) == 9
+}
+
 #[test]
-fn values_are_written(rt: HostRuntime) -> Result<(), Fail> {
-    let Ok(name) = Name::read("db$1^") else {
-        return Err(Fail::from("no name"));
-    };
-    let value = object! {
-        "array": name,
-        "at": None::<u8>,
-        "bytes": 18446744073709551615u64,
-        "exposed": true,
-        "fabric": Fabric::B,
-        "hidden": false,
-        "host"? None::<Name>,
-        "lun": Some(65535u16),
-        "none": Array::<'_, u8>(&[]),
-        "object": object! {},
-        "port": Wwn::new(0x50000000000000ab),
-        "step"? Some(0u8),
-        "text": Text("é \u{7f}/"),
-        "units": Array(&[1u16, 20]),
-    };
-    let text =
-        b"{\"array\":\"db$1^\",\"at\":null,\"bytes\":18446744073709551615,\"exposed\":true,\"fabric\":\"B\",\"hidden\":false,\"lun\":65535,\"none\":[],\"object\":{},\"port\":\"50:00:00:00:00:00:00:ab\",\"step\":0,\"text\":\"\xc3\xa9 \x7f/\",\"units\":[1,20]}";
-    assert!(rt; is_written(&value, text));
-    assert_eq!(rt; text_len(&value), text.len() as u64);
-    Ok(())
+fn values_are_written(rt: HostRuntime) {
+    assert!(rt; all_names_are_written());
+    assert!(rt; numbers_are_written());
+    assert!(rt; missing_values_are_written());
+    assert!(rt; empty_lists_are_written());
+    assert!(rt; texts_are_written());
+    assert!(rt; bytes_are_counted());
+}
+
+/// The first 128 bytes, and their JSON string as another writer of JSON has it.
+const ASCII: &[u8] =
+    b"\x00\x01\x02\x03\x04\x05\x06\x07\x08\x09\x0a\x0b\x0c\x0d\x0e\x0f\x10\x11\x12\x13\x14\x15\x16\x17\x18\x19\x1a\x1b\x1c\x1d\x1e\x1f\x20\x21\x22\x23\x24\x25\x26\x27\x28\x29\x2a\x2b\x2c\x2d\x2e\x2f\x30\x31\x32\x33\x34\x35\x36\x37\x38\x39\x3a\x3b\x3c\x3d\x3e\x3f\x40\x41\x42\x43\x44\x45\x46\x47\x48\x49\x4a\x4b\x4c\x4d\x4e\x4f\x50\x51\x52\x53\x54\x55\x56\x57\x58\x59\x5a\x5b\x5c\x5d\x5e\x5f\x60\x61\x62\x63\x64\x65\x66\x67\x68\x69\x6a\x6b\x6c\x6d\x6e\x6f\x70\x71\x72\x73\x74\x75\x76\x77\x78\x79\x7a\x7b\x7c\x7d\x7e\x7f";
+
+const ASCII_STRING: &[u8] =
+    b"\"\\u0000\\u0001\\u0002\\u0003\\u0004\\u0005\\u0006\\u0007\\b\\t\\n\\u000b\\f\\r\\u000e\\u000f\\u0010\\u0011\\u0012\\u0013\\u0014\\u0015\\u0016\\u0017\\u0018\\u0019\\u001a\\u001b\\u001c\\u001d\\u001e\\u001f !\\\"#$%&'()*+,-./0123456789:;<=>?@ABCDEFGHIJKLMNOPQRSTUVWXYZ[\\\\]^_`abcdefghijklmnopqrstuvwxyz{|}~\x7f\"";
+
+#[test]
+fn escapes_are_the_shortest(rt: HostRuntime) {
+    let mut writer = Counted::new(Narrow {
+        left: ASCII_STRING,
+        calls: 0,
+        fails_at: usize::MAX,
+        how: How::Refuses,
+    });
+    assert!(rt; put_string(&mut writer, ASCII).is_ok());
+    assert!(rt; writer.into_inner().left.is_empty());
 }
