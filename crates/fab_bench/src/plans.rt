@@ -1,7 +1,7 @@
 //! Reading a plan text.
 use crate::Timed;
 use anyhow::Result;
-use fab_plans::read_plan;
+use fab_plans_base::read_plan;
 use std::alloc::{AllocError, Global};
 use std::rt::Clock;
 use std::time::Instant;

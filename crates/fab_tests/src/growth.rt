@@ -2,7 +2,7 @@
 //! same call is accepted when memory is there again.
 use fab_inventory::{HolderKind, Inventory, InventoryFault, PortRow};
 use fab_names::{Fabric, Member, Name, Place, Wwn};
-use fab_plans::{PlanFaultKind, read_plan};
+use fab_plans_base::{PlanFaultKind, read_plan};
 use fab_refusing::Refusing;
 use fab_zoning::{Zoning, ZoningFault};
 use std::alloc::Global;

@@ -1,6 +1,0 @@
-use Rattle.fab_plans.specs.Steps.{host_group_drop}
-use Rattle.fab_plans.proofs.Words.{is_step}
-use Rattle.fab_plans.proofs.mapping_line.host_group_drop.Goals as goal
-
-pub new-requires : goal.new-requires
-new-requires g c = is_step c.args.words.now (host_group_drop c.in_ok-name.name) c.requires c.in_ok-name.ensures

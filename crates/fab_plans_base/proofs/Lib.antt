@@ -1,0 +1,9 @@
+pub mod Cuts
+pub mod Printing
+pub mod Readings
+pub mod PlanReadings
+pub mod Unique
+pub mod Excluded
+pub mod Printed
+pub mod Words
+pub mod Measures
