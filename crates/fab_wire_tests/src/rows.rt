@@ -28,9 +28,18 @@ fn play(rt: &impl Abort, alloc: Global, flag: DefaultFlag, revision: u64, cases:
     }
 }
 
-const ROW_1: [Case; 3] = [
+/// The same list for fabric B.
+const IMPORT_B: &[u8] =
+    b"POST /imports/B HTTP/1.1\r\nAuthorization: Bearer t-ada\r\nContent-Length: 136\r\n\r\nport_name,node_name,domain,port\n10:00:00:00:00:00:00:01,20:00:00:00:00:00:00:01,1,1\n50:00:00:00:00:00:00:01,50:00:00:00:00:00:00:00,1,2\n";
+
+const ROW_1: [Case; 5] = [
     (QUESTION, NOT_FOUND),
     (IMPORT, ACCEPTED),
+    (QUESTION, NOT_JOINED),
+    (
+        IMPORT_B,
+        b"HTTP/1.1 200 OK\r\nContent-Type: application/json\r\nContent-Length: 14\r\nConnection: close\r\n\r\n{\"revision\":2}",
+    ),
     (QUESTION, NOT_JOINED),
 ];
 

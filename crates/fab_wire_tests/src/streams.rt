@@ -20,7 +20,11 @@ fn ends_at_read(alloc: Global, k: u64) -> bool {
     let reads = reader.into_inner().reads;
     let is_silent = writer.into_inner().is_empty();
     let is_new = answers(alloc, &mut first, QUESTION, NOT_FOUND);
-    outcome == Outcome::ReadFailed && failures == 1 && reads == k + 1 && is_silent && is_new
+    outcome == Outcome::ReadFailed
+        && failures == 1
+        && reads == k.saturating_add(1)
+        && is_silent
+        && is_new
 }
 
 /// Whether the import is answered where the read of this number would fail, and is never made.
