@@ -3,7 +3,7 @@ use crate::Timed;
 use crate::names::name_of;
 use anyhow::{Result, bail};
 use fab_names::{Fabric, Name};
-use fab_policy::{Act, Action, Approval, Policy, Verdict, decide};
+use fab_policy::{Act, Action, Approval, PlanApprovals, Policy, Verdict, decide};
 use std::alloc::{AllocError, Global};
 use std::rt::Clock;
 use std::time::Instant;
@@ -106,8 +106,10 @@ pub fn decided<R: Clock + AllocGlobal>(rt: &R, size: u64, turns: u64) -> Result<
         fabrics: &[Fabric::A],
         touched: touched.as_slice(),
         moment: 349_200,
-        author: None,
-        approvals: approvals.as_slice(),
+        plan: Some(PlanApprovals {
+            author: name_of(alloc, "c", APPROVALS)?,
+            approvals: approvals.as_slice(),
+        }),
         revision: 6,
     };
     let mut done = 0usize;

@@ -5,7 +5,7 @@ use Rattle.std.specs.List.{AllWithin, HoldsAt}
 use Rattle.std.proofs.lemmas.List.{get_or_default}
 use Rattle.std.proofs.lemmas.List.Elements.{AllWithin-more}
 use mathlib.Core.Bool.{true≢false}
-use Rattle.fab_policy.specs.Policies.{RuleRow, PolicyRows}
+use Rattle.fab_policy_base.specs.Policies.{RuleRow, PolicyRows}
 use Rattle.fab_policy.specs.Verdicts.{Applies, Holds}
 use Rattle.fab_policy.specs.declared.act.Act.{Act}
 

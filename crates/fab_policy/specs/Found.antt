@@ -1,12 +1,22 @@
 -- What is found of an act once for all rules.
-use Rattle.std.specs.Prelude.{◌≡◌, map, true, false, slice_get}
-use Rattle.fab_policy.specs.Policies.{PolicyRows}
-use Rattle.fab_policy.specs.Verdicts.{is_own, has_approved}
+use Rattle.std.specs.Prelude.{◌≡◌, Bool, true, false, Option, Some, None, List, map, slice_get}
+use Rattle.fab_policy_base.specs.Policies.{CallerRow, PolicyRows}
+use Rattle.fab_policy.specs.Verdicts.{is_own, has_signed}
 use Rattle.fab_policy.specs.declared.act.Act.{Act}
+use Rattle.fab_policy.specs.declared.act.PlanApprovals.{PlanApprovals}
 use Rattle.fab_policy.specs.declared.verdicts.Findings.{Findings}
+
+-- whether the caller counts for a quorum that asks for no role
+abbrev pub has_signed_any : Act → Bool → Option PlanApprovals → CallerRow → Bool
+has_signed_any a fresh None c = false
+has_signed_any a fresh (Some plan) c = has_signed plan a.revision fresh c
+
+-- of each caller whether they do
+abbrev pub marks : Act → Bool → List CallerRow → List Bool
+marks a fresh cs = map (has_signed_any a fresh a.plan) cs
 
 -- what is found of an act is so
 pub record AreFound (p : PolicyRows) (a : Act) (f : Findings) : Type 0 where
   pub own : f.own ≡ is_own a.touched.now (slice_get p.callers a.caller)
-  pub approved : f.approved.now ≡ map (has_approved a false) p.callers
-  pub fresh : f.fresh.now ≡ map (has_approved a true) p.callers
+  pub signed : f.signed.now ≡ marks a false p.callers
+  pub fresh : f.fresh.now ≡ marks a true p.callers

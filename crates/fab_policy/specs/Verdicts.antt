@@ -1,16 +1,17 @@
 -- What a policy says of an act.
 use Rattle.std.specs.Prelude.{◌≡◌, ℕ, ◌<◌, suc, zero, Bool, true, false, not, ◌&&◌, ◌||◌, nat_eq, nat_le, List, length, Option, Some, None, is_some, IfSome, Contains, All, Any, count_by, codes, slice_get, slice_index_or}
 use Rattle.std.specs.List.{list_any, list_all, AllWithin}
-use Rattle.fab_policy.specs.Callers.{is_same, has_name, has_tenant}
-use Rattle.fab_policy.specs.Policies.{CallerRow, WindowRow, RuleRow, PolicyRows}
+use Rattle.fab_policy_base.specs.Callers.{is_same, has_name, has_tenant}
+use Rattle.fab_policy_base.specs.Policies.{CallerRow, WindowRow, RuleRow, PolicyRows}
 use Rattle.fab_policy.specs.Windows.{is_open_as}
 use Rattle.fab_policy.specs.declared.act.Act.{Act}
 use Rattle.fab_policy.specs.declared.act.Approval.{Approval}
+use Rattle.fab_policy.specs.declared.act.PlanApprovals.{PlanApprovals}
 use Rattle.fab_policy.specs.declared.act.Need.{Need}
 use Rattle.fab_policy.specs.declared.act.Need.TheVariants as need
 use Rattle.fab_policy.specs.declared.act.Verdict.{Verdict}
 use Rattle.fab_policy.specs.declared.act.Verdict.TheVariants.{Allowed, Denied}
-use Rattle.fab_policy.specs.declared.policy.Quorum.{Quorum}
+use Rattle.fab_policy_base.specs.declared.policy.Quorum.{Quorum}
 
 -- the action is among the rule's, and the rule's fabric, where it has one, is one that the act names
 abbrev pub Applies : RuleRow → Act → Type 0
@@ -37,31 +38,31 @@ abbrev pub meets_window : List WindowRow → ℕ → Option (List ℕ) → Bool
 meets_window ws moment None = true
 meets_window ws moment (Some name) = list_any (is_open_as name moment) ws
 
--- whether this is the author's name
-abbrev pub is_author : Option (List ℕ) → List ℕ → Bool
-is_author None name = false
-is_author (Some author) name = is_same author name
-
--- whether it is an approval of the caller, at the revision where it has to be fresh
+-- whether it is an approval of the caller, at the present revision where it has to be fresh
 abbrev pub is_approval_of : CallerRow → Bool → ℕ → Approval → Bool
 is_approval_of c fresh revision x = is_same x.caller c.name && (not fresh || nat_eq x.revision revision)
 
--- whether some approval is the caller's, at the present revision where it has to be fresh
-abbrev pub has_approved : Act → Bool → CallerRow → Bool
-has_approved a fresh c = list_any (is_approval_of c fresh a.revision) a.approvals.now
+-- whether some approval of the plan is the caller's, at the present revision where it has to be fresh
+abbrev pub has_approved : PlanApprovals → ℕ → Bool → CallerRow → Bool
+has_approved plan revision fresh c = list_any (is_approval_of c fresh revision) plan.approvals.now
 
--- whether the caller is not the author, and has the approver's role where one is asked for
-abbrev pub is_approver : Act → Quorum → CallerRow → Bool
-is_approver a q c = not (is_author a.author c.name) && has_role q.approver c
+-- whether the caller has approved the plan and is not its author
+abbrev pub has_signed : PlanApprovals → ℕ → Bool → CallerRow → Bool
+has_signed plan revision fresh c = not (is_same plan.author c.name) && has_approved plan revision fresh c
 
--- whether the caller has approved, and is counted
-abbrev pub counts : Act → Quorum → CallerRow → Bool
-counts a q c = has_approved a q.fresh c && is_approver a q c
+-- who counts for a quorum: a caller who has approved the plan, is not its author, and has the approver's role where one is asked for
+abbrev pub counts : PlanApprovals → ℕ → Option (List ℕ) → Bool → CallerRow → Bool
+counts plan revision approver fresh c = has_signed plan revision fresh c && has_role approver c
 
--- whether as many callers as are asked for have approved and are counted, each of them once
+-- whether there is a plan for which as many callers count as are asked for, each of them once
+abbrev pub has_quorum : List CallerRow → ℕ → Quorum → Option PlanApprovals → Bool
+has_quorum cs revision q None = false
+has_quorum cs revision q (Some plan) = nat_le q.count (count_by (counts plan revision q.approver q.fresh) cs)
+
+-- whether the approvals that are asked for are there
 abbrev pub meets_approvals : List CallerRow → Act → Option Quorum → Bool
 meets_approvals cs a None = true
-meets_approvals cs a (Some q) = nat_le q.count (count_by (counts a q) cs)
+meets_approvals cs a (Some q) = has_quorum cs a.revision q a.plan
 
 -- whether the need, where the rule has it, is met
 abbrev pub meets : PolicyRows → Act → RuleRow → Need → Bool

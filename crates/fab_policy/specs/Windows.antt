@@ -1,10 +1,10 @@
 -- When a window is open.
 use Rattle.std.specs.Prelude.{ℕ, ◌+◌, ◌/◌, ◌%◌, Bool, ◌&&◌, not, nat_le, nat_lt, List}
 use Rattle.std.specs.List.{list_any}
-use Rattle.fab_policy.specs.Callers.{is_same}
-use Rattle.fab_policy.specs.Policies.{WindowRow}
-use Rattle.fab_policy.specs.declared.policy.Freeze.{Freeze}
-use Rattle.fab_policy.specs.declared.policy.WeekSpan.{WeekSpan}
+use Rattle.fab_policy_base.specs.Callers.{is_same}
+use Rattle.fab_policy_base.specs.Policies.{WindowRow}
+use Rattle.fab_policy_base.specs.declared.policy.Freeze.{Freeze}
+use Rattle.fab_policy_base.specs.declared.policy.WeekSpan.{WeekSpan}
 
 -- whether the number is at or after the first, and before the second
 abbrev pub spans : ℕ → ℕ → ℕ → Bool

@@ -1,10 +1,9 @@
 //! What is asked of a policy, and what it answers.
 ghost use Rattle.std.specs.Prelude.{◌≡◌, Some};
-ghost use Rattle.fab_policy.specs.Words as words;
+ghost use Rattle.fab_policy.specs.Needs as needs;
 
-use crate::caller::CallerId;
-use crate::policy::Action;
 use fab_names::{Fabric, Name};
+use fab_policy_base::{Action, CallerId};
 use std::fmt;
 
 /// An approval of a plan.
@@ -14,6 +13,15 @@ pub struct Approval {
     pub caller: Name,
     /// The revision at which it was given.
     pub revision: u64,
+}
+
+/// What was said of a plan.
+#[derive(Clone, Copy)]
+pub struct PlanApprovals<'a> {
+    /// The name of its author, whose own approval counts for nothing.
+    pub author: Name,
+    /// Its approvals, in any order; a caller may have several.
+    pub approvals: &'a [Approval],
 }
 
 /// A command as a policy judges it.
@@ -29,10 +37,8 @@ pub struct Act<'a> {
     pub touched: &'a [Name],
     /// When it comes, in Unix seconds.
     pub moment: u64,
-    /// The name of its plan's author, where it has a plan.
-    pub author: Option<Name>,
-    /// The approvals of its plan.
-    pub approvals: &'a [Approval],
+    /// The author and the approvals of its plan, where it has a plan.
+    pub plan: Option<PlanApprovals<'a>>,
     /// The present revision.
     pub revision: u64,
 }
@@ -55,7 +61,7 @@ pub enum Need {
 impl Need {
     /// The word for the need: `rule`, `role`, `scope`, `window` or `approvals`.
     pub fn word(self) -> &'static str
-        ensures { result.now ≡ words.need_word self }
+        ensures { result.now ≡ needs.need_word self }
     {
         match self {
             Need::Rule => "rule",
@@ -68,7 +74,7 @@ impl Need {
 }
 
 impl fmt::Display for Need {
-    ghost use Rattle.fab_policy.specs.Words.{need_word};
+    ghost use Rattle.fab_policy.specs.Needs.{need_word};
 
     ghost output = { λ n. Some (need_word n) };
 

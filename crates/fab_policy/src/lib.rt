@@ -1,29 +1,21 @@
-//! Who may change what, and when: the policy of a change desk, its text, and its verdicts.
+//! What a policy says of a command: `decide` gives the verdict on an act. It takes no memory and
+//! cannot fail.
 //!
-//! `Policy::read` reads a policy from TOML, `Policy::caller` finds the caller of a token, and
-//! `decide` gives the verdict on an act. The last two take no memory and cannot fail.
+//! The policy itself and its text stand in `fab_policy_base` and are handed on here.
 #![tactic(auto)]
 
 mod act;
-mod caller;
-mod distinct;
-mod fault;
-mod forms;
-mod key;
-mod policy;
-mod read;
-mod reading;
-mod tables;
+mod approvals;
+pub mod laws;
 #[cfg(test)]
 mod tests;
-mod text;
 mod verdicts;
 mod window;
 
-pub use act::{Act, Approval, Need, Verdict};
-pub use caller::CallerId;
-pub use fault::PolicyFault;
-pub use key::Key;
-pub use policy::{Action, Policy};
-pub use text::Text;
+pub use act::{Act, Approval, Need, PlanApprovals, Verdict};
+pub use approvals::counts;
+pub use fab_policy_base::{
+    Action, Caller, CallerId, Freeze, Key, Policy, PolicyFault, Quorum, Rule, Scope, Tenants, Text,
+    WeekSpan, Window, limits,
+};
 pub use verdicts::decide;

@@ -1,18 +1,19 @@
 //! The verdict of a policy on an act.
-ghost use Rattle.std.specs.Prelude.{◌≡◌, ◌≤◌, ◌↔◌, IsTrue, MatchOption, Contains, codes, option_copied, count_by, length, map, take, ◌&&◌, if◌then◌else◌};
+ghost use Rattle.std.specs.Prelude.{◌≡◌, ◌≤◌, ◌↔◌, IsTrue, MatchOption, Contains, codes, option_copied, count_by, length, nat_le, take, ◌&&◌, if◌then◌else◌};
 ghost use Rattle.std.specs.List.{list_all, zip};
-ghost use Rattle.fab_policy.specs.Callers as callers;
+ghost use Rattle.fab_policy_base.specs.Callers as callers;
+ghost use Rattle.fab_policy_base.specs.Limits.{most_callers};
+ghost use Rattle.fab_policy.specs.Found as found;
 ghost use Rattle.fab_policy.specs.Found.{AreFound};
 ghost use Rattle.fab_policy.specs.Verdicts as verdicts;
 
-use crate::act::{Act, Approval, Need, Verdict};
-use crate::caller::{has_name, has_tenant};
-use crate::policy::{Action, Caller, Policy, Quorum, Rule};
+use crate::act::{Act, Need, Verdict};
+use crate::approvals::{counts, has_role};
 use crate::window::some_is_open;
 use fab_names::{Fabric, Name};
-
-/// How many callers a policy has at most.
-const CALLERS: usize = 256;
+use fab_policy_base::laws::policy_is_sound;
+use fab_policy_base::limits::MOST_CALLERS;
+use fab_policy_base::{Action, Caller, Policy, Quorum, Rule};
 
 /// Whether the action is among these.
 fn has_action(actions: &[Action], action: Action) -> bool
@@ -41,16 +42,6 @@ fn applies(rule: &Rule, act: &Act) -> bool
     }
 }
 
-/// Whether the caller has the role, where one is asked for.
-fn has_role(caller: &Caller, role: &Option<Name>) -> bool
-    ensures { result ≡ verdicts.has_role role.now caller.now }
-{
-    match role {
-        Some(role) => has_name(&caller.roles, role),
-        None => true,
-    }
-}
-
 /// Whether there is a caller with the role, where one is asked for.
 fn meets_role(caller: Option<&Caller>, role: &Option<Name>) -> bool
     ensures { result ≡ verdicts.meets_role role.now (option_copied caller.entry) }
@@ -58,7 +49,7 @@ fn meets_role(caller: Option<&Caller>, role: &Option<Name>) -> bool
     match (role, caller) {
         (None, _) => true,
         (Some(_), None) => false,
-        (Some(role), Some(caller)) => has_name(&caller.roles, role),
+        (Some(role), Some(caller)) => caller.has_role(role),
     }
 }
 
@@ -66,7 +57,7 @@ fn meets_role(caller: Option<&Caller>, role: &Option<Name>) -> bool
 fn has_tenants(caller: &Caller, tenants: &[Name]) -> bool
     ensures { result ≡ list_all (callers.has_tenant caller.now) tenants.now }
 {
-    tenants.iter().all(|t| has_tenant(caller, t))
+    tenants.iter().all(|t| caller.has_tenant(t))
 }
 
 /// Whether there is a caller, whose is each of the tenants.
@@ -84,55 +75,31 @@ fn meets_window(policy: &Policy, window: &Option<Name>, moment: u64) -> bool
     ensures { result ≡ verdicts.meets_window policy.now.windows moment window.now }
 {
     match window {
-        Some(name) => some_is_open(&policy.windows, name, moment),
+        Some(name) => some_is_open(policy.windows(), name, moment),
         None => true,
     }
 }
 
-/// Whether this is the author's name.
-fn is_author(author: &Option<Name>, name: &Name) -> bool
-    ensures { result ≡ verdicts.is_author author.now name.now }
+/// Whether the caller counts for a quorum that asks for no role.
+fn has_signed(act: &Act, fresh: bool, caller: &Caller) -> bool
+    ensures { result ≡ found.has_signed_any act.now fresh act.now.plan caller.now }
 {
-    match author {
-        Some(author) => *author == *name,
+    match &act.plan {
+        Some(plan) => counts(plan, act.revision, &None, fresh, caller),
         None => false,
     }
 }
 
-/// Whether it is an approval of the caller, at the revision where it has to be fresh.
-fn is_approval_of(approval: &Approval, caller: &Caller, fresh: bool, revision: u64) -> bool
-    ensures { result ≡ verdicts.is_approval_of caller.now fresh revision approval.now }
+/// For each caller, whether they count for a quorum that asks for no role.
+fn find_signed(act: &Act, callers: &[Caller], fresh: bool) -> [bool; MOST_CALLERS]
+    requires { length callers.now ≤ most_callers }
+    ensures { take (length callers.now) result ≡ found.marks act.now fresh callers.now }
 {
-    approval.caller == caller.name && (!fresh || approval.revision == revision)
-}
-
-/// Whether some approval is the caller's, at the present revision where it has to be fresh.
-fn has_approved(act: &Act, caller: &Caller, fresh: bool) -> bool
-    ensures { result ≡ verdicts.has_approved act.now fresh caller.now }
-{
-    act.approvals
-        .iter()
-        .any(|x| is_approval_of(x, caller, fresh, act.revision))
-}
-
-/// Whether the caller is one whose approval a quorum counts.
-fn is_approver(act: &Act, quorum: &Quorum, caller: &Caller) -> bool
-    ensures { result ≡ verdicts.is_approver act.now quorum.now caller.now }
-{
-    !is_author(&act.author, &caller.name) && has_role(caller, &quorum.approver)
-}
-
-/// For each caller, whether some approval is theirs, at the present revision where it has to be
-/// fresh.
-fn find_approved(act: &Act, callers: &[Caller], fresh: bool) -> [bool; CALLERS]
-    requires { length callers.now ≤ 256 }
-    ensures { take (length callers.now) result ≡ map (verdicts.has_approved act.now fresh) callers.now }
-{
-    let mut approved = [false; CALLERS];
+    let mut signed = [false; MOST_CALLERS];
     for (i, caller) in callers.iter().enumerate() {
-        approved[i] = has_approved(act, caller, fresh);
+        signed[i] = has_signed(act, fresh, caller);
     }
-    approved
+    signed
 }
 
 /// What rules ask of an act that does not hang on the rule, found once for all of them.
@@ -140,32 +107,40 @@ fn find_approved(act: &Act, callers: &[Caller], fresh: bool) -> [bool; CALLERS]
 struct Findings<'a> {
     /// Whether each touched tenant is the caller's.
     own: bool,
-    /// For each caller of the policy, whether some approval is theirs,
-    approved: &'a [bool],
-    /// and whether one at the present revision is.
+    /// For each caller of the policy, whether they count for a quorum that asks for no role,
+    signed: &'a [bool],
+    /// and for one that asks for fresh approvals.
     fresh: &'a [bool],
 }
 
-/// How many callers are counted by a quorum, of those of whom `approved` tells that they approved.
-fn count_approvers(act: &Act, quorum: &Quorum, callers: &[Caller], approved: &[bool]) -> usize
-    ensures { result ≡ count_by (λ p. p.1 && verdicts.is_approver act.now quorum.now p.0)
-        (zip callers.now approved.now) }
+impl<'a> Findings<'a> {
+    /// For each caller, whether they count for a quorum that asks for no role.
+    fn signed(&self, fresh: bool) -> &'a [bool]
+        ensures { result.now ≡ (if fresh then self.now.fresh.now else self.now.signed.now) }
+    {
+        if fresh { self.fresh } else { self.signed }
+    }
+}
+
+/// How many of the callers that are marked have the role, where one is asked for.
+fn count_approvers(approver: &Option<Name>, callers: &[Caller], signed: &[bool]) -> usize
+    ensures { result ≡ count_by (λ p. p.1 && verdicts.has_role approver.now p.0) (zip callers.now signed.now) }
 {
     callers
         .iter()
-        .zip(approved)
-        .filter(|(caller, approved)| **approved && is_approver(act, quorum, caller))
+        .zip(signed)
+        .filter(|(caller, signed)| **signed && has_role(caller, approver))
         .count()
 }
 
-impl<'a> Findings<'a> {
-    /// For each caller, whether some approval is theirs, at the present revision where it has to
-    /// be fresh.
-    fn approved(&self, fresh: bool) -> &'a [bool]
-        ensures { result.now ≡ (if fresh then self.now.fresh.now else self.now.approved.now) }
-    {
-        if fresh { self.fresh } else { self.approved }
-    }
+/// Whether so many callers count for the quorum as it asks for.
+fn has_quorum(policy: &Policy, findings: &Findings, quorum: &Quorum) -> bool
+    ensures { result ≡ nat_le quorum.now.count (count_by
+        (λ p. p.1 && verdicts.has_role quorum.now.approver p.0)
+        (zip policy.now.callers (if quorum.now.fresh then findings.now.fresh.now else findings.now.signed.now))) }
+{
+    let signed = findings.signed(quorum.fresh);
+    quorum.count <= count_approvers(&quorum.approver, policy.callers(), signed)
 }
 
 /// Whether enough callers approved, where approvals are asked for.
@@ -178,11 +153,10 @@ fn meets_approvals(
     requires { AreFound policy.now act.now findings.now }
     ensures { result ≡ verdicts.meets_approvals policy.now.callers act.now approvals.now }
 {
-    let Some(quorum) = approvals else {
-        return true;
-    };
-    let approved = findings.approved(quorum.fresh);
-    quorum.count <= count_approvers(act, quorum, &policy.callers, approved)
+    match approvals {
+        Some(quorum) => act.plan.is_some() && has_quorum(policy, findings, quorum),
+        None => true,
+    }
 }
 
 /// The first need of the rule that is not met.
@@ -223,7 +197,7 @@ fn judge(policy: &Policy, act: &Act, findings: &Findings) -> Verdict
     ensures { verdicts.IsVerdict policy.now act.now result }
 {
     let mut applied = false;
-    for (i, rule) in policy.rules.iter().enumerate() {
+    for (i, rule) in policy.rules().iter().enumerate() {
         if applies(rule, act) {
             if let Some(need) = first_failing(policy, act, findings, rule) {
                 return Verdict::Denied {
@@ -254,13 +228,14 @@ fn judge(policy: &Policy, act: &Act, findings: &Findings) -> Verdict
 pub fn decide(policy: &Policy, act: &Act) -> Verdict
     ensures { verdicts.IsVerdict policy.now act.now result }
 {
-    let callers = policy.callers.as_slice();
+    policy_is_sound(policy);
+    let callers = policy.callers();
     let own = is_own(policy.row(act.caller), act.touched);
-    let all = find_approved(act, callers, false);
-    let fresh = find_approved(act, callers, true);
+    let signed = find_signed(act, callers, false);
+    let fresh = find_signed(act, callers, true);
     let findings = Findings {
         own,
-        approved: &all[..callers.len()],
+        signed: &signed[..callers.len()],
         fresh: &fresh[..callers.len()],
     };
     judge(policy, act, &findings)

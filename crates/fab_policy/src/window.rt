@@ -3,8 +3,8 @@ ghost use Rattle.std.specs.Prelude.{◌≡◌};
 ghost use Rattle.std.specs.List.{list_any};
 ghost use Rattle.fab_policy.specs.Windows as spec;
 
-use crate::policy::{Freeze, WeekSpan, Window};
 use fab_names::Name;
+use fab_policy_base::{Freeze, WeekSpan, Window};
 
 /// Whether the number is at or after `from`, and before `until`.
 fn spans(from: u64, until: u64, number: u64) -> bool

@@ -1,11 +1,11 @@
-use Rattle.std.proofs.Common.{◌≡◌, ◌∙◌, count_by, ap, sym, nat_le}
-use Rattle.fab_policy.specs.Verdicts.{counts, meets_approvals}
-use Rattle.fab_policy.proofs.Approvals.{counted}
+use Rattle.std.proofs.Common.{◌∙◌, ap, sym, refl}
+use Rattle.fab_policy.specs.Verdicts.{meets_approvals}
+use Rattle.fab_policy.proofs.Counted.{met}
 use Rattle.fab_policy.proofs.verdicts.meets_approvals.Goals as goal
 
-pub returns : goal.returns
-returns c =
-    let callers = c.deref.ensures.value ∙ ap (λ p. p.callers) c.policy.view_is in
-    let told : c.count_approvers.result ≡ count_by (counts c.args.act.now c.in-Some.quorum) c.args.policy.now.callers =
-    c.count_approvers.ensures ∙ counted c.args.policy.now c.args.act.now c.args.findings.now c.in-Some.quorum _ _ c.requires callers c.approved-approved.ensures in
-    ap (nat_le c.in-Some.quorum.count) told ∙ ap (meets_approvals c.args.policy.now.callers c.args.act.now) (sym c.in-Some.is)
+pub returns-then-is_some : goal.returns-then-is_some
+returns-then-is_some c =
+    let act = c.args.act.now in
+    c.has_quorum.ensures
+    ∙ met c.args.policy.now act c.args.findings.now c.in-Some.quorum act.plan refl (sym c.is_some.ensures ∙ c.if-is_some.true) c.requires
+    ∙ ap (meets_approvals c.args.policy.now.callers act) (sym c.in-Some.is)

@@ -1,0 +1,10 @@
+pub mod Policies
+pub mod Limits
+pub mod Callers
+pub mod Tokens
+pub mod Sound
+pub mod Words
+pub mod Shapes
+pub mod Forms
+pub mod Tables
+pub mod Told

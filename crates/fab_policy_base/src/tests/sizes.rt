@@ -1,0 +1,204 @@
+//! Policies of each size, up to each limit, and one past it.
+use super::assert_fault;
+use crate::policy::Policy;
+use std::alloc::{AllocError, Global};
+use std::process::Abort;
+use std::test::Fail;
+
+/// Texts that grow by one item at a time.
+#[derive(Clone, Copy)]
+struct Growing {
+    /// What comes before the items,
+    head: &'static str,
+    /// an item, in which `#` stands for its number,
+    item: &'static str,
+    /// and what comes behind them.
+    tail: &'static str,
+    /// How few items there may be,
+    least: u64,
+    /// how many,
+    most: u64,
+    /// and how one more is told.
+    fault: &'static str,
+}
+
+/// The tables of a policy.
+const TABLES: &[Growing] = &[
+    Growing {
+        head: "",
+        item: "[[callers]]\nname=\"c#\"\ntoken=\"t#\"\nroles=[]\ntenants=[]\n",
+        tail: "",
+        least: 0,
+        most: 256,
+        fault: "`callers` is too long",
+    },
+    Growing {
+        head: "",
+        item: "[[windows]]\nname = \"w#\"\nweekly = []\n",
+        tail: "",
+        least: 0,
+        most: 64,
+        fault: "`windows` is too long",
+    },
+    Growing {
+        head: "",
+        item: "[[rules]]\nname = \"r#\"\nactions = [\"stage\"]\n",
+        tail: "",
+        least: 0,
+        most: 64,
+        fault: "`rules` is too long",
+    },
+];
+
+/// Each list in a table, and each text that has a limit.
+const LISTS: &[Growing] = &[
+    Growing {
+        head: "[[callers]]\nname = \"a\"\ntoken = \"t\"\ntenants = \"*\"\nroles = [",
+        item: "\"r#\",",
+        tail: "]\n",
+        least: 0,
+        most: 16,
+        fault: "`roles` is too long",
+    },
+    Growing {
+        head: "[[callers]]\nname = \"a\"\ntoken = \"t\"\nroles = []\ntenants = [",
+        item: "\"t#\",",
+        tail: "]\n",
+        least: 0,
+        most: 64,
+        fault: "`tenants` is too long",
+    },
+    Growing {
+        head: "[[windows]]\nname = \"w\"\nweekly = [",
+        item: "[#,64],",
+        tail: "]\n",
+        least: 0,
+        most: 64,
+        fault: "`weekly` is too long",
+    },
+    Growing {
+        head: "[[windows]]\nname = \"w\"\nweekly = []\nfreeze = [",
+        item: "[#,256],",
+        tail: "]\n",
+        least: 0,
+        most: 256,
+        fault: "`freeze` is too long",
+    },
+    Growing {
+        head: "[[callers]]\nname = \"a\"\nroles = []\ntenants = \"*\"\ntoken = \"",
+        item: "t",
+        tail: "\"\n",
+        least: 1,
+        most: 128,
+        fault: "`token` has a wrong value",
+    },
+    Growing {
+        head: "[[windows]]\nweekly = []\nname = \"",
+        item: "w",
+        tail: "\"\n",
+        least: 1,
+        most: 64,
+        fault: "`name` has a wrong value",
+    },
+];
+
+/// Puts an item behind the text, with its number.
+fn put(alloc: Global, text: &mut String, item: &str, number: u64) -> Result<(), AllocError> {
+    let number = number.to_string(alloc)?;
+    let item = item.replace(alloc, "#", number.as_str())?;
+    text.push_str(item.as_str())
+}
+
+/// Puts a piece and so many items behind the text.
+fn put_all(
+    alloc: Global,
+    text: &mut String,
+    head: &str,
+    item: &str,
+    count: u64,
+) -> Result<(), AllocError> {
+    text.push_str(head)?;
+    for number in 0..count {
+        put(alloc, text, item, number)?;
+    }
+    Ok(())
+}
+
+/// Whether the text is read with what comes behind it.
+fn is_read(alloc: Global, text: &str, tail: &str) -> Result<bool, AllocError> {
+    let mut whole = String::from_str(alloc, text)?;
+    whole.push_str(tail)?;
+    Ok(Policy::read(alloc, whole.as_str()).is_ok())
+}
+
+/// Asserts that each number of items is read up to the limit, and the fault of one more.
+fn assert_sizes(rt: &impl Abort, alloc: Global, growing: &Growing) -> Result<(), Fail> {
+    let mut text = String::new(alloc);
+    put_all(alloc, &mut text, growing.head, growing.item, growing.least)?;
+    for count in growing.least..growing.most {
+        assert!(rt; is_read(alloc, text.as_str(), growing.tail)?);
+        put(alloc, &mut text, growing.item, count)?;
+    }
+    assert!(rt; is_read(alloc, text.as_str(), growing.tail)?);
+    put(alloc, &mut text, growing.item, growing.most)?;
+    text.push_str(growing.tail)?;
+    assert_fault(rt, alloc, text.as_str(), growing.fault)
+}
+
+#[test]
+fn tables(rt: HostRuntime) -> Result<(), Fail> {
+    for growing in TABLES {
+        assert_sizes(&rt, rt.alloc(), growing)?;
+    }
+    Ok(())
+}
+
+#[test]
+fn lists(rt: HostRuntime) -> Result<(), Fail> {
+    for growing in LISTS {
+        assert_sizes(&rt, rt.alloc(), growing)?;
+    }
+    Ok(())
+}
+
+/// A caller with as many roles and tenants as there may be.
+fn caller(alloc: Global) -> Result<String, AllocError> {
+    let mut text = String::new(alloc);
+    let head = "[[callers]]\nname = \"c#\"\ntoken = \"t#\"\nroles = [";
+    put_all(alloc, &mut text, head, "\"r#\",", 16)?;
+    put_all(alloc, &mut text, "]\ntenants = [", "\"t#\",", 64)?;
+    text.push_str("]\n")?;
+    Ok(text)
+}
+
+/// A window with as many parts of the week and freezes as there may be.
+fn window(alloc: Global) -> Result<String, AllocError> {
+    let mut text = String::new(alloc);
+    let head = "[[windows]]\nname = \"w#\"\nweekly = [";
+    put_all(alloc, &mut text, head, "[#, 10080],", 64)?;
+    put_all(
+        alloc,
+        &mut text,
+        "]\nfreeze = [",
+        "[#, 9223372036854775807],",
+        256,
+    )?;
+    text.push_str("]\n")?;
+    Ok(text)
+}
+
+/// A rule that asks for all that a rule can ask for.
+const RULE: &str =
+    "[[rules]]\nname = \"r#\"\nactions = [\"activate\"]\nfabric = \"A\"\nrole = \"r\"\nscope = \"own\"\nwindow = \"w0\"\napprovals = 16\napprover = \"r\"\nfresh = true\n";
+
+/// Every limit at once.
+#[test]
+fn largest(rt: HostRuntime) -> Result<(), Fail> {
+    let alloc = rt.alloc();
+    let mut text = String::new(alloc);
+    put_all(alloc, &mut text, "", caller(alloc)?.as_str(), 256)?;
+    put_all(alloc, &mut text, "", window(alloc)?.as_str(), 64)?;
+    put_all(alloc, &mut text, "", RULE, 64)?;
+    assert!(rt; is_read(alloc, text.as_str(), "")?);
+    Ok(())
+}
