@@ -17,8 +17,6 @@ use crate::values::Json;
 /// An object of these members, in the order in which they stand. Behind a key, `?` in place of
 /// `:` leaves the member out where its `Option` has no value.
 ///
-/// Whoever writes one brings in `End`, `Field`, `Maybe` and `Object`.
-///
 /// ```
 /// object! { "error": Text("exists"), "name": name, "step"? step }
 /// ```
