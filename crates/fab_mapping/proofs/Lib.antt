@@ -1,7 +1,9 @@
-pub mod Adding
 pub mod GroupChanges
 pub mod GroupParts
 pub mod NexusOrder
-pub mod Scans
 pub mod SeenEntries
 pub mod SeenSets
+pub mod Least
+pub mod Walked
+pub mod Serving
+pub mod ClashSearch

@@ -1,5 +1,5 @@
 -- Which volumes hosts meet, and where one meets two.
-use Rattle.std.specs.Prelude.{ℕ, ◌≡◌, ◌≢◌, ◌⊎◌, List, Option, Some, Bool, true, false}
+use Rattle.std.specs.Prelude.{ℕ, ◌≡◌, ◌≢◌, List, Option, Some, true, false}
 use Rattle.std.specs.Ordering.{is_gt}
 use Rattle.std.specs.FinMap as map
 use Rattle.std.specs.FinSet as set
@@ -31,6 +31,10 @@ HostClaims hosts g c = (set.contains hosts.hosts c.0.host ≡ true) × (set.cont
 abbrev pub GroupClaims : HostGroups → StorageGroupRows → Claim → Type 0
 GroupClaims host_groups g c = (k : List ℕ) × (hosts : HostGroupRows) × (set.contains g.host_groups k ≡ true) × (host_groups k ≡ Some hosts) × HostClaims hosts g c
 
+-- the storage group is one of those that are exposed
+abbrev pub IsExposed : StorageGroups → StorageGroupRows → Type 0
+IsExposed groups g = (n : List ℕ) × (groups n ≡ Some g) × (g.exposed ≡ true)
+
 -- some exposed storage group maps the volume at the nexus
 abbrev pub Maps : HostGroups → StorageGroups → Claim → Type 0
 Maps host_groups groups c = (n : List ℕ) × (g : StorageGroupRows) × (groups n ≡ Some g) × (g.exposed ≡ true) × GroupClaims host_groups g c
@@ -46,9 +50,3 @@ IsLeastClashIn maps n = ClashesIn maps n × ((m : Nexus) → ClashesIn maps m �
 -- two volumes are met nowhere
 abbrev pub HasNoClashIn : (Claim → Type 0) → Type 0
 HasNoClashIn maps = (n : Nexus) → ¬ ClashesIn maps n
-
--- ---- claims that are gathered
-
--- one set of claims is the other with those that are added
-abbrev pub Adds : (Claim → Type 0) → (Claim → Bool) → (Claim → Bool) → Type 0
-Adds P old new = (c : Claim) → (new c ≡ true → (old c ≡ true) ⊎ P c) × ((old c ≡ true) ⊎ P c → new c ≡ true)

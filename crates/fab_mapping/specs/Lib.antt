@@ -2,3 +2,4 @@ pub mod Groups
 pub mod Nexuses
 pub mod Clashes
 pub mod Mappings
+pub mod ClashSearch

@@ -1,13 +1,15 @@
 //! The mapping of volumes: host groups, storage groups, and where a host would meet two volumes.
 #![tactic(auto)]
 
-mod claims;
+mod clash;
 mod fault;
 mod host_group;
+mod known_pairs;
 mod limits;
 mod mapping;
 mod nexus;
 mod search;
+mod served;
 mod storage_group;
 #[cfg(test)]
 mod tests;

@@ -6,9 +6,11 @@ ghost use Rattle.std.specs.FinSet as set;
 ghost use Rattle.fab_mapping.specs.Groups.{host_group_of, new_storage_group, with_hosts, without_hosts, with_target, without_target, with_unit, without_unit, exposed_as, HasRoomForHosts, HasRoomForTarget, HasRoomForUnit, HasFreeUnit};
 ghost use Rattle.fab_mapping.specs.Mappings.{no_groups, IsLeastClash, HasNoClash, CanPutHostGroup, PutHostGroupFails, IsUnservedIn, DropHostGroupFails, CanMakeGroup, NewGroupFails, NamesNoGroup, ChangesGroup, GroupHas, AddHostsFails, RemoveHostsFails, IsPortOf, AddTargetFails, RemoveTargetFails, IsVolumeOn, MapFails, UnmapFails};
 
-use crate::claims::{claims_of, first_clash};
+use crate::clash::first_clash;
+use crate::known_pairs::KnownPairs;
 use crate::limits::{LAST_UNIT, MOST_HOST_GROUPS, MOST_HOSTS, MOST_STORAGE_GROUPS};
 use crate::search::{first_no_host, first_serving, is_array, is_held_by};
+use crate::served::{exposed_of, served_hosts};
 use crate::{HostGroup, MappingFault, MappingLimit, Nexus, StorageGroup};
 use fab_inventory::Inventory;
 use fab_names::{Name, Wwn};
@@ -101,8 +103,11 @@ impl<A: Allocator + Copy> Mapping<A> {
     pub fn clash(&self) -> Result<Option<Nexus>, AllocError>
         ensures { IfOk result (λ clash. MatchOption clash (HasNoClash self.now) (IsLeastClash self.now)) }
     {
-        let claims = claims_of(self.alloc, &self.host_groups, &self.groups)?;
-        Ok(first_clash(&claims))
+        let exposed = exposed_of(self.alloc, &self.groups)?;
+        let groups = exposed.as_slice();
+        let served = served_hosts(self.alloc, &self.host_groups, groups)?;
+        let mut known = KnownPairs::new(self.alloc, groups.len())?;
+        Ok(first_clash(groups, &served, &mut known))
     }
 
     /// Makes or replaces a host group. Hosts listed twice count once.

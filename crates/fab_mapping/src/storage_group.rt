@@ -1,10 +1,11 @@
 //! Storage groups.
-ghost use Rattle.std.specs.Prelude.{◌≡◌, OnOk, OnErr, IfErr};
+ghost use Rattle.std.specs.Prelude.{◌≡◌, IsTrue, ◌↔◌, OnOk, OnErr, IfErr};
 ghost use Rattle.std.specs.FinSet as set;
 ghost use Rattle.std.specs.List.Sorted.{IsStrictlySortedBy};
 ghost use Rattle.std.specs.Ordering.{nat_cmp};
 ghost use Rattle.fab_names.specs.Orders.{name_cmp};
 ghost use Rattle.std.specs.FinMap as map;
+ghost use Rattle.fab_mapping.specs.ClashSearch.{MapsOther};
 ghost use Rattle.fab_mapping.specs.Groups.{new_storage_group, with_hosts, without_hosts, with_target, without_target, with_unit, without_unit, exposed_as, HasRoomForHosts, HasRoomForTarget, HasRoomForUnit, HasFreeUnit, AddHostsLimit, AddTargetLimit, MapRefusal};
 
 use crate::limits::{MOST_GROUPS_SERVED, MOST_TARGETS, MOST_UNITS};
@@ -112,6 +113,16 @@ impl<A: Allocator + Copy> StorageGroup<A> {
         ensures { result ≡ map.get self.now.units unit }
     {
         self.units.get(&unit).copied()
+    }
+
+    /// Whether another volume is mapped at the logical unit number.
+    pub(crate) fn maps_other(&self, unit: u16, volume: &Name) -> bool
+        ensures { IsTrue result ↔ MapsOther self.now unit volume.now }
+    {
+        match self.units.get(&unit) {
+            Some(there) => *there != *volume,
+            None => false,
+        }
     }
 
     /// Whether the host group is in it.

@@ -12,13 +12,15 @@ fn name(text: &str) -> Result<Name, Fail> {
     Ok(Name::read(text)?)
 }
 
-/// The first target port, and the second.
+/// The first target port, the second, and the third.
 const FIRST_TARGET: u64 = 0x5000_0000_0000_0001;
 
 const SECOND_TARGET: u64 = 0x5000_0000_0000_0002;
 
-/// Ports 1 to 70 and the targets; the hosts `db1` and `db2`; `arr1` with the first target and the
-/// volumes `v1` and `v2`, `arr2` with the second and `w1`.
+const THIRD_TARGET: u64 = 0x5000_0000_0000_0003;
+
+/// The targets; the hosts `db1` and `db2`; `arr1` with the first target, the third and the volumes
+/// `v1` and `v2`, `arr2` with the second and `w1`.
 fn stock(rt: &HostRuntime) -> Result<Inventory<Global>, Fail> {
     let mut inventory = Inventory::new(rt.alloc());
     let node = Wwn::new(0x2000_0000_0000_0001);
@@ -28,8 +30,13 @@ fn stock(rt: &HostRuntime) -> Result<Inventory<Global>, Fail> {
         Wwn::new(SECOND_TARGET),
         name("blue")?,
     );
-    let (arr1, arr2) = (name("arr1")?, name("arr2")?);
+    let (arr1, arr2, t3) = (name("arr1")?, name("arr2")?, Wwn::new(THIRD_TARGET));
     let rows = [
+        PortRow {
+            name: t3,
+            node,
+            place,
+        },
         PortRow {
             name: t1,
             node,
@@ -44,7 +51,7 @@ fn stock(rt: &HostRuntime) -> Result<Inventory<Global>, Fail> {
     inventory.import(Fabric::A, &rows)?;
     inventory.put_holder(name("db1")?, HolderKind::Host, blue, &[])?;
     inventory.put_holder(name("db2")?, HolderKind::Host, blue, &[])?;
-    inventory.put_holder(arr1, HolderKind::Array, blue, &[t1])?;
+    inventory.put_holder(arr1, HolderKind::Array, blue, &[t1, t3])?;
     inventory.put_holder(arr2, HolderKind::Array, blue, &[t2])?;
     inventory.put_volume(name("v1")?, arr1, blue, 1)?;
     inventory.put_volume(name("v2")?, arr1, blue, 1)?;
@@ -52,30 +59,84 @@ fn stock(rt: &HostRuntime) -> Result<Inventory<Global>, Fail> {
     Ok(inventory)
 }
 
+/// A storage group: its name, its host group, its target, and its volume at its unit.
+type Row = (&'static str, &'static str, u64, u16, &'static str);
+
+/// Makes the storage group, and exposes it.
+fn put_group(
+    mapping: &mut Mapping<Global>,
+    inventory: &Inventory<Global>,
+    row: Row,
+) -> Result<(), Fail> {
+    let (group, blue, arr1) = (name(row.0)?, name("blue")?, name("arr1")?);
+    mapping.new_group(group, blue, arr1, inventory)?;
+    mapping.add_hosts(&group, &name(row.1)?)?;
+    mapping.add_target(&group, &Wwn::new(row.2), inventory)?;
+    mapping.map(&group, row.3, &name(row.4)?, inventory)?;
+    mapping.expose(&group)?;
+    Ok(())
+}
+
+/// The host groups `hosts1` of `db1`, `hosts2` of both hosts and `hosts3` of `db2`, and these
+/// storage groups.
+fn mapped(
+    inventory: &Inventory<Global>,
+    alloc: Global,
+    rows: &[Row],
+) -> Result<Mapping<Global>, Fail> {
+    let mut mapping = Mapping::new(alloc);
+    let (blue, db1, db2) = (name("blue")?, name("db1")?, name("db2")?);
+    mapping.put_host_group(name("hosts1")?, blue, &[db1], inventory)?;
+    mapping.put_host_group(name("hosts2")?, blue, &[db2, db1], inventory)?;
+    mapping.put_host_group(name("hosts3")?, blue, &[db2], inventory)?;
+    for row in rows {
+        put_group(&mut mapping, inventory, *row)?;
+    }
+    Ok(mapping)
+}
+
 /// Exposed groups `g1` and `g2` that give `db1` at the first target `v1`, and this volume, at
 /// unit 0.
 fn two_groups(
     inventory: &Inventory<Global>,
     alloc: Global,
-    volume: &str,
+    volume: &'static str,
 ) -> Result<Mapping<Global>, Fail> {
-    let mut mapping = Mapping::new(alloc);
-    let (g1, g2, hosts, blue) = (name("g1")?, name("g2")?, name("hosts1")?, name("blue")?);
-    let (arr1, t1) = (name("arr1")?, Wwn::new(FIRST_TARGET));
-    let other = name("hosts2")?;
-    mapping.put_host_group(hosts, blue, &[name("db1")?], inventory)?;
-    mapping.put_host_group(other, blue, &[name("db2")?, name("db1")?], inventory)?;
-    mapping.new_group(g1, blue, arr1, inventory)?;
-    mapping.new_group(g2, blue, arr1, inventory)?;
-    mapping.add_hosts(&g1, &hosts)?;
-    mapping.add_hosts(&g2, &other)?;
-    mapping.add_target(&g1, &t1, inventory)?;
-    mapping.add_target(&g2, &t1, inventory)?;
-    mapping.map(&g1, 0, &name("v1")?, inventory)?;
-    mapping.map(&g2, 0, &name(volume)?, inventory)?;
-    mapping.expose(&g1)?;
-    mapping.expose(&g2)?;
-    Ok(mapping)
+    let rows = [
+        ("g1", "hosts1", FIRST_TARGET, 0, "v1"),
+        ("g2", "hosts2", FIRST_TARGET, 0, volume),
+    ];
+    mapped(inventory, alloc, &rows)
+}
+
+/// Six storage groups with three clashes: of `db1` at the first target and at the third, and of
+/// `db2` at the first.
+const CLASHING: [Row; 6] = [
+    ("g1", "hosts3", FIRST_TARGET, 3, "v1"),
+    ("g2", "hosts1", THIRD_TARGET, 5, "v1"),
+    ("g3", "hosts1", FIRST_TARGET, 7, "v2"),
+    ("g4", "hosts3", FIRST_TARGET, 3, "v2"),
+    ("g5", "hosts1", THIRD_TARGET, 5, "v2"),
+    ("g6", "hosts1", FIRST_TARGET, 7, "v1"),
+];
+
+#[test]
+fn the_least_of_three_clashes(rt: HostRuntime) -> Result<(), Fail> {
+    let inventory = stock(&rt)?;
+    let mut mapping = mapped(&inventory, rt.alloc(), &CLASHING)?;
+    let (db1, db2) = (name("db1")?, name("db2")?);
+    let steps = [
+        ("g3", db1, FIRST_TARGET, 7),
+        ("g2", db1, THIRD_TARGET, 5),
+        ("g1", db2, FIRST_TARGET, 3),
+    ];
+    for (group, host, target, unit) in steps {
+        let target = Wwn::new(target);
+        assert_eq!(rt; mapping.clash(), Ok(Some(Nexus { host, target, unit })));
+        mapping.hide(&name(group)?)?;
+    }
+    assert_eq!(rt; mapping.clash(), Ok(None));
+    Ok(())
 }
 
 #[test]
