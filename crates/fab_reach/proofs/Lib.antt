@@ -1,0 +1,11 @@
+pub mod Adding
+pub mod Books
+pub mod Gathering
+pub mod Lawful
+pub mod Owning
+pub mod PathOrder
+pub mod Same
+pub mod SameLists
+pub mod Scanning
+pub mod Services
+pub mod Sets

@@ -1,0 +1,14 @@
+-- Two answers that are one.
+use Rattle.std.proofs.Common.{◌≡◌, Option, Some, sym, ap, ◌∙◌}
+use Rattle.fab_names.specs.Places.{Position}
+use Rattle.fab_names.specs.declared.fabric.Fabric.{Fabric}
+use Rattle.fab_inventory.specs.declared.port.Port.{Port}
+use Rattle.fab_zoning.specs.Joins.{IsLoggedInAt}
+
+-- one option, one value
+pub same_some : {X : Type 0} {a b : X} {o : Option X} → o ≡ Some a → o ≡ Some b → a ≡ b
+same_some {a} {b} h k = let e : Some a ≡ Some b = sym h ∙ k in cc
+
+-- one place, one fabric
+pub same_fabric : (p : Port) (f g : Fabric) → IsLoggedInAt f p → IsLoggedInAt g p → f ≡ g
+same_fabric p f g h k = let e : (f, h.0) ≡ (g, k.0) = same_some h.1 k.1 in ap (λ (x : Fabric × Position). x.0) e

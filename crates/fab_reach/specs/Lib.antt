@@ -1,0 +1,9 @@
+pub mod Records
+pub mod Views
+pub mod Orders
+pub mod Reach
+pub mod Serving
+pub mod Books
+pub mod Limits
+pub mod Adding
+pub mod Gathering
