@@ -6,3 +6,5 @@ pub mod Searches
 pub mod SeenMaps
 pub mod Soundness
 pub mod Steps
+pub mod Holdings
+pub mod Restoring

@@ -1,5 +1,5 @@
 -- Who holds which ports, and which volumes are on an array.
-use Rattle.std.specs.Prelude.{ℕ, ◌≡◌, ◌≢◌, ◌≤◌, List, Contains, Option, None, Some, Bool, is_some, true, false, nat_eq, min, if◌then◌else◌}
+use Rattle.std.specs.Prelude.{ℕ, ◌≡◌, ◌≢◌, ◌≤◌, List, Contains, Option, None, Some, Bool, is_some, true, false, nat_eq, min, ◌&&◌, not, if◌then◌else◌}
 use Rattle.std.specs.List.{list_any}
 use Rattle.std.specs.Option.{option_and_then}
 use Rattle.std.specs.Ordering.{is_gt}
@@ -91,3 +91,23 @@ HasNoVolume volumes array = (n : List ℕ) → ¬ IsOn volumes array n
 -- the volume is on the array, and none before it by name is
 abbrev pub IsLeastVolume : VolumeLookUp → List ℕ → List ℕ → Type 0
 IsLeastVolume volumes array n = IsOn volumes array n × ((m : List ℕ) → IsOn volumes array m → is_gt (name_cmp n m) ≡ false)
+
+-- ---- the ports of a holder
+
+-- the holder holds the port
+abbrev pub Holds : PortLookUp → List ℕ → ℕ → Type 0
+Holds ports h q = holder_in ports q ≡ Some h
+
+-- the holder holds the port, and it is not listed: nobody would hold it once the holder had just
+-- the listed ports
+abbrev pub Leaves : PortLookUp → List ℕ → List ℕ → ℕ → Type 0
+Leaves ports h listed q = Holds ports h q × ¬ Contains listed q
+
+-- whether there is a holder, and it is this one
+abbrev pub holder_is : List ℕ → Option (List ℕ) → Bool
+holder_is name None = false
+holder_is name (Some h) = same_name h name
+
+-- whether the holder holds a port of which this is known, and it is not listed
+abbrev pub is_leaving : List ℕ → List ℕ → ℕ → Known → Bool
+is_leaving h listed q k = holder_is h k.holder && not (list_any (λ p. nat_eq p q) listed)

@@ -6,6 +6,7 @@ use Rattle.std.specs.FinMap as map
 use Rattle.fab_names.specs.Places.{Position}
 use Rattle.fab_names.specs.declared.fabric.Fabric.{Fabric}
 use Rattle.fab_names.specs.declared.fabric.Fabric.TheVariants.{A, B}
+use Rattle.fab_inventory.specs.Limits.{most_ports}
 use Rattle.fab_inventory.specs.declared.port.PortRow.{PortRow}
 use Rattle.fab_inventory.specs.declared.port.Known.{Known}
 use Rattle.fab_inventory.specs.declared.fault.InventoryFault.{InventoryFault}
@@ -70,9 +71,9 @@ pub record IsImported (f : Fabric) (rows : List PortRow) (old new : map.FinMap n
   pub listed : (r : PortRow) → Contains rows r → map.get new r.name ≡ Some (logged_in f r (map.get old r.name))
   pub others : (q : ℕ) → IsUnlisted rows q → map.get new q ≡ option_map (logged_out f) (map.get old q)
 
--- what a refusal of an import says: the first clash of two records, or that more than 4096 ports would be known
+-- what a refusal of an import says: the first clash of two records, or that too many ports would be known
 abbrev pub ImportFails : Fabric → List PortRow → map.FinMap nat_cmp Known → InventoryFault → Type 0
 ImportFails f rows old (PortClash w) = IsClash rows w
-ImportFails f rows old (Limit Ports) = (m : map.FinMap nat_cmp Known) × IsImported f rows old m × (4096 < map.len m)
+ImportFails f rows old (Limit Ports) = (m : map.FinMap nat_cmp Known) × IsImported f rows old m × (most_ports < map.len m)
 ImportFails f rows old Memory = Unit {0}
 ImportFails f rows old _ = ⊥

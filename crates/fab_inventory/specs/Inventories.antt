@@ -10,6 +10,7 @@ use Rattle.fab_inventory.specs.declared.holder.Volume.{Volume}
 use Rattle.fab_inventory.specs.declared.fault.InventoryFault.{InventoryFault}
 use Rattle.fab_inventory.specs.declared.fault.InventoryFault.TheVariants.{UnknownPort, PortHeld, Unknown, WrongKind, InUse, Limit, Memory}
 use Rattle.fab_inventory.specs.declared.fault.InventoryLimit.TheVariants.{Holders, PortsOfHolder, Volumes, Bytes}
+use Rattle.fab_inventory.specs.Limits.{most_ports, most_holders, most_ports_of_holder, most_volumes, most_bytes}
 use Rattle.fab_inventory.specs.Ports.{KnownPorts}
 use Rattle.fab_inventory.specs.Holders.{holder_in, held_after, AreKnown, AreFree, IsPortFault, IsLeastVolume}
 
@@ -42,22 +43,22 @@ IsHost holders name = kind_of holders name ≡ Some kind.Host
 abbrev pub IsArray : HolderRows → List ℕ → Type 0
 IsArray holders name = kind_of holders name ≡ Some kind.Array
 
--- a capacity in bytes: 1 to 9223372036854775807
+-- a capacity in bytes: 1 to the most
 abbrev pub IsCapacity : ℕ → Type 0
-IsCapacity bytes = (1 ≤ bytes) × (bytes ≤ 9223372036854775807)
+IsCapacity bytes = (1 ≤ bytes) × (bytes ≤ most_bytes)
 
--- the holder holds at most 64 ports: so many have all that it holds
+-- the holder holds at most so many ports: a list of so many has all that it holds
 abbrev pub HoldsFew : KnownPorts → List ℕ → Type 0
-HoldsFew ports h = (held : List ℕ) × (length held ≤ 64) × ((q : ℕ) → holder_in (map.get ports) q ≡ Some h → Contains held q)
+HoldsFew ports h = (held : List ℕ) × (length held ≤ most_ports_of_holder) × ((q : ℕ) → holder_in (map.get ports) q ≡ Some h → Contains held q)
 
 -- what is named is there, and no limit is passed
 pub record IsSound (v : InventoryRows) : Type 0 where
   pub holdings : (q : ℕ) (h : List ℕ) → holder_in (map.get v.ports) q ≡ Some h → map.contains_key v.holders h ≡ true
   pub arrays : (n : List ℕ) (x : Volume) → map.get v.volumes n ≡ Some x → IsArray v.holders x.array
   pub capacities : (n : List ℕ) (x : Volume) → map.get v.volumes n ≡ Some x → IsCapacity x.bytes
-  pub few_ports : map.len v.ports ≤ 4096
-  pub few_holders : map.len v.holders ≤ 2048
-  pub few_volumes : map.len v.volumes ≤ 4096
+  pub few_ports : map.len v.ports ≤ most_ports
+  pub few_holders : map.len v.holders ≤ most_holders
+  pub few_volumes : map.len v.volumes ≤ most_volumes
   pub few_held : (h : List ℕ) → HoldsFew v.ports h
 
 -- ---- holders
@@ -72,11 +73,11 @@ HasOtherKind holders name k = (j : HolderKind) × (kind_of holders name ≡ Some
 
 -- the name is a holder's already, or there is room for one more
 abbrev pub HasRoomForHolder : HolderRows → List ℕ → Type 0
-HasRoomForHolder holders name = map.contains_key holders name ≡ false → map.len holders < 2048
+HasRoomForHolder holders name = map.contains_key holders name ≡ false → map.len holders < most_holders
 
 -- nothing refuses the put
 pub record CanPutHolder (v : InventoryRows) (name : List ℕ) (k : HolderKind) (listed : List ℕ) : Type 0 where
-  pub few : length listed ≤ 64
+  pub few : length listed ≤ most_ports_of_holder
   pub kind : HasNoOtherKind v.holders name k
   pub known : AreKnown (map.get v.ports) listed
   pub free : AreFree (map.get v.ports) name listed
@@ -90,12 +91,12 @@ pub record IsHolderPut (name : List ℕ) (holder : Holder) (listed : List ℕ) (
 
 -- what refuses the put, in this order
 abbrev pub PutHolderFails : InventoryRows → List ℕ → HolderKind → List ℕ → InventoryFault → Type 0
-PutHolderFails v name k listed (Limit PortsOfHolder) = 64 < length listed
-PutHolderFails v name k listed (WrongKind n) = (length listed ≤ 64) × (n ≡ name) × HasOtherKind v.holders name k
-PutHolderFails v name k listed (UnknownPort q) = (length listed ≤ 64) × HasNoOtherKind v.holders name k × IsPortFault (map.get v.ports) name listed (UnknownPort q)
-PutHolderFails v name k listed (PortHeld q h) = (length listed ≤ 64) × HasNoOtherKind v.holders name k × IsPortFault (map.get v.ports) name listed (PortHeld q h)
+PutHolderFails v name k listed (Limit PortsOfHolder) = most_ports_of_holder < length listed
+PutHolderFails v name k listed (WrongKind n) = (length listed ≤ most_ports_of_holder) × (n ≡ name) × HasOtherKind v.holders name k
+PutHolderFails v name k listed (UnknownPort q) = (length listed ≤ most_ports_of_holder) × HasNoOtherKind v.holders name k × IsPortFault (map.get v.ports) name listed (UnknownPort q)
+PutHolderFails v name k listed (PortHeld q h) = (length listed ≤ most_ports_of_holder) × HasNoOtherKind v.holders name k × IsPortFault (map.get v.ports) name listed (PortHeld q h)
 PutHolderFails v name k listed (Limit Holders) =
-    (length listed ≤ 64) × HasNoOtherKind v.holders name k × AreKnown (map.get v.ports) listed × AreFree (map.get v.ports) name listed × (map.contains_key v.holders name ≡ false) × (2048 ≤ map.len v.holders)
+    (length listed ≤ most_ports_of_holder) × HasNoOtherKind v.holders name k × AreKnown (map.get v.ports) listed × AreFree (map.get v.ports) name listed × (map.contains_key v.holders name ≡ false) × (most_holders ≤ map.len v.holders)
 PutHolderFails v name k listed Memory = Unit {0}
 PutHolderFails v name k listed _ = ⊥
 
@@ -117,13 +118,13 @@ DropHolderFails v name _ = ⊥
 pub record CanPutVolume (v : InventoryRows) (name array : List ℕ) (bytes : ℕ) : Type 0 where
   pub capacity : IsCapacity bytes
   pub on_array : IsArray v.holders array
-  pub room : map.contains_key v.volumes name ≡ false → map.len v.volumes < 4096
+  pub room : map.contains_key v.volumes name ≡ false → map.len v.volumes < most_volumes
 
 -- what refuses the put, in this order
 abbrev pub PutVolumeFails : InventoryRows → List ℕ → List ℕ → ℕ → InventoryFault → Type 0
 PutVolumeFails v name array bytes (Limit Bytes) = ¬ IsCapacity bytes
 PutVolumeFails v name array bytes (Unknown n) = IsCapacity bytes × (n ≡ array) × ¬ IsArray v.holders array
-PutVolumeFails v name array bytes (Limit Volumes) = IsCapacity bytes × IsArray v.holders array × (map.contains_key v.volumes name ≡ false) × (4096 ≤ map.len v.volumes)
+PutVolumeFails v name array bytes (Limit Volumes) = IsCapacity bytes × IsArray v.holders array × (map.contains_key v.volumes name ≡ false) × (most_volumes ≤ map.len v.volumes)
 PutVolumeFails v name array bytes Memory = Unit {0}
 PutVolumeFails v name array bytes _ = ⊥
 

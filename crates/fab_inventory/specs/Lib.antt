@@ -3,3 +3,6 @@ pub mod Imports
 pub mod Holders
 pub mod Inventories
 pub mod Codes
+pub mod Limits
+pub mod Restores
+pub mod RestoreTests

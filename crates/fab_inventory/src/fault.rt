@@ -41,6 +41,20 @@ pub enum InventoryLimit {
     Bytes,
 }
 
+/// Why there is no inventory with given ports, holders and volumes.
+#[derive(Clone, Copy, Debug, PartialEq, Eq, Drop)]
+pub enum RestoreFault {
+    /// There are too many ports, a port names a holder that is not there, or a holder holds too
+    /// many ports.
+    Ports,
+    /// There are too many holders.
+    Holders,
+    /// There are too many volumes, a volume is on no array, or its capacity is out of range.
+    Volumes,
+    /// There was no memory.
+    Memory,
+}
+
 impl From<AllocError> for InventoryFault {
     ghost from_gives = { λ _ e. e ≡ Memory };
 

@@ -1,10 +1,11 @@
 //! Who holds which ports: what refuses a put of a holder, and what it does to the ports.
-ghost use Rattle.std.specs.Prelude.{◌≡◌, ◌≢◌, ◌≤◌, ℕ, Some, IsTrue, ◌↔◌, MatchOption, IfNone, IfSome};
+ghost use Rattle.std.specs.Prelude.{◌≡◌, ◌≢◌, ◌≤◌, ℕ, Some, IsTrue, ◌↔◌, MatchOption, IfNone, IfSome, IfOk};
 ghost use Rattle.std.specs.Bool.{OnTrue, OnFalse};
 ghost use Rattle.std.specs.Option.{option_map};
 ghost use Rattle.std.specs.Ordering.{nat_cmp};
 ghost use Rattle.std.specs.BTreeMap.{get};
 ghost use Rattle.std.specs.FinMap as map;
+ghost use Rattle.fab_maps.specs.Lists.{IsListOf};
 ghost use Rattle.fab_names.specs.Orders.{name_cmp};
 ghost use Rattle.fab_inventory.specs.Holders.{held_after, other_holder_in, AreKnown, AreFree, IsLeast, IsUnknownIn, IsHeldIn, IsPortFault, min_of};
 ghost use Rattle.fab_inventory.specs.Holders as spec;
@@ -14,7 +15,7 @@ ghost use Rattle.fab_inventory.specs.declared.holder.HolderKind.TheVariants.{Arr
 
 use crate::{Holder, HolderKind, InventoryFault, Known, Volume};
 use fab_names::{Name, Wwn};
-use std::alloc::Allocator;
+use std::alloc::{AllocError, Allocator};
 use std::collections::BTreeMap;
 
 /// What the holder of a name is, if there is one.
@@ -147,6 +148,34 @@ pub fn hand_over_all<A: Allocator>(ports: &mut BTreeMap<Wwn, Known, A>, name: Na
         hand_over(known, port, name, listed);
         true
     });
+}
+
+/// Whether the holder holds the port, and it is not listed.
+fn is_leaving(port: &Wwn, known: &Known, name: &Name, listed: &[Wwn]) -> bool
+    ensures { result ≡ spec.is_leaving name.now listed.now port.now known.now }
+{
+    match known.holder {
+        Some(holder) => holder == *name && !listed.contains(port),
+        None => false,
+    }
+}
+
+/// The ports that the holder holds and that are not listed, in their order.
+pub fn leaving<A: Allocator + Copy>(
+    alloc: A,
+    ports: &BTreeMap<Wwn, Known, A>,
+    name: &Name,
+    listed: &[Wwn],
+) -> Result<Vec<Wwn, A>, AllocError>
+    ensures { IfOk result (λ found. IsListOf nat_cmp (spec.Leaves (get nat_cmp ports.now) name.now listed.now) found.items) }
+{
+    let mut found = Vec::new(alloc);
+    for (port, known) in ports {
+        if is_leaving(port, known, name, listed) {
+            found.push(*port)?;
+        }
+    }
+    Ok(found)
 }
 
 /// The least volume by name on the array, if there is one.

@@ -3,32 +3,26 @@ ghost use Rattle.std.specs.Prelude.{◌≡◌, ◌≤◌, OnOk, OnErr, IfOk, IfE
 ghost use Rattle.std.specs.FinMap as map;
 ghost use Rattle.fab_inventory.specs.Imports.{IsImported, ImportFails};
 ghost use Rattle.fab_inventory.specs.Ports.{port_at};
-ghost use Rattle.fab_inventory.specs.Holders.{HasNoVolume};
+ghost use Rattle.std.specs.Ordering.{nat_cmp};
+ghost use Rattle.fab_maps.specs.Lists.{IsListOf};
+ghost use Rattle.fab_inventory.specs.Holders.{HasNoVolume, Holds, Leaves};
+ghost use Rattle.fab_inventory.specs.Restores.{rows_of, RestoreFails};
 ghost use Rattle.fab_inventory.specs.Inventories.{no_rows, IsSound, CanPutHolder, IsHolderPut, PutHolderFails, IsHolderDropped, DropHolderFails, CanPutVolume, PutVolumeFails, DropVolumeFails};
 
-use crate::holding::{first_on, hand_over_all, is_array, is_other_kind, kind_of, port_fault};
+use crate::holding::{
+    first_on, hand_over_all, is_array, is_other_kind, kind_of, leaving, port_fault,
+};
 use crate::import::{all_logged_out, check_rows, log_in};
-use crate::{Holder, HolderKind, InventoryFault, InventoryLimit, Known, Port, PortRow, Volume};
+use crate::limits::{MOST_BYTES, MOST_HOLDERS, MOST_PORTS, MOST_PORTS_OF_HOLDER, MOST_VOLUMES};
+use crate::restore::{are_ports_sound, are_volumes_sound};
+use crate::{
+    Holder, HolderKind, InventoryFault, InventoryLimit, Known, Port, PortRow, RestoreFault, Volume,
+};
 use fab_names::{Fabric, Name, Wwn};
 use std::alloc::{AllocError, Allocator};
 use std::collections::BTreeMap;
 use std::collections::btree_map::Iter;
 use std::marker::Model;
-
-/// How many ports may be known.
-const MOST_PORTS: usize = 4096;
-
-/// How many holders there may be.
-const MOST_HOLDERS: usize = 2048;
-
-/// How many ports may be listed for a holder.
-const MOST_PORTS_OF_HOLDER: usize = 64;
-
-/// How many volumes there may be.
-const MOST_VOLUMES: usize = 4096;
-
-/// How many bytes a volume may have.
-const MOST_BYTES: u64 = 9223372036854775807;
 
 /// The ports of both fabrics that are known, the hosts and arrays that hold them, and the volumes
 /// on the arrays. A port once known stays known.
@@ -116,6 +110,69 @@ impl<A: Allocator + Copy> Inventory<A> {
         ensures sound { IsSound self.now }
     {
         self.volumes.get(name).copied()
+    }
+
+    /// The inventory with just these ports, holders and volumes. It walks through each of them a
+    /// few times.
+    ///
+    /// # Errors
+    /// `Ports` where there are more than 4096, where a port names a holder that is not there, or
+    /// where a holder holds more than 64; `Holders` where there are more than 2048; `Volumes`
+    /// where there are more than 4096, or where one is on no array or has no byte or more than
+    /// 9223372036854775807. Each is answered only where it is so, so a sound inventory is never
+    /// refused but for `Memory`.
+    pub fn from_maps(
+        alloc: A,
+        ports: BTreeMap<Wwn, Known, A>,
+        holders: BTreeMap<Name, Holder, A>,
+        volumes: BTreeMap<Name, Volume, A>,
+    ) -> Result<Self, RestoreFault>
+        ensures ok { IfOk result (λ inventory. inventory ≡ rows_of ports holders volumes) }
+        ensures sound { OnOk result (IsSound (rows_of ports holders volumes)) }
+        ensures err { IfErr result (RestoreFails (rows_of ports holders volumes)) }
+    {
+        let Ok(sound) = are_ports_sound(alloc, &holders, &ports) else {
+            return Err(RestoreFault::Memory);
+        };
+        if !sound {
+            return Err(RestoreFault::Ports);
+        }
+        if holders.len() > MOST_HOLDERS {
+            return Err(RestoreFault::Holders);
+        }
+        if !are_volumes_sound(&holders, &volumes) {
+            return Err(RestoreFault::Volumes);
+        }
+        Ok(Inventory {
+            alloc,
+            ports,
+            holders,
+            volumes,
+        })
+    }
+
+    /// The ports that the holder holds, by N_Port_Name. It walks once through all known ports,
+    /// and takes memory for those that it finds: at most 64.
+    ///
+    /// # Errors
+    /// `AllocError` where there is no memory.
+    pub fn ports_of(&self, holder: &Name) -> Result<Vec<Wwn, A>, AllocError>
+        ensures { IfOk result (λ found. IsListOf nat_cmp (Holds (map.get self.now.ports) holder.now) found.items) }
+    {
+        leaving(self.alloc, &self.ports, holder, &[])
+    }
+
+    /// The ports that would be held by nobody once the holder had just the listed ports: those
+    /// that it holds and that are not listed, by N_Port_Name. So the first of them that is a
+    /// target is the least that a put would take from its array. It walks once through all known
+    /// ports, and takes memory for those that it finds: at most 64.
+    ///
+    /// # Errors
+    /// `AllocError` where there is no memory.
+    pub fn ports_leaving(&self, holder: &Name, listed: &[Wwn]) -> Result<Vec<Wwn, A>, AllocError>
+        ensures { IfOk result (λ found. IsListOf nat_cmp (Leaves (map.get self.now.ports) holder.now listed.now) found.items) }
+    {
+        leaving(self.alloc, &self.ports, holder, listed)
     }
 
     /// What is known of each port, in the order of the port names.

@@ -7,11 +7,15 @@ mod holder;
 mod holding;
 mod import;
 mod inventory;
+pub mod laws;
+mod limits;
 mod port;
+mod restore;
 #[cfg(test)]
 mod tests;
 
-pub use fault::{InventoryFault, InventoryLimit};
+pub use fault::{InventoryFault, InventoryLimit, RestoreFault};
 pub use holder::{Holder, HolderKind, Volume};
 pub use inventory::Inventory;
+pub use limits::{MOST_BYTES, MOST_HOLDERS, MOST_PORTS, MOST_PORTS_OF_HOLDER, MOST_VOLUMES};
 pub use port::{Known, Port, PortRow};
