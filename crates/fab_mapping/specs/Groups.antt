@@ -58,6 +58,24 @@ host_group_of tenant hosts = record { tenant = tenant; hosts = set.from_list hos
 abbrev pub new_storage_group : List ℕ → List ℕ → StorageGroupRows
 new_storage_group tenant array = record { tenant = tenant; array = array; host_groups = set.empty; targets = set.empty; units = map.empty; exposed = false }
 
+-- ---- what a group has
+
+-- the host group has the host
+abbrev pub HoldsHost : List ℕ → HostGroupRows → Type 0
+HoldsHost host g = set.contains g.hosts host ≡ true
+
+-- the storage group has the target
+abbrev pub HasTarget : ℕ → StorageGroupRows → Type 0
+HasTarget target g = set.contains g.targets target ≡ true
+
+-- the storage group is of the array
+abbrev pub IsOfArray : List ℕ → StorageGroupRows → Type 0
+IsOfArray array g = g.array ≡ array
+
+-- the storage group maps the volume, at some unit
+abbrev pub MapsVolume : List ℕ → StorageGroupRows → Type 0
+MapsVolume volume g = (u : ℕ) × (map.get g.units u ≡ Some volume)
+
 -- ---- one part more, or one less
 
 -- with one host group more

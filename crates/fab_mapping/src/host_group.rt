@@ -63,6 +63,14 @@ impl<A: Allocator + Copy> HostGroup<A> {
         })
     }
 
+    /// The host group of these hosts, as they are: what a stored one was made of. Nothing is
+    /// tested, not even that there is a host.
+    pub fn from_parts(tenant: Name, hosts: BTreeSet<Name, A>) -> Self
+        ensures { result ≡ record { tenant = tenant; hosts = set.from_list hosts.keys } }
+    {
+        HostGroup { tenant, hosts }
+    }
+
     /// Whose it is.
     pub fn tenant(&self) -> Name
         ensures { result ≡ self.now.tenant }

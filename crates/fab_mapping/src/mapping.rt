@@ -3,13 +3,18 @@ ghost use Rattle.std.specs.Prelude.{◌≡◌, ◌<◌, ◌≤◌, length, true,
 ghost use Rattle.std.specs.Option.{option_copied};
 ghost use Rattle.std.specs.FinMap as map;
 ghost use Rattle.std.specs.FinSet as set;
-ghost use Rattle.fab_mapping.specs.Groups.{host_group_of, new_storage_group, with_hosts, without_hosts, with_target, without_target, with_unit, without_unit, exposed_as, HasRoomForHosts, HasRoomForTarget, HasRoomForUnit, HasFreeUnit};
-ghost use Rattle.fab_mapping.specs.Mappings.{no_groups, IsLeastClash, HasNoClash, CanPutHostGroup, PutHostGroupFails, IsUnservedIn, DropHostGroupFails, CanMakeGroup, NewGroupFails, NamesNoGroup, ChangesGroup, GroupHas, AddHostsFails, RemoveHostsFails, IsPortOf, AddTargetFails, RemoveTargetFails, IsVolumeOn, MapFails, UnmapFails};
+ghost use Rattle.fab_maps.specs.Firsts.{IsFirstWith, HasAt, HasNowhere};
+ghost use Rattle.fab_names.specs.Orders.{name_cmp};
+ghost use Rattle.fab_mapping.specs.Groups.{HoldsHost, HasTarget, IsOfArray, MapsVolume, host_group_of, new_storage_group, with_hosts, without_hosts, with_target, without_target, with_unit, without_unit, exposed_as, HasRoomForHosts, HasRoomForTarget, HasRoomForUnit, HasFreeUnit};
+ghost use Rattle.fab_mapping.specs.Mappings.{no_groups, IsLeastClash, HasNoClash, CanPutHostGroup, PutHostGroupFails, IsUnservedIn, IsLeastServing, DropHostGroupFails, CanMakeGroup, NewGroupFails, NamesNoGroup, ChangesGroup, GroupHas, AddHostsFails, RemoveHostsFails, IsPortOf, AddTargetFails, RemoveTargetFails, IsVolumeOn, MapFails, UnmapFails};
 
 use crate::clash::first_clash;
 use crate::known_pairs::KnownPairs;
 use crate::limits::{LAST_UNIT, MOST_HOST_GROUPS, MOST_HOSTS, MOST_STORAGE_GROUPS};
-use crate::search::{first_no_host, first_serving, is_array, is_held_by};
+use crate::search::{
+    first_no_host, first_of_array, first_serving, first_with_host, first_with_target,
+    first_with_volume, is_array, is_held_by,
+};
 use crate::served::{exposed_of, served_hosts};
 use crate::{HostGroup, MappingFault, MappingLimit, Nexus, StorageGroup};
 use fab_inventory::Inventory;
@@ -51,6 +56,60 @@ impl<A: Allocator + Copy> Mapping<A> {
             host_groups: BTreeMap::new(alloc),
             groups: BTreeMap::new(alloc),
         }
+    }
+
+    /// The mapping of these host groups and storage groups, as they are: what a stored one was made
+    /// of, also where hosts, ports and volumes are gone since. Nothing is tested.
+    pub fn from_maps(
+        alloc: A,
+        host_groups: BTreeMap<Name, HostGroup<A>, A>,
+        groups: BTreeMap<Name, StorageGroup<A>, A>,
+    ) -> Self
+        ensures { result ≡ record { host_groups = map.from_entries host_groups.entries; groups = map.from_entries groups.entries } }
+    {
+        Mapping {
+            alloc,
+            host_groups,
+            groups,
+        }
+    }
+
+    /// The least host group by name that has the host. It takes no memory.
+    pub fn host_group_with(&self, host: &Name) -> Option<Name>
+        ensures { MatchOption result (HasNowhere (map.get self.now.host_groups) (HoldsHost host.now)) (IsFirstWith name_cmp (HasAt (map.get self.now.host_groups) (HoldsHost host.now))) }
+    {
+        first_with_host(&self.host_groups, host)
+    }
+
+    /// The least storage group by name that has the host group. It takes no memory.
+    pub fn group_serving(&self, hosts: &Name) -> Option<Name>
+        ensures { MatchOption result (IsUnservedIn (map.get self.now.groups) hosts.now) (IsLeastServing (map.get self.now.groups) hosts.now) }
+    {
+        match first_serving(&self.groups, hosts) {
+            Some(name) => Some(*name),
+            None => None,
+        }
+    }
+
+    /// The least storage group by name that has the target port. It takes no memory.
+    pub fn group_with_target(&self, target: &Wwn) -> Option<Name>
+        ensures { MatchOption result (HasNowhere (map.get self.now.groups) (HasTarget target.now)) (IsFirstWith name_cmp (HasAt (map.get self.now.groups) (HasTarget target.now))) }
+    {
+        first_with_target(&self.groups, target)
+    }
+
+    /// The least storage group by name that is of the array. It takes no memory.
+    pub fn group_of_array(&self, array: &Name) -> Option<Name>
+        ensures { MatchOption result (HasNowhere (map.get self.now.groups) (IsOfArray array.now)) (IsFirstWith name_cmp (HasAt (map.get self.now.groups) (IsOfArray array.now))) }
+    {
+        first_of_array(&self.groups, array)
+    }
+
+    /// The least storage group by name that maps the volume. It takes no memory.
+    pub fn group_with_volume(&self, volume: &Name) -> Option<Name>
+        ensures { MatchOption result (HasNowhere (map.get self.now.groups) (MapsVolume volume.now)) (IsFirstWith name_cmp (HasAt (map.get self.now.groups) (MapsVolume volume.now))) }
+    {
+        first_with_volume(&self.groups, volume)
     }
 
     /// An equal mapping.

@@ -3,11 +3,13 @@ ghost use Rattle.std.specs.Prelude.{◌≡◌, Some, IsTrue, ◌↔◌, All, Mat
 ghost use Rattle.std.specs.BTreeMap.{get};
 ghost use Rattle.fab_names.specs.Orders.{name_cmp};
 ghost use Rattle.fab_inventory.specs.Inventories.{IsHost, IsArray};
+ghost use Rattle.fab_maps.specs.Firsts.{IsFirstWith, HasAt, HasNowhere};
+ghost use Rattle.fab_mapping.specs.Groups.{HoldsHost, HasTarget, IsOfArray, MapsVolume};
 ghost use Rattle.fab_mapping.specs.Mappings.{IsFirstNoHost, IsUnservedIn, IsLeastServing};
 
-use crate::StorageGroup;
+use crate::{HostGroup, StorageGroup};
 use fab_inventory::{HolderKind, Inventory, Port};
-use fab_names::Name;
+use fab_names::{Name, Wwn};
 use std::alloc::Allocator;
 use std::collections::BTreeMap;
 
@@ -63,6 +65,66 @@ pub fn first_serving<'a, A: Allocator + Copy>(
     for (name, group) in groups {
         if group.has_hosts(hosts) {
             return Some(name);
+        }
+    }
+    None
+}
+
+/// The least host group by name that has the host.
+pub fn first_with_host<A: Allocator + Copy>(
+    groups: &BTreeMap<Name, HostGroup<A>, A>,
+    host: &Name,
+) -> Option<Name>
+    ensures { MatchOption result (HasNowhere (get name_cmp groups.now) (HoldsHost host.now)) (IsFirstWith name_cmp (HasAt (get name_cmp groups.now) (HoldsHost host.now))) }
+{
+    for (name, group) in groups {
+        if group.has_host(host) {
+            return Some(*name);
+        }
+    }
+    None
+}
+
+/// The least storage group by name that has the target port.
+pub fn first_with_target<A: Allocator + Copy>(
+    groups: &BTreeMap<Name, StorageGroup<A>, A>,
+    target: &Wwn,
+) -> Option<Name>
+    ensures { MatchOption result (HasNowhere (get name_cmp groups.now) (HasTarget target.now)) (IsFirstWith name_cmp (HasAt (get name_cmp groups.now) (HasTarget target.now))) }
+{
+    for (name, group) in groups {
+        if group.has_target(target) {
+            return Some(*name);
+        }
+    }
+    None
+}
+
+/// The least storage group by name that is of the array.
+pub fn first_of_array<A: Allocator + Copy>(
+    groups: &BTreeMap<Name, StorageGroup<A>, A>,
+    array: &Name,
+) -> Option<Name>
+    ensures { MatchOption result (HasNowhere (get name_cmp groups.now) (IsOfArray array.now)) (IsFirstWith name_cmp (HasAt (get name_cmp groups.now) (IsOfArray array.now))) }
+{
+    for (name, group) in groups {
+        if group.array() == *array {
+            return Some(*name);
+        }
+    }
+    None
+}
+
+/// The least storage group by name that maps the volume.
+pub fn first_with_volume<A: Allocator + Copy>(
+    groups: &BTreeMap<Name, StorageGroup<A>, A>,
+    volume: &Name,
+) -> Option<Name>
+    ensures { MatchOption result (HasNowhere (get name_cmp groups.now) (MapsVolume volume.now)) (IsFirstWith name_cmp (HasAt (get name_cmp groups.now) (MapsVolume volume.now))) }
+{
+    for (name, group) in groups {
+        if group.has_volume(volume) {
+            return Some(*name);
         }
     }
     None

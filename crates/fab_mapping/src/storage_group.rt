@@ -6,7 +6,7 @@ ghost use Rattle.std.specs.Ordering.{nat_cmp};
 ghost use Rattle.fab_names.specs.Orders.{name_cmp};
 ghost use Rattle.std.specs.FinMap as map;
 ghost use Rattle.fab_mapping.specs.ClashSearch.{MapsOther};
-ghost use Rattle.fab_mapping.specs.Groups.{new_storage_group, with_hosts, without_hosts, with_target, without_target, with_unit, without_unit, exposed_as, HasRoomForHosts, HasRoomForTarget, HasRoomForUnit, HasFreeUnit, AddHostsLimit, AddTargetLimit, MapRefusal};
+ghost use Rattle.fab_mapping.specs.Groups.{MapsVolume, new_storage_group, with_hosts, without_hosts, with_target, without_target, with_unit, without_unit, exposed_as, HasRoomForHosts, HasRoomForTarget, HasRoomForUnit, HasFreeUnit, AddHostsLimit, AddTargetLimit, MapRefusal};
 
 use crate::limits::{MOST_GROUPS_SERVED, MOST_TARGETS, MOST_UNITS};
 use crate::{MappingFault, MappingLimit};
@@ -64,6 +64,28 @@ impl<A: Allocator + Copy> StorageGroup<A> {
         }
     }
 
+    /// The storage group of these parts, as they are: what a stored one was made of. Nothing is
+    /// tested.
+    pub fn from_parts(
+        tenant: Name,
+        array: Name,
+        host_groups: BTreeSet<Name, A>,
+        targets: BTreeSet<Wwn, A>,
+        units: BTreeMap<u16, Name, A>,
+        exposed: bool,
+    ) -> Self
+        ensures { result ≡ record { tenant = tenant; array = array; host_groups = set.from_list host_groups.keys; targets = set.from_list targets.keys; units = map.from_entries units.entries; exposed = exposed } }
+    {
+        StorageGroup {
+            tenant,
+            array,
+            host_groups,
+            targets,
+            units,
+            exposed,
+        }
+    }
+
     /// Whose it is.
     pub fn tenant(&self) -> Name
         ensures { result ≡ self.now.tenant }
@@ -113,6 +135,18 @@ impl<A: Allocator + Copy> StorageGroup<A> {
         ensures { result ≡ map.get self.now.units unit }
     {
         self.units.get(&unit).copied()
+    }
+
+    /// Whether it maps the volume, at some logical unit number.
+    pub fn has_volume(&self, volume: &Name) -> bool
+        ensures { IsTrue result ↔ MapsVolume volume.now self.now }
+    {
+        for (_unit, there) in &self.units {
+            if *there == *volume {
+                return true;
+            }
+        }
+        false
     }
 
     /// Whether another volume is mapped at the logical unit number.

@@ -1,0 +1,13 @@
+use Rattle.std.proofs.Common.{MatchOption, ap, subst}
+use Rattle.fab_maps.specs.Firsts.{IsFirstWith, HasAt, HasNowhere}
+use Rattle.fab_names.specs.Orders.{name_cmp}
+use Rattle.fab_names.proofs.OrderLaws.{name_total}
+use Rattle.fab_inventory.proofs.SeenMaps.{same_look_ups}
+use Rattle.fab_mapping.specs.Groups.{MapsVolume}
+use Rattle.fab_mapping.specs.Mappings.{MappingRows}
+use Rattle.fab_mapping.proofs.mapping.Mapping.group_with_volume.Goals as goal
+
+pub returns : goal.returns
+returns g c =
+    subst (λ at. MatchOption c.first_with_volume.result (HasNowhere at (MapsVolume c.args.volume.now)) (IsFirstWith name_cmp (HasAt at (MapsVolume c.args.volume.now))))
+    (same_look_ups name_total c.self.inside.groups c.args.self.now.groups (ap (λ (v : MappingRows). v.groups) c.self.view_is)) c.first_with_volume.ensures

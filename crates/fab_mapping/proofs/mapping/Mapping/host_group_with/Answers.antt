@@ -1,0 +1,13 @@
+use Rattle.std.proofs.Common.{MatchOption, ap, subst}
+use Rattle.fab_maps.specs.Firsts.{IsFirstWith, HasAt, HasNowhere}
+use Rattle.fab_names.specs.Orders.{name_cmp}
+use Rattle.fab_names.proofs.OrderLaws.{name_total}
+use Rattle.fab_inventory.proofs.SeenMaps.{same_look_ups}
+use Rattle.fab_mapping.specs.Groups.{HoldsHost}
+use Rattle.fab_mapping.specs.Mappings.{MappingRows}
+use Rattle.fab_mapping.proofs.mapping.Mapping.host_group_with.Goals as goal
+
+pub returns : goal.returns
+returns g c =
+    subst (λ at. MatchOption c.first_with_host.result (HasNowhere at (HoldsHost c.args.host.now)) (IsFirstWith name_cmp (HasAt at (HoldsHost c.args.host.now))))
+    (same_look_ups name_total c.self.inside.host_groups c.args.self.now.host_groups (ap (λ (v : MappingRows). v.host_groups) c.self.view_is)) c.first_with_host.ensures
