@@ -7,6 +7,7 @@ pub mod Taking
 pub mod Sinks
 pub mod SinkLaws
 pub mod Escapes
+pub mod Printed
 pub mod JsonText
 pub mod Values
 pub mod Bounds

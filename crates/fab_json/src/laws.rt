@@ -4,6 +4,7 @@ ghost use Rattle.std.specs.Prelude.{ℕ, ◌≡◌, true, List};
 ghost use Rattle.std.specs.List.{flat_map, list_all};
 ghost use Rattle.fab_names.specs.Names.{IsNameText};
 ghost use Rattle.fab_json.specs.Escapes.{escapes_json, is_line_byte, line_escape};
+ghost use Rattle.fab_json.specs.Printed.{WordsAreLines};
 
 /// A text of line ends and bytes that stand for themselves has `\n` for each line end, and no
 /// other escape.
@@ -15,4 +16,10 @@ pub fn only_line_ends_are_escaped()
 /// A name has no escape.
 pub fn names_have_no_escape()
     ensures { (name : List ℕ) → IsNameText name → escapes_json name ≡ name }
+{}
+
+/// Printed names, world-wide names, numbers and members are made of line ends and bytes that stand
+/// for themselves.
+pub fn printed_words_have_no_escape()
+    ensures { WordsAreLines }
 {}
