@@ -30,7 +30,7 @@ abbrev pub HaveTargets : InventoryRows → MappingRows → Type 0
 HaveTargets v m = (n : List ℕ) (g : StorageGroupRows) → map.get m.groups n ≡ Some g → AreTargets v g
 
 -- each zoning is its fabric's, the hosts of host groups are hosts, and arrays hold the targets of
--- storage groups: so it is in each sound world
+-- storage groups: parts of what makes a world sound
 pub record IsServing (w : Records) : Type 0 where
   pub fabrics : (f : Fabric) → (zoning_at w.config f).fabric ≡ f
   pub hosts : HaveHosts w.inventory w.config.mapping

@@ -34,11 +34,17 @@ pub trait PathBook<A: Allocator + Copy>: Sized + Drop {
     ghost leads: { Self → Self.Ready → Records → Records → Type 0 };
 
     /// A book that stands at the world.
+    ///
+    /// # Errors
+    /// `AllocError` where there is no memory.
     fn open(alloc: A, view: &View<'_, A>) -> Result<Self, AllocError>
         requires { IsServing (seen view.now) }
         ensures { IfOk result (λ book. stands book (seen view.now)) };
 
-    /// Makes a step ready. The book stands where it stood.
+    /// Makes a step ready. The book stands where it stood, also where it is refused.
+    ///
+    /// # Errors
+    /// `AllocError` where there is no memory.
     fn prepare(
         &mut self,
         before: &View<'_, A>,
@@ -53,7 +59,8 @@ pub trait PathBook<A: Allocator + Copy>: Sized + Drop {
     fn delta<'a>(&self, ready: &'a Self::Ready) -> &'a Delta<A>
         ensures { (w v : Records) → leads self.now ready.now w v → IsDelta w v result.now.gained.items result.now.lost.items };
 
-    /// Takes the step, and hands out its lists. It takes no memory.
+    /// Takes the step, and hands out its lists: the book stands at the world after it. It takes no
+    /// memory.
     fn adopt(&mut self, ready: Self::Ready) -> Delta<A>
         ensures stands { (w v : Records) → leads self.old ready w v → stands self.new v }
         ensures delta { (w v : Records) → leads self.old ready w v → IsDelta w v result.gained.items result.lost.items };
@@ -68,7 +75,10 @@ pub trait PathBook<A: Allocator + Copy>: Sized + Drop {
 
     ghost reached: { (book : Self) (w : Records) → stands book w → AreReached w (content book) };
 
-    /// The whole step.
+    /// The whole step, to the world after it.
+    ///
+    /// # Errors
+    /// `AllocError` where there is no memory: the book stands where it stood.
     final fn advance(
         &mut self,
         before: &View<'_, A>,

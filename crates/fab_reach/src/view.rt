@@ -25,7 +25,8 @@ impl<'a, A: Allocator + Copy> View<'a, A> {
     }
 
     /// Whether a book may stand at this world: each zoning is its fabric's, the hosts of host
-    /// groups are hosts, and arrays hold the targets of storage groups. A sound world passes.
+    /// groups are hosts, and arrays hold the targets of storage groups. These are parts of what
+    /// makes a world sound.
     pub fn is_serving(&self) -> bool
         ensures { IsTrue result ↔ IsServing (seen self.now) }
     {
