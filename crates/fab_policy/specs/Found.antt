@@ -1,4 +1,4 @@
--- What is found of an act once for all rules.
+-- A helper of the proof of `decide`: what is found of an act once for all rules.
 use Rattle.std.specs.Prelude.{◌≡◌, Bool, true, false, Option, Some, None, List, map, slice_get}
 use Rattle.fab_policy_base.specs.Policies.{CallerRow, PolicyRows}
 use Rattle.fab_policy.specs.Verdicts.{is_own, has_signed}
