@@ -1,5 +1,5 @@
 -- One collection of a zoning changed, from what the code holds to what contracts see.
-use Rattle.std.proofs.Common.{ℕ, ◌≡◌, List, ap, ◌∙◌}
+use Rattle.std.proofs.Common.{ℕ, ◌≡◌, List, ap, ◌∙◌, cond, Some}
 use Rattle.std.specs.declared.cmp.Ordering.{Ordering}
 use Rattle.std.specs.BTreeMap as tree
 use Rattle.std.specs.BTreeMap.{BTreeMap, is_at}
@@ -8,21 +8,21 @@ use Rattle.std.specs.BTreeSet.{BTreeSet}
 use Rattle.std.specs.Cmp.{IsTotalOrder}
 use Rattle.std.specs.List.{list_any}
 use Rattle.std.specs.Ordering.{eq_by_cmp}
-use Rattle.std.proofs.Common.{cond, Some}
 use Rattle.std.specs.FinMap as map
 use Rattle.std.specs.FinSet as set
 use Rattle.fab_names.specs.Orders.{name_cmp, member_cmp}
 use Rattle.fab_names.proofs.OrderLaws.{name_total, name_exact}
-use Rattle.fab_zoning.specs.MapsOfSets.{seen_sets}
+use Rattle.fab_maps.specs.MapsOfSets.{seen_sets}
 use Rattle.fab_zoning.specs.Zonings.{FabricZoning, NamedSets}
-use Rattle.fab_zoning.proofs.MapsOfSets.{seen_insert, seen_list}
+use Rattle.fab_maps.proofs.MapsOfSets.{seen_insert}
+use Rattle.fab_maps.proofs.SeenSets.{set_of_list}
 
 -- the set of a list put at a name
 pub put_listed : {K : Type 0} (R : K → K → Ordering) → IsTotalOrder R → set.IsAntisymmetric R → (t u : BTreeMap (List ℕ) (BTreeSet K)) (k : List ℕ) (s : BTreeSet K) (ks : List K)
     → ((q : List ℕ) → tree.get name_cmp u q ≡ cond (is_at (name_cmp k) q) (Some s) (tree.get name_cmp t q)) → ((x : K) → tree_set.contains R s x ≡ list_any (eq_by_cmp R x) ks)
     → seen_sets name_cmp R u.entries ≡ map.insert (seen_sets name_cmp R t.entries) k (set.from_list ks)
 put_listed R o exact t u k s ks updates is =
-    seen_insert R name_total name_exact t u k s updates ∙ ap (map.insert (seen_sets name_cmp R t.entries) k) (seen_list R o exact s ks is)
+    seen_insert R name_total name_exact t u k s updates ∙ ap (map.insert (seen_sets name_cmp R t.entries) k) (set_of_list o exact s ks is)
 
 module _ (v w : FabricZoning) (same : v ≡ w) (k : List ℕ) where
   pub aliases_put : (a : NamedSets member_cmp) (s : set.FinSet member_cmp) → a ≡ map.insert v.aliases k s → ◌≡◌ {A = FabricZoning} (record v { aliases = a }) (record w { aliases = map.insert w.aliases k s })

@@ -1,9 +1,8 @@
-pub mod Searches
-pub mod MapsOfSets
-pub mod Scans
 pub mod Changes
 pub mod RowSets
 pub mod Adding
 pub mod Resolving
 pub mod PortZoneLemmas
 pub mod Reasons
+pub mod Sounding
+pub mod Keeping

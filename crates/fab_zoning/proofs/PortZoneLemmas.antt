@@ -7,14 +7,11 @@ use Rattle.std.specs.declared.cmp.Ordering.TheVariants.{Less, Equal, Greater}
 use Rattle.std.specs.Cmp.{tied_itself}
 use Rattle.std.specs.List.{list_any}
 use Rattle.std.specs.BTreeSet.{BTreeSet, contains}
-use Rattle.std.specs.Borrow.{Bor}
-use Rattle.std.specs.Option.{option_copied}
-use Rattle.fab_zoning.specs.MapsOfSets.{in_tree}
 use Rattle.fab_names.specs.Orders.{name_cmp}
 use Rattle.std.proofs.lemmas.Cmp.{upto}
 use Rattle.fab_names.proofs.OrderLaws.{name_total}
-use Rattle.fab_zoning.proofs.Searches.{or_true, or_right, or_left}
-use Rattle.fab_zoning.specs.PortZones.{in_set, HasNoCommon, IsLeastCommon, IsLesser}
+use Rattle.fab_maps.proofs.Tests.{or_true, or_right, or_left}
+use Rattle.fab_zoning.specs.Inner.PortZones.{HasNoCommon, IsLeastCommon, IsLesser}
 
 none_in : (ks : List (List ℕ)) → length ks ≡ 0 → (z : List ℕ) → list_any (eq_by_cmp name_cmp z) ks ≡ false
 none_in [] e z = refl
@@ -74,8 +71,3 @@ lesser_stays x y e = ap is_gt (name_total.antisymm x y) ∙ by (name_cmp y x) e
     by Less h = absurd (true≢false h)
     by Equal h = refl
     by Greater h = refl
-
--- a test on a set that is lent is that on the set
-pub in_set_copied : (o : Option (Bor (BTreeSet (List ℕ)))) (z : List ℕ) → in_set o z ≡ in_tree name_cmp (option_copied o) z
-in_set_copied None z = refl
-in_set_copied (Some s) z = refl

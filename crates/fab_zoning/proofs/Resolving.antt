@@ -11,13 +11,15 @@ use Rattle.fab_names.proofs.OrderLaws.{name_total, member_total}
 use Rattle.fab_zoning.specs.declared.fault.ZoningFault.{ZoningFault}
 use Rattle.fab_zoning.specs.declared.fault.ZoningFault.TheVariants.{Unknown, InUse, Empty, Limit, Memory}
 use Rattle.fab_zoning.specs.declared.fault.ZoningLimit.TheVariants.{Aliases, Zones, Sets, Members, Active}
-use Rattle.fab_zoning.specs.MapsOfSets.{has, tree_has, in_tree, seen_sets}
+use Rattle.fab_maps.specs.MapsOfSets.{has, tree_has, in_tree, seen_sets}
 use Rattle.fab_zoning.specs.Rows.{Row, Rows}
 use Rattle.fab_zoning.specs.Zonings.{FabricZoning}
 use Rattle.fab_zoning.specs.Resolved.{IsResolvedBy, IsResolved, AreResolved}
 use Rattle.fab_zoning.specs.Steps.{IsActivateFault}
-use Rattle.fab_zoning.specs.Adding.{Adds, Among, PlainRow, AliasRow, ZoneRow, IsResolvedFault}
-use Rattle.fab_zoning.proofs.MapsOfSets.{has_seen}
+use Rattle.fab_maps.specs.Adding.{Among}
+use Rattle.fab_zoning.specs.Inner.Adding.{PlainRow, AliasRow, ZoneRow, IsResolvedFault}
+use Rattle.fab_zoning.proofs.Adding.{AddsRows}
+use Rattle.fab_maps.proofs.MapsOfSets.{has_seen}
 use Rattle.fab_zoning.proofs.Adding.{none_there}
 
 -- the set s of the code's zone sets, aliases and zones
@@ -58,7 +60,7 @@ module _ (sets : BTreeMap (List ℕ) (BTreeSet (List ℕ))) (aliases zones : BTr
     seen : (r : Row) → ◌≡◌ {A = Type 0} (ByTrees r) (IsResolved v s r)
     seen r = λ i. IsResolvedBy (same_sets i) (same_zones i) (same_aliases i) s r
 
-    pub are_resolved : (rows : Rows) → Adds (Among name_cmp zone_set (ZoneRow aliases zones)) set.empty rows → AreResolved v s rows
+    pub are_resolved : (rows : Rows) → AddsRows (Among name_cmp zone_set (ZoneRow aliases zones)) set.empty rows → AreResolved v s rows
     are_resolved rows adds r = (
       (λ h. elim ((adds r).0 h) [ inl none ↦ absurd (none_there r none) | inr w ↦ subst (λ T. T) (seen r) (given r w) ]),
       (λ w. (adds r).1 (inr (taken r (subst (λ T. T) (sym (seen r)) w)))),

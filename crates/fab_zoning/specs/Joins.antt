@@ -60,3 +60,13 @@ pub record IsFirstZone (v : FabricZoning) (p q : Port) (z : List ℕ) : Type 0 w
 abbrev pub Explains : FabricZoning → Port → Port → Why → Type 0
 Explains v p q (why.Zone z) = IsFirstZone v p q z.now
 Explains v p q why.Default = InDefaultZone v p q
+
+-- ---- the order of the two ports does not matter
+
+-- two joined ports are joined the other way round
+abbrev pub JoinedIsSymmetric : Type 0
+JoinedIsSymmetric = (v : FabricZoning) (p q : Port) → Joined v p q → Joined v q p
+
+-- and for the same reason
+abbrev pub ReasonIsSymmetric : Type 0
+ReasonIsSymmetric = (v : FabricZoning) (p q : Port) (w : Why) → Explains v p q w → Explains v q p w

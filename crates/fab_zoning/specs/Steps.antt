@@ -1,31 +1,27 @@
 -- When a step on aliases, zones and zone sets is accepted, and what refuses it.
-use Rattle.std.specs.Prelude.{ℕ, ◌≡◌, ◌<◌, ◌≤◌, List, take, length, slice_get, Some, Bool, true, false, All}
+use Rattle.std.specs.Prelude.{ℕ, ◌≡◌, ◌<◌, ◌≤◌, List, length, Bool, true, false, All}
 use Rattle.std.specs.FinMap as map
 use Rattle.fab_names.specs.declared.member.Member.{Member}
 use Rattle.fab_names.specs.declared.member.Member.TheVariants as member
 use Rattle.fab_zoning.specs.declared.fault.ZoningFault.{ZoningFault}
 use Rattle.fab_zoning.specs.declared.fault.ZoningFault.TheVariants.{Unknown, InUse, Empty, Limit, Memory}
 use Rattle.fab_zoning.specs.declared.fault.ZoningLimit.TheVariants.{Aliases, Zones, Sets, Members, Active}
-use Rattle.fab_zoning.specs.MapsOfSets.{HasNoUser, IsFirstUser, IsFull, HasRoom}
+use Rattle.fab_maps.specs.MapsOfSets.{HasNoUser, IsFirstUser}
+use Rattle.fab_maps.specs.Room.{IsFull, HasRoom}
+use Rattle.fab_maps.specs.Firsts.{IsFirstWithout}
+use Rattle.fab_zoning.specs.Limits.{most_aliases, most_zones, most_sets, most_members, most_rows}
 use Rattle.fab_zoning.specs.Zonings.{FabricZoning}
 use Rattle.fab_zoning.specs.Resolved.{IsResolved, MoreThan}
 
--- a list of so many words may be put: some, and at most 255
+-- a list of so many words may be put: some, and at most 255 (`most_members`)
 abbrev pub IsListing : ℕ → Type 0
-IsListing n = (0 < n) × (n ≤ 255)
+IsListing n = (0 < n) × (n ≤ most_members)
 
 -- what refuses a list by its length alone
 abbrev pub IsListingFault : ℕ → ZoningFault → Type 0
 IsListingFault n Empty = n ≡ 0
-IsListingFault n (Limit Members) = 255 < n
+IsListingFault n (Limit Members) = most_members < n
 IsListingFault n _ = ⊥
-
--- the first item that has not P, from the left
-pub record IsFirstWithout {X : Type 0} (P : X → Type 0) (xs : List X) (x : X) : Type 0 where
-  pub at : ℕ
-  pub is : slice_get xs at ≡ Some x
-  pub without : ¬ P x
-  pub before : All P (take at xs)
 
 -- the name that a member gives as an alias is known
 abbrev pub NamesKnown : (List ℕ → Bool) → Member → Type 0
@@ -42,12 +38,12 @@ HasZone v z = map.contains_key v.zones z ≡ true
 -- putting an alias: the list may be put, and there is room for the alias
 pub record CanPutAlias (v : FabricZoning) (name : List ℕ) (members : List Member) : Type 0 where
   pub listing : IsListing (length members)
-  pub room : HasRoom v.aliases name 2048
+  pub room : HasRoom v.aliases name most_aliases
 
 abbrev pub IsPutAliasFault : FabricZoning → List ℕ → List Member → ZoningFault → Type 0
 IsPutAliasFault v name members Empty = IsListingFault (length members) Empty
 IsPutAliasFault v name members (Limit Members) = IsListingFault (length members) (Limit Members)
-IsPutAliasFault v name members (Limit Aliases) = IsListing (length members) × IsFull v.aliases name 2048
+IsPutAliasFault v name members (Limit Aliases) = IsListing (length members) × IsFull v.aliases name most_aliases
 IsPutAliasFault v name members Memory = Unit {0}
 IsPutAliasFault v name members _ = ⊥
 
@@ -55,13 +51,13 @@ IsPutAliasFault v name members _ = ⊥
 pub record CanPutZone (v : FabricZoning) (name : List ℕ) (members : List Member) : Type 0 where
   pub listing : IsListing (length members)
   pub known : All (HasAlias v) members
-  pub room : HasRoom v.zones name 2048
+  pub room : HasRoom v.zones name most_zones
 
 abbrev pub IsPutZoneFault : FabricZoning → List ℕ → List Member → ZoningFault → Type 0
 IsPutZoneFault v name members Empty = IsListingFault (length members) Empty
 IsPutZoneFault v name members (Limit Members) = IsListingFault (length members) (Limit Members)
 IsPutZoneFault v name members (Unknown alias) = IsListing (length members) × IsFirstWithout (HasAlias v) members (member.Alias alias)
-IsPutZoneFault v name members (Limit Zones) = IsListing (length members) × All (HasAlias v) members × IsFull v.zones name 2048
+IsPutZoneFault v name members (Limit Zones) = IsListing (length members) × All (HasAlias v) members × IsFull v.zones name most_zones
 IsPutZoneFault v name members Memory = Unit {0}
 IsPutZoneFault v name members _ = ⊥
 
@@ -69,13 +65,13 @@ IsPutZoneFault v name members _ = ⊥
 pub record CanPutSet (v : FabricZoning) (name : List ℕ) (zones : List (List ℕ)) : Type 0 where
   pub listing : IsListing (length zones)
   pub known : All (HasZone v) zones
-  pub room : HasRoom v.sets name 64
+  pub room : HasRoom v.sets name most_sets
 
 abbrev pub IsPutSetFault : FabricZoning → List ℕ → List (List ℕ) → ZoningFault → Type 0
 IsPutSetFault v name zones Empty = IsListingFault (length zones) Empty
 IsPutSetFault v name zones (Limit Members) = IsListingFault (length zones) (Limit Members)
 IsPutSetFault v name zones (Unknown zone) = IsListing (length zones) × IsFirstWithout (HasZone v) zones zone
-IsPutSetFault v name zones (Limit Sets) = IsListing (length zones) × All (HasZone v) zones × IsFull v.sets name 64
+IsPutSetFault v name zones (Limit Sets) = IsListing (length zones) × All (HasZone v) zones × IsFull v.sets name most_sets
 IsPutSetFault v name zones Memory = Unit {0}
 IsPutSetFault v name zones _ = ⊥
 
@@ -107,6 +103,6 @@ IsDropSetFault v name _ = ⊥
 -- what refuses to activate a zone set: it is not there, or it has more than 65536 rows
 abbrev pub IsActivateFault : FabricZoning → List ℕ → ZoningFault → Type 0
 IsActivateFault v name (Unknown s) = (s ≡ name) × (map.contains_key v.sets name ≡ false)
-IsActivateFault v name (Limit Active) = MoreThan 65536 (IsResolved v name)
+IsActivateFault v name (Limit Active) = MoreThan most_rows (IsResolved v name)
 IsActivateFault v name Memory = Unit {0}
 IsActivateFault v name _ = ⊥

@@ -4,10 +4,12 @@
 
 mod fault;
 mod flag;
+pub mod laws;
 mod named;
 mod port_zones;
 mod resolve;
 mod rows;
+mod sound;
 #[cfg(test)]
 mod tests;
 mod why;
@@ -15,5 +17,8 @@ mod zoning;
 
 pub use fault::{ZoningFault, ZoningLimit};
 pub use flag::DefaultFlag;
+pub use port_zones::PortZones;
 pub use why::Why;
-pub use zoning::{MOST_ALIASES, MOST_MEMBERS, MOST_ROWS, MOST_SETS, MOST_ZONES, Zoning};
+pub use zoning::{
+    MOST_ALIASES, MOST_MEMBERS, MOST_ROWS, MOST_SETS, MOST_ZONES, Zoning, ZoningParts,
+};

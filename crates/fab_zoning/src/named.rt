@@ -1,17 +1,16 @@
-//! Sets under names: what uses a key, whether there is room, and a set made of a list.
-ghost use Rattle.std.specs.Prelude.{◌≡◌, true, MatchOption, All, IfOk};
+//! Sets under names: what uses a key, whether there is room, and what is not there.
+ghost use Rattle.std.specs.Prelude.{◌≡◌, true, MatchOption, All};
 ghost use Rattle.std.specs.FinMap as map;
-ghost use Rattle.std.specs.List.{list_any};
-ghost use Rattle.std.specs.Ordering.{eq_by_cmp};
-ghost use Rattle.std.specs.BTreeSet.{contains};
 ghost use Rattle.std.specs.Bool.{OnTrue, OnFalse};
 ghost use Rattle.fab_names.specs.Orders.{name_cmp, member_cmp};
-ghost use Rattle.fab_zoning.specs.MapsOfSets.{seen_sets, HasNoUser, IsFirstUser, IsFull, HasRoom};
-ghost use Rattle.fab_zoning.specs.Steps.{NamesKnown, IsFirstWithout};
+ghost use Rattle.fab_maps.specs.MapsOfSets.{seen_sets, HasNoUser, IsFirstUser};
+ghost use Rattle.fab_maps.specs.Room.{IsFull, HasRoom};
+ghost use Rattle.fab_zoning.specs.Steps.{NamesKnown};
+ghost use Rattle.fab_maps.specs.Firsts.{IsFirstWithout};
 ghost use Rattle.fab_names.specs.declared.member.Member.TheVariants.{Alias};
 
 use fab_names::{Member, Name};
-use std::alloc::{AllocError, Allocator};
+use std::alloc::Allocator;
 use std::collections::{BTreeMap, BTreeSet};
 
 /// The first name whose set has the key.
@@ -38,21 +37,7 @@ pub fn is_full<K: Ord, A: Allocator>(
     ensures full { OnTrue result (IsFull (seen_sets name_cmp K.cmp sets.now.entries) name.now most) }
     ensures room { OnFalse result (HasRoom (seen_sets name_cmp K.cmp sets.now.entries) name.now most) }
 {
-    sets.len() >= most && !sets.contains_key(name)
-}
-
-/// The set of the listed keys.
-pub fn set_of<K: Ord + Copy + Drop, A: Allocator + Copy>(
-    alloc: A,
-    keys: &[K],
-) -> Result<BTreeSet<K, A>, AllocError>
-    ensures { IfOk result (λ set. (x : K) → contains K.cmp set x ≡ list_any (eq_by_cmp K.cmp x) keys.now) }
-{
-    let mut set = BTreeSet::new(alloc);
-    for key in keys {
-        set.insert(*key)?;
-    }
-    Ok(set)
+    fab_maps::is_full(sets, name, most)
 }
 
 /// The first alias that the members name and that is not there.

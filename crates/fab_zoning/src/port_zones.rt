@@ -3,7 +3,9 @@ ghost use Rattle.std.specs.Prelude.{◌≡◌, ℕ, List, IsTrue, ◌↔◌, tru
 ghost use Rattle.std.specs.Option.{option_copied};
 ghost use Rattle.std.specs.BTreeSet.{contains};
 ghost use Rattle.fab_names.specs.Orders.{name_cmp};
-ghost use Rattle.fab_zoning.specs.PortZones.{in_set, in_zones, HasNoCommon, IsLeastCommon, IsLesser};
+ghost use Rattle.fab_maps.specs.MapsOfSets.{in_tree};
+ghost use Rattle.fab_zoning.specs.PortZones.{in_zones};
+ghost use Rattle.fab_zoning.specs.Inner.PortZones.{HasNoCommon, IsLeastCommon, IsLesser};
 
 use fab_names::Name;
 use std::alloc::Allocator;
@@ -22,7 +24,7 @@ pub struct PortZones<'a, A: Allocator> {
 
 /// Whether the zone is in the set, if there is one.
 fn is_in<A: Allocator>(zones: Option<&BTreeSet<Name, A>>, zone: &Name) -> bool
-    ensures { result ≡ in_set zones.entry zone.now }
+    ensures { result ≡ in_tree name_cmp (option_copied zones.entry) zone.now }
 {
     match zones {
         Some(zones) => zones.contains(zone),
@@ -32,7 +34,7 @@ fn is_in<A: Allocator>(zones: Option<&BTreeSet<Name, A>>, zone: &Name) -> bool
 
 /// Whether there is no set, or no zone in it.
 fn is_bare<A: Allocator>(zones: Option<&BTreeSet<Name, A>>) -> bool
-    ensures { IsTrue result ↔ ((z : List ℕ) → in_set zones.entry z ≡ false) }
+    ensures { IsTrue result ↔ ((z : List ℕ) → in_tree name_cmp (option_copied zones.entry) z ≡ false) }
 {
     match zones {
         Some(zones) => zones.is_empty(),
@@ -60,7 +62,7 @@ fn first_in<'a, A: Allocator>(
     zones: Option<&'a BTreeSet<Name, A>>,
     port: &PortZones<'_, A>,
 ) -> Option<&'a Name>
-    ensures { MatchOption (option_copied result) (HasNoCommon (in_set zones.entry) (in_zones port.now)) (IsLeastCommon (in_set zones.entry) (in_zones port.now)) }
+    ensures { MatchOption (option_copied result) (HasNoCommon (in_tree name_cmp (option_copied zones.entry)) (in_zones port.now)) (IsLeastCommon (in_tree name_cmp (option_copied zones.entry)) (in_zones port.now)) }
 {
     match zones {
         Some(zones) => first_of(zones, port),

@@ -2,7 +2,9 @@
 ghost use Rattle.std.specs.Prelude.{◌≡◌, ◌≤◌, OnOk, IfOk, IfErr};
 ghost use Rattle.std.specs.FinSet as set;
 ghost use Rattle.fab_names.specs.Orders.{name_cmp, member_cmp};
-ghost use Rattle.fab_zoning.specs.Adding.{AddsAll, StopsAt, IsResolvedFault, Among, PlainRow, AliasRow, ZoneRow};
+ghost use Rattle.fab_maps.specs.Adding.{Among};
+ghost use Rattle.fab_zoning.specs.Limits.{most_rows};
+ghost use Rattle.fab_zoning.specs.Inner.Adding.{AddsAll, StopsAt, IsResolvedFault, PlainRow, AliasRow, ZoneRow};
 
 use crate::rows::ActiveRows;
 use crate::{MOST_ROWS, ZoningFault, ZoningLimit};
@@ -16,12 +18,12 @@ fn add_row<A: Allocator + Copy>(
     zone: Name,
     member: Member,
 ) -> Result<(), ZoningFault>
-    requires { set.len rows.old ≤ 65536 }
+    requires { set.len rows.old ≤ most_rows }
     ensures ok { OnOk result (AddsAll (λ row. row ≡ (zone, member)) rows.old rows.new) }
     ensures err { IfErr result (StopsAt (λ row. row ≡ (zone, member)) rows.old rows.new) }
 {
     rows.insert(zone, member)?;
-    if rows.len() > MOST_ROWS {
+    if rows.count() > MOST_ROWS {
         return Err(ZoningFault::Limit(ZoningLimit::Active));
     }
     Ok(())
@@ -33,7 +35,7 @@ fn add_plain<A: Allocator + Copy>(
     zone: Name,
     members: &BTreeSet<Member, A>,
 ) -> Result<(), ZoningFault>
-    requires { set.len rows.old ≤ 65536 }
+    requires { set.len rows.old ≤ most_rows }
     ensures ok { OnOk result (AddsAll (Among member_cmp members.now (PlainRow zone)) rows.old rows.new) }
     ensures err { IfErr result (StopsAt (Among member_cmp members.now (PlainRow zone)) rows.old rows.new) }
 {
@@ -53,7 +55,7 @@ fn add_aliased<A: Allocator + Copy>(
     zone: Name,
     members: &BTreeSet<Member, A>,
 ) -> Result<(), ZoningFault>
-    requires { set.len rows.old ≤ 65536 }
+    requires { set.len rows.old ≤ most_rows }
     ensures ok { OnOk result (AddsAll (Among member_cmp members.now (AliasRow aliases.now zone)) rows.old rows.new) }
     ensures err { IfErr result (StopsAt (Among member_cmp members.now (AliasRow aliases.now zone)) rows.old rows.new) }
 {

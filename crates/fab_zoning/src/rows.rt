@@ -1,16 +1,22 @@
 //! The rows of the active set, kept by member.
-ghost use Rattle.std.specs.Prelude.{◌≡◌, ℕ, ◌≤◌, ◌↔◌, List, true, OnOk, OnErr, IfOk, not};
+ghost use Rattle.std.specs.Prelude.{◌≡◌, ℕ, ◌≤◌, ◌+◌, ◌↔◌, List, true, min, OnOk, OnErr, IfOk, IsTrue, not};
 ghost use Rattle.std.specs.FinSet as set;
+ghost use Rattle.std.specs.Map.{keys_of};
+ghost use Rattle.std.specs.List.Sorted.{IsStrictlySortedBy};
 ghost use Rattle.std.specs.BTreeMap.{IsOrdered, IsUnchanged};
 ghost use Rattle.fab_names.specs.Orders.{member_cmp};
+ghost use Rattle.fab_zoning.specs.Limits.{most_rows};
+ghost use Rattle.fab_zoning.specs.Rows.{Row, IsPlain};
 ghost use Rattle.fab_zoning.specs.Views.{seen_rows};
 ghost use Rattle.fab_zoning.specs.PortZones.{in_zones};
 ghost use Rattle.fab_zoning.specs.Joins.{Holds};
 
+use crate::MOST_ROWS;
 use crate::port_zones::PortZones;
 use fab_inventory::Port;
 use fab_names::{Member, Name};
 use std::alloc::{AllocError, Allocator};
+use std::collections::btree_map::Iter;
 use std::collections::{BTreeMap, BTreeSet};
 use std::marker::Model;
 
@@ -22,14 +28,16 @@ use std::marker::Model;
 pub struct ActiveRows<A: Allocator + Copy> {
     alloc: A,
     zones_by_member: BTreeMap<Member, BTreeSet<Name, A>, A>,
-    len: usize,
+    /// How many rows there are, counted no further than one past the limit.
+    count: usize,
 }
 
 impl<A: Allocator + Copy> Model for ActiveRows<A> {
-    ghost use Rattle.std.specs.Prelude.{◌≡◌};
+    ghost use Rattle.std.specs.Prelude.{◌≡◌, ◌+◌, min};
     ghost use Rattle.std.specs.FinSet as set;
     ghost use Rattle.std.specs.BTreeMap.{IsOrdered};
     ghost use Rattle.fab_names.specs.Orders.{member_cmp};
+    ghost use Rattle.fab_zoning.specs.Limits.{most_rows};
     ghost use Rattle.fab_zoning.specs.Rows.{Rows, row_code};
     ghost use Rattle.fab_zoning.specs.Views.{seen_rows};
 
@@ -39,7 +47,7 @@ impl<A: Allocator + Copy> Model for ActiveRows<A> {
 
     ghost view = { λ a. seen_rows a.zones_by_member.entries };
 
-    ghost invariant = { λ a. IsOrdered member_cmp a.zones_by_member × (a.len ≡ set.len (seen_rows a.zones_by_member.entries)) };
+    ghost invariant = { λ a. IsOrdered member_cmp a.zones_by_member × (a.count ≡ min (set.len (seen_rows a.zones_by_member.entries)) (most_rows + 1)) };
 }
 
 /// Adds the zone to those of the member, and says whether it is new there.
@@ -65,6 +73,44 @@ fn add_zone<A: Allocator + Copy>(
     }
 }
 
+/// Whether the member is an alias.
+fn is_alias(member: &Member) -> bool
+    ensures { IsTrue result ↔ ¬ IsPlain member.now }
+{
+    match member {
+        Member::Alias(_) => true,
+        _ => false,
+    }
+}
+
+/// How many rows there are, counted no further than one past the limit.
+fn count_rows<A: Allocator>(zones_by_member: &BTreeMap<Member, BTreeSet<Name, A>, A>) -> usize
+    ensures count { result ≡ min (set.len (seen_rows zones_by_member.now.entries)) (most_rows + 1) }
+    ensures ordered { IsOrdered member_cmp zones_by_member.now }
+{
+    let mut count = 0;
+    for (_, zones) in zones_by_member {
+        let more = zones.len();
+        if more > MOST_ROWS - count {
+            return MOST_ROWS + 1;
+        }
+        count += more;
+    }
+    count
+}
+
+/// Whether no row has an alias.
+fn have_no_alias<A: Allocator>(zones_by_member: &BTreeMap<Member, BTreeSet<Name, A>, A>) -> bool
+    ensures { IsTrue result ↔ ((r : Row) → set.contains (seen_rows zones_by_member.now.entries) r ≡ true → IsPlain r.1) }
+{
+    for (member, zones) in zones_by_member {
+        if is_alias(member) && !zones.is_empty() {
+            return false;
+        }
+    }
+    true
+}
+
 impl<A: Allocator + Copy> ActiveRows<A> {
     /// No row.
     pub fn new(alloc: A) -> Self
@@ -73,15 +119,42 @@ impl<A: Allocator + Copy> ActiveRows<A> {
         ActiveRows {
             alloc,
             zones_by_member: BTreeMap::new(alloc),
-            len: 0,
+            count: 0,
         }
     }
 
-    /// How many rows there are.
-    pub fn len(&self) -> usize
-        ensures { result ≡ set.len self.now }
+    /// The rows that have these zones at each member.
+    pub fn from_zones(alloc: A, zones_by_member: BTreeMap<Member, BTreeSet<Name, A>, A>) -> Self
+        ensures { result ≡ seen_rows zones_by_member.entries }
     {
-        self.len
+        let count = count_rows(&zones_by_member);
+        ActiveRows {
+            alloc,
+            zones_by_member,
+            count,
+        }
+    }
+
+    /// How many rows there are, counted no further than one past the limit.
+    pub fn count(&self) -> usize
+        ensures { result ≡ min (set.len self.now) (most_rows + 1) }
+    {
+        self.count
+    }
+
+    /// The zones of each member, in the order of the members.
+    pub fn zones_by_member(&self) -> Iter<'_, Member, BTreeSet<Name, A>>
+        ensures rows { seen_rows result ≡ self.now }
+        ensures ordered { IsStrictlySortedBy member_cmp (keys_of result) }
+    {
+        self.zones_by_member.iter()
+    }
+
+    /// Whether no row has an alias.
+    pub fn are_plain(&self) -> bool
+        ensures { IsTrue result ↔ ((r : Row) → set.contains self.now r ≡ true → IsPlain r.1) }
+    {
+        have_no_alias(&self.zones_by_member)
     }
 
     /// Adds a row, if it is not there.
@@ -89,12 +162,12 @@ impl<A: Allocator + Copy> ActiveRows<A> {
     /// # Errors
     /// `AllocError` where there is no memory. The rows are then as they were.
     pub fn insert(&mut self, zone: Name, member: Member) -> Result<(), AllocError>
-        requires { set.len self.old ≤ 65536 }
+        requires { set.len self.old ≤ most_rows }
         ensures ok { OnOk result (self.new ≡ set.insert self.old (zone, member)) }
         ensures err { OnErr result (self.new ≡ self.old) }
     {
         if add_zone(self.alloc, &mut self.zones_by_member, member, zone)? {
-            self.len += 1;
+            self.count += 1;
         }
         Ok(())
     }
@@ -134,7 +207,7 @@ impl<A: Allocator + Copy> ActiveRows<A> {
         Ok(ActiveRows {
             alloc: self.alloc,
             zones_by_member,
-            len: self.len,
+            count: self.count,
         })
     }
 }

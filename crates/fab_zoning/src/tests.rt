@@ -1,404 +1,798 @@
-//! The zoning of one fabric by itself: each call once, who is joined and why, and the limits.
-ghost use Rattle.std.specs.Prelude.{◌<◌, ◌≤◌, ◌+◌, ◌^◌, All, IfOk};
-ghost use Rattle.fab_names.specs.Names.{IsNameText};
+//! The zoning of one fabric by itself: a table of steps with what each answers and who is joined
+//! then, tables of limits, and what is shown and sound.
+ghost use Rattle.std.specs.Prelude.{All, IfOk};
 ghost use Rattle.fab_zoning.specs.Rows.{IsPlain};
 
-use crate::{DefaultFlag, Why, Zoning, ZoningFault, ZoningLimit};
+use crate::{DefaultFlag, Why, Zoning, ZoningFault, ZoningLimit, ZoningParts};
 use fab_inventory::Port;
 use fab_names::{Fabric, Member, Name, Place, Wwn};
 use std::alloc::{AllocError, Global};
+use std::collections::{BTreeMap, BTreeSet};
 use std::test::Fail;
 
-/// The name that the text is.
-fn name(text: &str) -> Name
-    requires { IsNameText text.now }
-{
-    Name::read(text).unwrap()
+/// Ports: where each is logged in, its N_Port_Name, its Node_Name and its place. Two host ports are
+/// at one place, two targets have one node, and the last is a target seen at the other fabric.
+const PORTS: [(Option<Fabric>, &str, &str, &str); 7] = [
+    (
+        Some(Fabric::A),
+        "1000000000000001",
+        "2000000000000001",
+        "1,1",
+    ),
+    (
+        Some(Fabric::A),
+        "1000000000000002",
+        "2000000000000002",
+        "12,5",
+    ),
+    (
+        Some(Fabric::A),
+        "1000000000000003",
+        "2000000000000003",
+        "12,5",
+    ),
+    (
+        Some(Fabric::A),
+        "5000000000000001",
+        "5000000000000000",
+        "1,2",
+    ),
+    (
+        Some(Fabric::A),
+        "5000000000000002",
+        "5000000000000000",
+        "1,3",
+    ),
+    (
+        Some(Fabric::B),
+        "5000000000000001",
+        "5000000000000000",
+        "1,2",
+    ),
+    (None, "1000000000000001", "2000000000000001", "1,1"),
+];
+
+const I1: usize = 0;
+
+const I2: usize = 1;
+
+const I3: usize = 2;
+
+const T1: usize = 3;
+
+const T2: usize = 4;
+
+const T1_IN_B: usize = 5;
+
+const I1_OUT: usize = 6;
+
+/// A member.
+#[derive(Clone, Copy)]
+enum Item {
+    /// A port of the table by its N_Port_Name, and by its Node_Name.
+    Port(usize),
+    Node(usize),
+    Place(&'static str),
+    Alias(&'static str),
 }
 
-/// The port of this name and node, at a place of a fabric.
-fn port_at(name: u64, node: u64, fabric: Fabric, domain: u8, slot: u16) -> Port
-    requires name { 0 < name }
-    requires node { 0 < node }
-    requires some { 1 ≤ domain }
-    requires few { domain ≤ 239 }
-    requires slot { slot ≤ 4095 }
-{
+/// A step or a question.
+#[derive(Clone, Copy)]
+enum Act {
+    /// From here on an equal zoning.
+    Copied,
+    /// An alias of one port.
+    Alias(&'static str, usize),
+    /// A zone of two members, which may be equal.
+    Zone(&'static str, Item, Item),
+    /// A zone set of two zones, which may be equal.
+    Set(&'static str, &'static str, &'static str),
+    /// An alias, a zone or a set of nothing.
+    Nothing(&'static str),
+    DropAlias(&'static str),
+    DropZone(&'static str),
+    DropSet(&'static str),
+    Activate(&'static str),
+    /// Two rows of a port each are active.
+    Rows(&'static str, usize, &'static str, usize),
+    Deactivate,
+    Default(DefaultFlag),
+    /// Whether two ports are joined, asked both ways round.
+    Joined(usize, usize),
+    /// Whether the zoning is sound.
+    Sound,
+}
+
+/// What is answered.
+#[derive(Clone, Copy)]
+enum Want {
+    Done,
+    Empty,
+    Unknown(&'static str),
+    InUse(&'static str, &'static str),
+    Apart,
+    ByZone(&'static str),
+    ByDefault,
+}
+
+/// An active set joins the ports of a zone, and no others.
+const ACTIVE_SET: [(Act, Want); 9] = [
+    (Act::Joined(I1, T1), Want::Apart),
+    (
+        Act::Zone("z1", Item::Port(I1), Item::Place("1,2")),
+        Want::Done,
+    ),
+    (Act::Set("s1", "z1", "z1"), Want::Done),
+    (Act::Activate("s1"), Want::Done),
+    (Act::Joined(I1, T1), Want::ByZone("z1")),
+    (Act::Joined(I1, I1), Want::Apart),
+    (Act::Joined(I1, T2), Want::Apart),
+    (Act::Joined(I1, T1_IN_B), Want::Apart),
+    (Act::Joined(I1_OUT, T1), Want::Apart),
+];
+
+/// The default zone without an active set, and beside zones.
+const DEFAULT_ZONE: [(Act, Want); 11] = [
+    (Act::Default(DefaultFlag::Permit), Want::Done),
+    (Act::Joined(I1, T1), Want::ByDefault),
+    (Act::Joined(I1, I1), Want::Apart),
+    (Act::Rows("z1", I1, "z1", T1), Want::Done),
+    (Act::Joined(I1, T2), Want::Apart),
+    (Act::Rows("z1", T1, "z1", T1), Want::Done),
+    (Act::Joined(I1, T1), Want::Apart),
+    (Act::Joined(I1, T2), Want::ByDefault),
+    (Act::Deactivate, Want::Done),
+    (Act::Default(DefaultFlag::Deny), Want::Done),
+    (Act::Joined(I1, T1), Want::Apart),
+];
+
+/// The first zone by name is why.
+const FIRST_ZONE: [(Act, Want); 8] = [
+    (Act::Zone("z1", Item::Port(I1), Item::Port(T1)), Want::Done),
+    (Act::Zone("z2", Item::Port(I1), Item::Port(T1)), Want::Done),
+    (Act::Set("s1", "z2", "z1"), Want::Done),
+    (Act::Activate("s1"), Want::Done),
+    (Act::Joined(I1, T1), Want::ByZone("z1")),
+    (Act::Rows("z2", I1, "z2", T1), Want::Done),
+    (Act::Joined(I1, T1), Want::ByZone("z2")),
+    (Act::Sound, Want::Done),
+];
+
+/// A member for several ports.
+const SEVERAL_PORTS: [(Act, Want); 10] = [
+    (
+        Act::Zone("z3", Item::Place("12,5"), Item::Port(T1)),
+        Want::Done,
+    ),
+    (Act::Set("s1", "z3", "z3"), Want::Done),
+    (Act::Activate("s1"), Want::Done),
+    (Act::Joined(I2, T1), Want::ByZone("z3")),
+    (Act::Joined(I3, T1), Want::ByZone("z3")),
+    (Act::Joined(I2, I3), Want::ByZone("z3")),
+    (Act::Joined(I2, T2), Want::Apart),
+    (Act::Zone("z3", Item::Node(T1), Item::Node(T1)), Want::Done),
+    (Act::Activate("s1"), Want::Done),
+    (Act::Joined(T1, T2), Want::ByZone("z3")),
+];
+
+/// An alias edit changes nothing active, nor do drops, nor a copy.
+const COPIES: [(Act, Want); 16] = [
+    (Act::Alias("disk", T1), Want::Done),
+    (
+        Act::Zone("z1", Item::Port(I1), Item::Alias("disk")),
+        Want::Done,
+    ),
+    (Act::Set("s1", "z1", "z1"), Want::Done),
+    (Act::Activate("s1"), Want::Done),
+    (Act::Alias("disk", T2), Want::Done),
+    (Act::Joined(I1, T1), Want::ByZone("z1")),
+    (Act::Activate("s1"), Want::Done),
+    (Act::Joined(I1, T1), Want::Apart),
+    (Act::Joined(I1, T2), Want::ByZone("z1")),
+    (Act::Copied, Want::Done),
+    (Act::DropSet("s1"), Want::Done),
+    (Act::DropZone("z1"), Want::Done),
+    (Act::DropAlias("disk"), Want::Done),
+    (Act::Joined(I1, T2), Want::ByZone("z1")),
+    (Act::Deactivate, Want::Done),
+    (Act::Joined(I1, T2), Want::Apart),
+];
+
+/// What is refused, by the first that is named.
+const REFUSALS: [(Act, Want); 16] = [
+    (Act::Alias("disk", T1), Want::Done),
+    (
+        Act::Zone("z1", Item::Port(I1), Item::Alias("disk")),
+        Want::Done,
+    ),
+    (Act::Set("s1", "z1", "z1"), Want::Done),
+    (Act::Nothing("x"), Want::Empty),
+    (
+        Act::Zone("x", Item::Alias("y"), Item::Alias("x")),
+        Want::Unknown("y"),
+    ),
+    (Act::Set("x", "y", "x"), Want::Unknown("y")),
+    (Act::DropAlias("z1"), Want::Unknown("z1")),
+    (Act::DropZone("disk"), Want::Unknown("disk")),
+    (Act::DropSet("z1"), Want::Unknown("z1")),
+    (Act::Activate("z1"), Want::Unknown("z1")),
+    (Act::DropAlias("disk"), Want::InUse("disk", "z1")),
+    (Act::DropZone("z1"), Want::InUse("z1", "s1")),
+    (
+        Act::Zone("z0", Item::Alias("disk"), Item::Alias("disk")),
+        Want::Done,
+    ),
+    (Act::Set("s0", "z1", "z1"), Want::Done),
+    (Act::DropAlias("disk"), Want::InUse("disk", "z0")),
+    (Act::DropZone("z1"), Want::InUse("z1", "s0")),
+];
+
+/// The N_Port_Name of a port of the table.
+fn port_name(port: usize) -> Result<Wwn, Fail> {
+    match PORTS.get(port) {
+        Some((_, name, _, _)) => Ok(Wwn::read(name)?),
+        None => Ok(Wwn::read("")?),
+    }
+}
+
+/// The Node_Name of a port of the table.
+fn node_name(port: usize) -> Result<Wwn, Fail> {
+    match PORTS.get(port) {
+        Some((_, _, node, _)) => Ok(Wwn::read(node)?),
+        None => Ok(Wwn::read("")?),
+    }
+}
+
+/// Where a port of the table is logged in, if anywhere.
+fn login_of(port: usize) -> Result<Option<(Fabric, Place)>, Fail> {
+    match PORTS.get(port) {
+        Some((Some(fabric), _, _, place)) => Ok(Some((*fabric, Place::read(place)?))),
+        _ => Ok(None),
+    }
+}
+
+/// A port that nobody holds.
+fn port_at(name: Wwn, node: Wwn, at: Option<(Fabric, Place)>) -> Port {
     Port {
-        name: Wwn::new(name),
-        node: Wwn::new(node),
-        at: Some((fabric, Place::new(domain, slot))),
+        name,
+        node,
+        at,
         holder: None,
     }
 }
 
-/// A host port, the only one of its node.
-fn i1() -> Port {
-    port_at(
-        0x1000_0000_0000_0001,
-        0x2000_0000_0000_0001,
-        Fabric::A,
-        1,
-        1,
-    )
-}
-
-/// One of two host ports at one place.
-fn i2() -> Port {
-    port_at(
-        0x1000_0000_0000_0002,
-        0x2000_0000_0000_0002,
-        Fabric::A,
-        12,
-        5,
-    )
-}
-
-/// The other of them.
-fn i3() -> Port {
-    port_at(
-        0x1000_0000_0000_0003,
-        0x2000_0000_0000_0003,
-        Fabric::A,
-        12,
-        5,
-    )
-}
-
-/// One of two targets of one node.
-fn t1() -> Port {
-    port_at(
-        0x5000_0000_0000_0001,
-        0x5000_0000_0000_0000,
-        Fabric::A,
-        1,
-        2,
-    )
-}
-
-/// The other of them.
-fn t2() -> Port {
-    port_at(
-        0x5000_0000_0000_0002,
-        0x5000_0000_0000_0000,
-        Fabric::A,
-        1,
-        3,
-    )
-}
-
-/// The zone that is why, where one is.
-fn zone_of(why: Option<Why<'_>>) -> Option<Name> {
-    match why {
-        Some(Why::Zone(zone)) => Some(*zone),
-        _ => None,
+/// A member.
+fn member_of(item: Item) -> Result<Member, Fail> {
+    match item {
+        Item::Port(port) => Ok(Member::Port(port_name(port)?)),
+        Item::Node(port) => Ok(Member::Node(node_name(port)?)),
+        Item::Place(place) => Ok(Member::Place(Place::read(place)?)),
+        Item::Alias(alias) => Ok(Member::Alias(Name::read(alias)?)),
     }
 }
 
-/// Whether the default zone is why.
-fn is_by_default(why: Option<Why<'_>>) -> bool {
-    matches!(why, Some(Why::Default))
+/// Puts something.
+fn put(zoning: &mut Zoning<Global>, act: Act) -> Result<Result<(), ZoningFault>, Fail> {
+    match act {
+        Act::Alias(name, port) => {
+            let member = Member::Port(port_name(port)?);
+            Ok(zoning.put_alias(Name::read(name)?, &[member]))
+        }
+        Act::Zone(name, one, other) => {
+            let members = [member_of(one)?, member_of(other)?];
+            Ok(zoning.put_zone(Name::read(name)?, &members))
+        }
+        Act::Set(name, one, other) => {
+            let zones = [Name::read(one)?, Name::read(other)?];
+            Ok(zoning.put_set(Name::read(name)?, &zones))
+        }
+        _ => Ok(Ok(())),
+    }
+}
+
+/// Drops or activates something.
+fn drop_or_activate(
+    zoning: &mut Zoning<Global>,
+    act: Act,
+) -> Result<Result<(), ZoningFault>, Fail> {
+    match act {
+        Act::DropAlias(name) => Ok(zoning.drop_alias(&Name::read(name)?)),
+        Act::DropZone(name) => Ok(zoning.drop_zone(&Name::read(name)?)),
+        Act::DropSet(name) => Ok(zoning.drop_set(&Name::read(name)?)),
+        Act::Activate(name) => Ok(zoning.activate(&Name::read(name)?)),
+        _ => Ok(Ok(())),
+    }
+}
+
+/// Puts an alias, a zone and a set of nothing, and answers the first that is not refused as empty.
+fn put_nothing(zoning: &mut Zoning<Global>, name: &str) -> Result<Result<(), ZoningFault>, Fail> {
+    let name = Name::read(name)?;
+    if zoning.put_alias(name, &[]) != Err(ZoningFault::Empty) {
+        return Ok(Ok(()));
+    }
+    if zoning.put_zone(name, &[]) != Err(ZoningFault::Empty) {
+        return Ok(Ok(()));
+    }
+    Ok(zoning.put_set(name, &[]))
+}
+
+/// A zone and a port.
+fn row_of(zone: &str, port: usize) -> Result<(Name, Wwn), Fail> {
+    Ok((Name::read(zone)?, port_name(port)?))
+}
+
+/// Makes two rows active, under the name of the first zone.
+fn set_rows(
+    zoning: &mut Zoning<Global>,
+    row: (Name, Wwn),
+    other: (Name, Wwn),
+) -> Result<(), AllocError> {
+    let (zone, port) = row;
+    let (other_zone, other_port) = other;
+    let rows = [
+        (zone, Member::Port(port)),
+        (other_zone, Member::Port(other_port)),
+    ];
+    zoning.set_active(zone, &rows)
+}
+
+/// Takes a step.
+fn change(zoning: &mut Zoning<Global>, act: Act) -> Result<Result<(), ZoningFault>, Fail> {
+    match act {
+        Act::Copied => *zoning = zoning.copy()?,
+        Act::Nothing(name) => return put_nothing(zoning, name),
+        Act::Rows(zone, port, other_zone, other_port) => {
+            set_rows(zoning, row_of(zone, port)?, row_of(other_zone, other_port)?)?;
+        }
+        Act::Deactivate => zoning.deactivate(),
+        Act::Default(flag) => zoning.set_default(flag),
+        Act::Alias(..) | Act::Zone(..) | Act::Set(..) => return put(zoning, act),
+        _ => return drop_or_activate(zoning, act),
+    }
+    Ok(Ok(()))
+}
+
+/// Whether a step was answered so.
+fn is_answered(answer: Result<(), ZoningFault>, want: Want) -> Result<bool, Fail> {
+    let fault = match want {
+        Want::Done => return Ok(answer.is_ok()),
+        Want::Empty => ZoningFault::Empty,
+        Want::Unknown(name) => ZoningFault::Unknown(Name::read(name)?),
+        Want::InUse(name, user) => ZoningFault::InUse(Name::read(name)?, Name::read(user)?),
+        _ => return Ok(false),
+    };
+    Ok(answer == Err(fault))
+}
+
+/// Whether that is why.
+fn is_why(why: Option<Why<'_>>, want: Want) -> Result<bool, Fail> {
+    match (why, want) {
+        (Some(Why::Zone(zone)), Want::ByZone(name)) => Ok(*zone == Name::read(name)?),
+        (Some(Why::Default), Want::ByDefault) => Ok(true),
+        (None, Want::Apart) => Ok(true),
+        _ => Ok(false),
+    }
+}
+
+/// Whether two ports are joined so, asked both ways round.
+fn are_joined(zoning: &Zoning<Global>, p: usize, q: usize, want: Want) -> Result<bool, Fail> {
+    let p = port_at(port_name(p)?, node_name(p)?, login_of(p)?);
+    let q = port_at(port_name(q)?, node_name(q)?, login_of(q)?);
+    if !is_why(zoning.joined(&p, &q), want)? {
+        return Ok(false);
+    }
+    is_why(zoning.joined(&q, &p), want)
+}
+
+/// Whether a line is answered so.
+fn is_right(zoning: &mut Zoning<Global>, act: Act, want: Want) -> Result<bool, Fail> {
+    match act {
+        Act::Joined(p, q) => are_joined(zoning, p, q, want),
+        Act::Sound => Ok(zoning.is_sound()),
+        _ => {
+            let answer = change(zoning, act)?;
+            is_answered(answer, want)
+        }
+    }
 }
 
 #[test]
 fn joined_by_active_set(rt: HostRuntime) -> Result<(), Fail> {
-    let (i1, t1) = (i1(), t1());
-    let z1 = name("z1");
     let mut zoning = Zoning::new(rt.alloc(), Fabric::A);
-    assert!(rt; zoning.joined(&i1, &t1).is_none());
-    let rows = [
-        (z1, Member::Port(i1.name)),
-        (z1, Member::Place(Place::new(1, 2))),
-    ];
-    zoning.set_active(name("s1"), &rows)?;
-    assert_eq!(rt; zone_of(zoning.joined(&i1, &t1)), Some(z1));
-    assert_eq!(rt; zone_of(zoning.joined(&t1, &i1)), Some(z1));
-    assert!(rt; zoning.joined(&i1, &i1).is_none());
-    assert!(rt; zoning.joined(&i1, &t2()).is_none());
-    let elsewhere = Port {
-        at: Some((Fabric::B, Place::new(1, 2))),
-        ..t1
-    };
-    assert!(rt; zoning.joined(&i1, &elsewhere).is_none());
-    let nowhere = Port { at: None, ..i1 };
-    assert!(rt; zoning.joined(&nowhere, &t1).is_none());
+    for (act, want) in ACTIVE_SET {
+        assert!(rt; is_right(&mut zoning, act, want)?);
+    }
     Ok(())
 }
 
 #[test]
-fn default_zone_without_active_set(rt: HostRuntime) -> Result<(), Fail> {
-    let (i1, t1) = (i1(), t1());
+fn default_zone(rt: HostRuntime) -> Result<(), Fail> {
     let mut zoning = Zoning::new(rt.alloc(), Fabric::A);
-    zoning.set_default(DefaultFlag::Permit);
-    assert!(rt; is_by_default(zoning.joined(&i1, &t1)));
-    assert!(rt; zoning.joined(&i1, &i1).is_none());
-    zoning.set_default(DefaultFlag::Deny);
-    assert!(rt; zoning.joined(&i1, &t1).is_none());
+    for (act, want) in DEFAULT_ZONE {
+        assert!(rt; is_right(&mut zoning, act, want)?);
+    }
     Ok(())
 }
 
 #[test]
 fn first_zone_by_name(rt: HostRuntime) -> Result<(), Fail> {
-    let (i1, t1, z1, z2) = (i1(), t1(), name("z1"), name("z2"));
-    let rows = [
-        (z2, Member::Port(i1.name)),
-        (z2, Member::Port(t1.name)),
-        (z1, Member::Port(i1.name)),
-        (z1, Member::Port(t1.name)),
-    ];
     let mut zoning = Zoning::new(rt.alloc(), Fabric::A);
-    zoning.set_active(name("s1"), &rows)?;
-    assert_eq!(rt; zone_of(zoning.joined(&i1, &t1)), Some(z1));
-    zoning.set_active(name("s2"), &rows[..2])?;
-    assert_eq!(rt; zone_of(zoning.joined(&i1, &t1)), Some(z2));
-    Ok(())
-}
-
-#[test]
-fn default_zone_beside_zones(rt: HostRuntime) -> Result<(), Fail> {
-    let (i1, t1, t2) = (i1(), t1(), t2());
-    let (z1, s1) = (name("z1"), name("s1"));
-    let mut zoning = Zoning::new(rt.alloc(), Fabric::A);
-    zoning.set_default(DefaultFlag::Permit);
-    zoning.set_active(
-        s1,
-        &[(z1, Member::Port(i1.name)), (z1, Member::Port(t1.name))],
-    )?;
-    assert!(rt; zoning.joined(&i1, &t2).is_none());
-    zoning.set_active(s1, &[(z1, Member::Port(t1.name))])?;
-    assert!(rt; zoning.joined(&i1, &t1).is_none());
-    assert!(rt; is_by_default(zoning.joined(&i1, &t2)));
+    for (act, want) in FIRST_ZONE {
+        assert!(rt; is_right(&mut zoning, act, want)?);
+    }
     Ok(())
 }
 
 #[test]
 fn members_for_several_ports(rt: HostRuntime) -> Result<(), Fail> {
-    let (t1, t2) = (t1(), t2());
-    let (z3, s1) = (name("z3"), name("s1"));
     let mut zoning = Zoning::new(rt.alloc(), Fabric::A);
-    let place = Member::Place(Place::new(12, 5));
-    zoning.set_active(s1, &[(z3, place), (z3, Member::Port(t1.name))])?;
-    assert_eq!(rt; zone_of(zoning.joined(&i2(), &t1)), Some(z3));
-    assert_eq!(rt; zone_of(zoning.joined(&i3(), &t1)), Some(z3));
-    assert_eq!(rt; zone_of(zoning.joined(&i2(), &i3())), Some(z3));
-    assert!(rt; zoning.joined(&i2(), &t2).is_none());
-    zoning.set_active(s1, &[(z3, Member::Node(t1.node))])?;
-    assert_eq!(rt; zone_of(zoning.joined(&t1, &t2)), Some(z3));
-    Ok(())
-}
-
-/// A fabric whose active set `s1` has the zone `z1` of a host port and of the alias `disk` of a
-/// target.
-fn zoned(alloc: Global) -> Result<Zoning<Global>, Fail> {
-    let disk = name("disk");
-    let mut zoning = Zoning::new(alloc, Fabric::A);
-    zoning.put_alias(disk, &[Member::Port(t1().name)])?;
-    let members = [Member::Port(i1().name), Member::Alias(disk)];
-    zoning.put_zone(name("z1"), &members)?;
-    zoning.put_set(name("s1"), &[name("z1")])?;
-    zoning.activate(&name("s1"))?;
-    Ok(zoning)
-}
-
-#[test]
-fn alias_edit_changes_nothing_active(rt: HostRuntime) -> Result<(), Fail> {
-    let (i1, t1, t2, z1) = (i1(), t1(), t2(), name("z1"));
-    let mut zoning = zoned(rt.alloc())?;
-    assert_eq!(rt; zone_of(zoning.joined(&i1, &t1)), Some(z1));
-    zoning.put_alias(name("disk"), &[Member::Port(t2.name)])?;
-    assert_eq!(rt; zone_of(zoning.joined(&i1, &t1)), Some(z1));
-    zoning.activate(&name("s1"))?;
-    assert!(rt; zoning.joined(&i1, &t1).is_none());
-    assert_eq!(rt; zone_of(zoning.joined(&i1, &t2)), Some(z1));
+    for (act, want) in SEVERAL_PORTS {
+        assert!(rt; is_right(&mut zoning, act, want)?);
+    }
     Ok(())
 }
 
 #[test]
-fn drops_change_nothing_active(rt: HostRuntime) -> Result<(), Fail> {
-    let (i1, t1, z1) = (i1(), t1(), name("z1"));
-    let mut zoning = zoned(rt.alloc())?;
-    zoning.drop_set(&name("s1"))?;
-    zoning.drop_zone(&z1)?;
-    zoning.drop_alias(&name("disk"))?;
-    assert_eq!(rt; zone_of(zoning.joined(&i1, &t1)), Some(z1));
-    zoning.deactivate();
-    assert!(rt; zoning.joined(&i1, &t1).is_none());
+fn active_set_is_a_copy(rt: HostRuntime) -> Result<(), Fail> {
+    let mut zoning = Zoning::new(rt.alloc(), Fabric::A);
+    for (act, want) in COPIES {
+        assert!(rt; is_right(&mut zoning, act, want)?);
+    }
     Ok(())
 }
 
 #[test]
-fn copy_is_equal(rt: HostRuntime) -> Result<(), Fail> {
-    let (i1, t1) = (i1(), t1());
-    let (z1, s1, disk) = (name("z1"), name("s1"), name("disk"));
-    let zoning = zoned(rt.alloc())?;
-    let mut copy = zoning.copy()?;
-    assert_eq!(rt; zone_of(copy.joined(&i1, &t1)), Some(z1));
-    assert_eq!(rt; copy.drop_alias(&disk), Err(ZoningFault::InUse(disk, z1)));
-    assert_eq!(rt; copy.drop_zone(&z1), Err(ZoningFault::InUse(z1, s1)));
-    copy.deactivate();
-    assert_eq!(rt; copy.activate(&s1), Ok(()));
-    assert_eq!(rt; zone_of(copy.joined(&i1, &t1)), Some(z1));
-    copy.deactivate();
-    assert_eq!(rt; zone_of(zoning.joined(&i1, &t1)), Some(z1));
+fn refusals_by_the_first(rt: HostRuntime) -> Result<(), Fail> {
+    let mut zoning = Zoning::new(rt.alloc(), Fabric::A);
+    for (act, want) in REFUSALS {
+        assert!(rt; is_right(&mut zoning, act, want)?);
+    }
     Ok(())
 }
 
-#[test]
-fn empty_lists(rt: HostRuntime) -> Result<(), Fail> {
-    let mut zoning = zoned(rt.alloc())?;
-    assert_eq!(rt; zoning.put_alias(name("x"), &[]), Err(ZoningFault::Empty));
-    assert_eq!(rt; zoning.put_zone(name("x"), &[]), Err(ZoningFault::Empty));
-    assert_eq!(rt; zoning.put_set(name("x"), &[]), Err(ZoningFault::Empty));
-    Ok(())
+/// Something of which there may be so many, with so many members.
+#[derive(Clone, Copy)]
+enum Kind {
+    Alias,
+    Zone,
+    Set,
 }
 
-#[test]
-fn unknown_names(rt: HostRuntime) -> Result<(), Fail> {
-    let (z1, disk, x, y) = (name("z1"), name("disk"), name("x"), name("y"));
-    let mut zoning = zoned(rt.alloc())?;
-    let members = [Member::Alias(disk), Member::Alias(y), Member::Alias(x)];
-    assert_eq!(rt; zoning.put_zone(x, &members), Err(ZoningFault::Unknown(y)));
-    assert_eq!(rt;
-        zoning.put_set(x, &[z1, y, x]),
-        Err(ZoningFault::Unknown(y))
-    );
-    assert_eq!(rt; zoning.drop_alias(&z1), Err(ZoningFault::Unknown(z1)));
-    assert_eq!(rt; zoning.drop_zone(&disk), Err(ZoningFault::Unknown(disk)));
-    assert_eq!(rt; zoning.drop_set(&z1), Err(ZoningFault::Unknown(z1)));
-    assert_eq!(rt; zoning.activate(&z1), Err(ZoningFault::Unknown(z1)));
-    Ok(())
-}
-
-#[test]
-fn first_user_by_name(rt: HostRuntime) -> Result<(), Fail> {
-    let (z0, z1, s0, disk) = (name("z0"), name("z1"), name("s0"), name("disk"));
-    let mut zoning = zoned(rt.alloc())?;
-    zoning.put_zone(z0, &[Member::Alias(disk)])?;
-    zoning.put_set(s0, &[z1])?;
-    assert_eq!(rt; zoning.drop_alias(&disk), Err(ZoningFault::InUse(disk, z0)));
-    assert_eq!(rt; zoning.drop_zone(&z1), Err(ZoningFault::InUse(z1, s0)));
-    Ok(())
-}
-
-/// The name of this letter and number.
-fn numbered(alloc: Global, letter: char, number: u64) -> Result<Name, Fail> {
-    let text = format!(in alloc; "{letter}{number}")?;
+/// The name of this number.
+fn numbered(alloc: Global, number: u32) -> Result<Name, Fail> {
+    let text = format!(in alloc; "n{number}")?;
     Ok(Name::read(&text)?)
 }
 
-#[test]
-fn limit_of_aliases(rt: HostRuntime) -> Result<(), Fail> {
-    let members = [Member::Node(t1().node)];
-    let mut zoning = Zoning::new(rt.alloc(), Fabric::B);
-    for number in 0..2048 {
-        zoning.put_alias(numbered(rt.alloc(), 'a', number)?, &members)?;
+/// Puts one: of a port, of a node, of a zone that is there.
+fn put_one(
+    zoning: &mut Zoning<Global>,
+    kind: Kind,
+    name: Name,
+    zone: Name,
+) -> Result<(), ZoningFault> {
+    match kind {
+        Kind::Alias => zoning.put_alias(name, &[Member::Port(Wwn::new(1))]),
+        Kind::Zone => zoning.put_zone(name, &[Member::Node(Wwn::new(1))]),
+        Kind::Set => zoning.put_set(name, &[zone]),
     }
-    let many = Err(ZoningFault::Limit(ZoningLimit::Aliases));
-    assert_eq!(rt; zoning.put_alias(name("more"), &members), many);
-    assert_eq!(rt; zoning.put_alias(name("a0"), &members), Ok(()));
-    Ok(())
+}
+
+/// What is put, under how many names, how often, and what refuses the last, if anything does.
+const COUNTS: [(Kind, u32, u32, Option<ZoningLimit>); 6] = [
+    (Kind::Alias, 2048, 2049, None),
+    (Kind::Alias, 2049, 2049, Some(ZoningLimit::Aliases)),
+    (Kind::Zone, 2048, 2049, None),
+    (Kind::Zone, 2049, 2049, Some(ZoningLimit::Zones)),
+    (Kind::Set, 64, 65, None),
+    (Kind::Set, 65, 65, Some(ZoningLimit::Sets)),
+];
+
+/// What the last of so many puts answers, the names coming round; the others are accepted.
+fn last_put(
+    alloc: Global,
+    kind: Kind,
+    names: u32,
+    puts: u32,
+) -> Result<Result<(), ZoningFault>, Fail> {
+    let mut zoning = Zoning::new(alloc, Fabric::B);
+    let zone = numbered(alloc, 0)?;
+    put_one(&mut zoning, Kind::Zone, zone, zone)?;
+    for number in 1..puts {
+        put_one(&mut zoning, kind, numbered(alloc, number - 1)?, zone)?;
+    }
+    let last = if names < puts {
+        0
+    } else {
+        names.saturating_sub(1)
+    };
+    Ok(put_one(&mut zoning, kind, numbered(alloc, last)?, zone))
+}
+
+/// Whether it was accepted, or refused by this limit.
+fn is_limited(answer: Result<(), ZoningFault>, limit: Option<ZoningLimit>) -> bool {
+    match limit {
+        Some(limit) => answer == Err(ZoningFault::Limit(limit)),
+        None => answer.is_ok(),
+    }
 }
 
 #[test]
-fn limit_of_zones(rt: HostRuntime) -> Result<(), Fail> {
-    let members = [Member::Node(t1().node)];
-    let mut zoning = Zoning::new(rt.alloc(), Fabric::B);
-    for number in 0..2048 {
-        zoning.put_zone(numbered(rt.alloc(), 'z', number)?, &members)?;
+fn limits_of_a_fabric(rt: HostRuntime) -> Result<(), Fail> {
+    for (kind, names, puts, limit) in COUNTS {
+        let answer = last_put(rt.alloc(), kind, names, puts)?;
+        assert!(rt;
+            is_limited(answer, limit),
+            "{puts} puts under {names} names"
+        );
     }
-    let many = Err(ZoningFault::Limit(ZoningLimit::Zones));
-    assert_eq!(rt; zoning.put_zone(name("more"), &members), many);
-    assert_eq!(rt; zoning.put_zone(name("z0"), &members), Ok(()));
     Ok(())
 }
 
-#[test]
-fn limit_of_sets(rt: HostRuntime) -> Result<(), Fail> {
-    let zones = [name("z1")];
-    let mut zoning = zoned(rt.alloc())?;
-    for number in 1..65 {
-        zoning.put_set(numbered(rt.alloc(), 's', number)?, &zones)?;
-    }
-    let many = Err(ZoningFault::Limit(ZoningLimit::Sets));
-    assert_eq!(rt; zoning.put_set(name("more"), &zones), many);
-    assert_eq!(rt; zoning.put_set(name("s1"), &zones), Ok(()));
-    Ok(())
-}
-
-/// Ports with the numbers from `first` on, `count` of them.
-fn ports(alloc: Global, first: u64, count: u64) -> Result<Vec<Member>, AllocError>
-    requires some { 0 < first }
-    requires fits { first + count < 2 ^ 64 }
+/// So many ports, from this number on.
+fn ports(alloc: Global, first: u32, count: u32) -> Result<Vec<Member>, AllocError>
     ensures { IfOk result (λ members. All IsPlain members.items) }
 {
     let mut members = Vec::new(alloc);
-    for number in first..first + count {
-        members.push(Member::Port(Wwn::new(number)))?;
+    for number in 0..count {
+        let number = u64::from(first) + u64::from(number);
+        members.push(Member::Port(Wwn::new(number + 1)))?;
     }
     Ok(members)
 }
 
+/// Puts one with so many members.
+fn put_long(
+    alloc: Global,
+    zoning: &mut Zoning<Global>,
+    kind: Kind,
+    count: u32,
+) -> Result<Result<(), ZoningFault>, Fail> {
+    let name = numbered(alloc, 1)?;
+    match kind {
+        Kind::Alias => Ok(zoning.put_alias(name, &ports(alloc, 0, count)?)),
+        Kind::Zone => Ok(zoning.put_zone(name, &ports(alloc, 0, count)?)),
+        Kind::Set => {
+            let mut zones = Vec::new(alloc);
+            for _ in 0..count {
+                zones.push(name)?;
+            }
+            Ok(zoning.put_set(name, &zones))
+        }
+    }
+}
+
+/// What is put, with how many members, and what refuses it.
+const LENGTHS: [(Kind, u32, Option<ZoningLimit>); 6] = [
+    (Kind::Alias, 256, Some(ZoningLimit::Members)),
+    (Kind::Alias, 255, None),
+    (Kind::Zone, 256, Some(ZoningLimit::Members)),
+    (Kind::Zone, 255, None),
+    (Kind::Set, 256, Some(ZoningLimit::Members)),
+    (Kind::Set, 255, None),
+];
+
 #[test]
 fn limits_of_members(rt: HostRuntime) -> Result<(), Fail> {
     let alloc = rt.alloc();
-    let (a, z, s) = (name("a"), name("z"), name("s"));
     let mut zoning = Zoning::new(alloc, Fabric::A);
-    let many = Err(ZoningFault::Limit(ZoningLimit::Members));
-    assert_eq!(rt; zoning.put_alias(a, &ports(alloc, 1, 256)?), many);
-    assert_eq!(rt; zoning.put_alias(a, &ports(alloc, 1, 255)?), Ok(()));
-    assert_eq!(rt; zoning.put_zone(z, &[Member::Alias(a); 256]), many);
-    assert_eq!(rt; zoning.put_zone(z, &[Member::Alias(a); 255]), Ok(()));
-    assert_eq!(rt; zoning.put_set(s, &[z; 256]), many);
-    assert_eq!(rt; zoning.put_set(s, &[z; 255]), Ok(()));
+    for (kind, count, limit) in LENGTHS {
+        let answer = put_long(alloc, &mut zoning, kind, count)?;
+        assert!(rt; is_limited(answer, limit), "{count} members");
+    }
     Ok(())
 }
 
-/// 255 aliases of 255 ports each, all different.
-fn large_aliases(alloc: Global, zoning: &mut Zoning<Global>) -> Result<Vec<Member>, Fail> {
+/// A zone of 255 aliases of 255 ports each, all different.
+fn put_large_zone(alloc: Global, zoning: &mut Zoning<Global>) -> Result<Name, Fail> {
     let mut aliases = Vec::new(alloc);
-    for number in 0..255 {
-        let alias = numbered(alloc, 'a', number)?;
-        zoning.put_alias(alias, &ports(alloc, 1 + 255 * number, 255)?)?;
+    for number in 0u32..255 {
+        let alias = numbered(alloc, number)?;
+        zoning.put_alias(alias, &ports(alloc, 255 * number, 255)?)?;
         aliases.push(Member::Alias(alias))?;
     }
-    Ok(aliases)
+    let zone = numbered(alloc, 0)?;
+    zoning.put_zone(zone, &aliases)?;
+    Ok(zone)
 }
 
-/// A set `s1` of 65025 rows of a zone `z1`, 255 of each of two more, and those of some ports.
-fn large_set(alloc: Global, last: &[Member]) -> Result<Zoning<Global>, Fail> {
+/// A zone of so many ports.
+fn put_zone_of(
+    alloc: Global,
+    zoning: &mut Zoning<Global>,
+    number: u32,
+    count: u32,
+) -> Result<Name, Fail> {
+    let zone = numbered(alloc, number)?;
+    zoning.put_zone(zone, &ports(alloc, 0, count)?)?;
+    Ok(zone)
+}
+
+/// Activates a set of 65535 rows and so many more.
+fn activate_large(alloc: Global, more: u32) -> Result<Result<(), ZoningFault>, Fail> {
     let mut zoning = Zoning::new(alloc, Fabric::A);
-    let aliases = large_aliases(alloc, &mut zoning)?;
-    zoning.put_zone(name("z1"), &aliases)?;
-    let members = ports(alloc, 1, 255)?;
-    for zone in [name("z2"), name("z3")] {
-        zoning.put_zone(zone, &members)?;
-    }
-    zoning.put_zone(name("z4"), last)?;
-    zoning.put_set(
-        name("s1"),
-        &[name("z1"), name("z2"), name("z3"), name("z4")],
-    )?;
-    Ok(zoning)
+    let mut zones = Vec::new(alloc);
+    zones.push(put_large_zone(alloc, &mut zoning)?)?;
+    zones.push(put_zone_of(alloc, &mut zoning, 1, 255)?)?;
+    zones.push(put_zone_of(alloc, &mut zoning, 2, 255)?)?;
+    zones.push(put_zone_of(alloc, &mut zoning, 3, more)?)?;
+    let zone_set = numbered(alloc, 0)?;
+    zoning.put_set(zone_set, &zones)?;
+    Ok(zoning.activate(&zone_set))
 }
 
 #[test]
 fn limit_of_active_rows(rt: HostRuntime) -> Result<(), Fail> {
-    let member = Member::Node(t1().node);
-    let mut zoning = large_set(rt.alloc(), &[member])?;
-    assert_eq!(rt; zoning.activate(&name("s1")), Ok(()));
-    let (first, last) = (
-        port_at(1, 1, Fabric::A, 1, 1),
-        port_at(65025, 1, Fabric::A, 1, 1),
-    );
-    assert_eq!(rt; zone_of(zoning.joined(&first, &last)), Some(name("z1")));
+    let answer = activate_large(rt.alloc(), 1)?;
+    assert!(rt; is_limited(answer, None));
     Ok(())
 }
 
 #[test]
 fn past_the_limit_of_active_rows(rt: HostRuntime) -> Result<(), Fail> {
-    let members = [Member::Node(t1().node), Member::Node(i1().node)];
-    let mut zoning = large_set(rt.alloc(), &members)?;
-    let many = Err(ZoningFault::Limit(ZoningLimit::Active));
-    assert_eq!(rt; zoning.activate(&name("s1")), many);
+    let answer = activate_large(rt.alloc(), 2)?;
+    assert!(rt; is_limited(answer, Some(ZoningLimit::Active)));
+    Ok(())
+}
+
+/// A map of one set of one item.
+fn single<Q: Ord + Drop, K: Ord + Drop>(
+    alloc: Global,
+    key: Q,
+    item: K,
+) -> Result<BTreeMap<Q, BTreeSet<K>>, Fail> {
+    let mut set = BTreeSet::new(alloc);
+    set.insert(item)?;
+    let mut map = BTreeMap::new(alloc);
+    map.insert(key, set)?;
+    Ok(map)
+}
+
+/// What may be wrong with parts.
+#[derive(Clone, Copy)]
+enum Wrong {
+    Nothing,
+    AliasInAlias,
+    UnknownAlias,
+    UnknownZone,
+    NameWithoutRows,
+    RowsWithoutName,
+    ActiveAlias,
+}
+
+/// A zoning of an alias, a zone with it, a set with that and the same active, with this wrong.
+fn parts(alloc: Global, wrong: Wrong) -> Result<Zoning<Global>, Fail> {
+    let port = Member::Port(port_name(T1)?);
+    let disk = Name::read("disk")?;
+    let zone = Name::read("z1")?;
+    let zone_set = Name::read("s1")?;
+    let in_alias = if let Wrong::AliasInAlias = wrong {
+        Member::Alias(disk)
+    } else {
+        port
+    };
+    let in_zone = if let Wrong::UnknownAlias = wrong {
+        zone
+    } else {
+        disk
+    };
+    let in_set = if let Wrong::UnknownZone = wrong {
+        disk
+    } else {
+        zone
+    };
+    let active = if let Wrong::RowsWithoutName = wrong {
+        None
+    } else {
+        Some(zone_set)
+    };
+    let row = if let Wrong::ActiveAlias = wrong {
+        Member::Alias(disk)
+    } else {
+        port
+    };
+    let parts = ZoningParts {
+        aliases: single(alloc, disk, in_alias)?,
+        zones: single(alloc, zone, Member::Alias(in_zone))?,
+        sets: single(alloc, zone_set, in_set)?,
+        active,
+        active_zones: if let Wrong::NameWithoutRows = wrong {
+            BTreeMap::new(alloc)
+        } else {
+            single(alloc, row, zone)?
+        },
+        flag: DefaultFlag::Permit,
+    };
+    Ok(Zoning::from_parts(alloc, Fabric::A, parts))
+}
+
+/// What is wrong, and whether definitions and active rows are sound.
+const PARTS: [(Wrong, bool, bool); 7] = [
+    (Wrong::Nothing, true, true),
+    (Wrong::AliasInAlias, false, true),
+    (Wrong::UnknownAlias, false, true),
+    (Wrong::UnknownZone, false, true),
+    (Wrong::NameWithoutRows, true, false),
+    (Wrong::RowsWithoutName, true, false),
+    (Wrong::ActiveAlias, true, false),
+];
+
+/// Whether its definitions and its active rows are sound or not.
+fn is_sound_so(zoning: &Zoning<Global>, definitions: bool, active: bool) -> bool {
+    zoning.has_sound_definitions() == definitions
+        && zoning.has_sound_active() == active
+        && zoning.is_sound() == (definitions && active)
+}
+
+#[test]
+fn parts_that_are_sound(rt: HostRuntime) -> Result<(), Fail> {
+    for (wrong, definitions, active) in PARTS {
+        let zoning = parts(rt.alloc(), wrong)?;
+        assert!(rt; is_sound_so(&zoning, definitions, active));
+    }
+    Ok(())
+}
+
+/// Whether just this one of three names is shown as an alias, a zone and a set, with its user.
+fn is_shown(zoning: &Zoning<Global>, text: &str) -> Result<[bool; 5], Fail> {
+    let name = Name::read(text)?;
+    Ok([
+        zoning.alias(&name).is_some(),
+        zoning.zone(&name).is_some(),
+        zoning.zone_set(&name).is_some(),
+        zoning.user_of_alias(&name).is_some(),
+        zoning.user_of_zone(&name).is_some(),
+    ])
+}
+
+/// Names, and whether each is an alias, a zone, a set, an alias in use and a zone in use.
+const SHOWN: [(&str, [bool; 5]); 4] = [
+    ("disk", [true, false, false, true, false]),
+    ("z1", [false, true, false, false, true]),
+    ("s1", [false, false, true, false, false]),
+    ("x", [false, false, false, false, false]),
+];
+
+#[test]
+fn names_that_are_shown(rt: HostRuntime) -> Result<(), Fail> {
+    let zoning = parts(rt.alloc(), Wrong::Nothing)?;
+    for (name, shown) in SHOWN {
+        assert!(rt; is_shown(&zoning, name)? == shown, "{name}");
+    }
+    Ok(())
+}
+
+/// How many aliases, zones, sets and active members are walked through.
+fn walked(zoning: &Zoning<Global>) -> [usize; 4] {
+    [
+        zoning.aliases().count(),
+        zoning.zones().count(),
+        zoning.zone_sets().count(),
+        zoning.active_zones().count(),
+    ]
+}
+
+/// Whether the rest of such a zoning is shown as it was given.
+fn rest_is_shown(zoning: &Zoning<Global>) -> Result<bool, Fail> {
+    let zone = Name::read("z1")?;
+    let port = port_at(port_name(T1)?, node_name(T1)?, login_of(T1)?);
+    if !zoning.has_active(&zone, &Member::Port(port.name)) {
+        return Ok(false);
+    }
+    if !zoning.has_in_zone(&port, &zone) || zoning.zones_of(&port).is_empty() {
+        return Ok(false);
+    }
+    Ok(
+        zoning.fabric() == Fabric::A
+            && zoning.flag() == DefaultFlag::Permit
+            && zoning.active() == Some(Name::read("s1")?),
+    )
+}
+
+#[test]
+fn the_rest_is_shown(rt: HostRuntime) -> Result<(), Fail> {
+    let zoning = parts(rt.alloc(), Wrong::Nothing)?;
+    assert!(rt; walked(&zoning) == [1, 1, 1, 1]);
+    assert!(rt; rest_is_shown(&zoning)?);
     Ok(())
 }

@@ -1,20 +1,34 @@
 //! The zoning of one fabric.
-ghost use Rattle.std.specs.Prelude.{◌≡◌, ◌<◌, ◌≤◌, ◌↔◌, Some, None, true, length, All, MatchOption, IsTrue, IsSome, IfSome, IfOk, OnOk, IfErr, OnErr};
+ghost use Rattle.std.specs.Prelude.{◌≡◌, ℕ, List, ◌<◌, ◌≤◌, ◌↔◌, Some, None, true, length, All, MatchOption, IsTrue, IsSome, IfSome, IfOk, OnOk, IfErr, OnErr};
 ghost use Rattle.std.specs.FinMap as map;
 ghost use Rattle.std.specs.FinSet as set;
+ghost use Rattle.std.specs.Option.{option_map, option_copied};
+ghost use Rattle.std.specs.Map.{keys_of};
+ghost use Rattle.std.specs.List.Sorted.{IsStrictlySortedBy};
+ghost use Rattle.fab_names.specs.declared.member.Member.TheVariants.{Alias};
+ghost use Rattle.fab_names.specs.Orders.{name_cmp, member_cmp};
+ghost use Rattle.fab_maps.specs.MapsOfSets.{seen_set, seen_sets, HasNoUser, IsFirstUser};
+ghost use Rattle.fab_zoning.specs.Limits.{most_rows};
 ghost use Rattle.fab_zoning.specs.Rows.{IsPlain};
+ghost use Rattle.fab_zoning.specs.Soundness.{AreSoundDefinitions, IsSoundActive, IsSound};
 ghost use Rattle.fab_zoning.specs.Zonings.{new_zoning};
+ghost use Rattle.fab_zoning.specs.Parts.{zoning_of};
+ghost use Rattle.fab_zoning.specs.PortZones.{in_zones};
+ghost use Rattle.fab_zoning.specs.Views.{seen_rows};
 ghost use Rattle.fab_zoning.specs.Joins.{IsLoggedInAt, Holds, Joined, Explains};
 ghost use Rattle.fab_zoning.specs.Resolved.{AreResolved};
 ghost use Rattle.fab_zoning.specs.Steps.{IsListing, IsListingFault, CanPutAlias, IsPutAliasFault, CanPutZone, IsPutZoneFault, CanPutSet, IsPutSetFault, CanDropAlias, IsDropAliasFault, CanDropZone, IsDropZoneFault, IsDropSetFault, IsActivateFault};
 
-use crate::named::{first_unknown, first_unknown_alias, first_user, is_full, set_of};
+use crate::named::{first_unknown, first_unknown_alias, first_user, is_full};
 use crate::resolve::resolved;
 use crate::rows::ActiveRows;
-use crate::{DefaultFlag, Why, ZoningFault, ZoningLimit};
+use crate::sound::{are_sound, is_active_sound};
+use crate::{DefaultFlag, PortZones, Why, ZoningFault, ZoningLimit};
 use fab_inventory::Port;
+use fab_maps::set_of;
 use fab_names::{Fabric, Member, Name};
 use std::alloc::{AllocError, Allocator};
+use std::collections::btree_map::Iter;
 use std::collections::{BTreeMap, BTreeSet};
 use std::marker::Model;
 
@@ -54,10 +68,27 @@ pub struct Zoning<A: Allocator + Copy> {
     flag: DefaultFlag,
 }
 
+/// The parts of a fabric's zoning, as tables and stored configurations give them.
+#[derive(Drop)]
+pub struct ZoningParts<A: Allocator + Copy> {
+    /// The members of each alias.
+    pub aliases: BTreeMap<Name, BTreeSet<Member, A>, A>,
+    /// The members of each zone.
+    pub zones: BTreeMap<Name, BTreeSet<Member, A>, A>,
+    /// The zones of each zone set.
+    pub sets: BTreeMap<Name, BTreeSet<Name, A>, A>,
+    /// The name of the active set, if one is active.
+    pub active: Option<Name>,
+    /// The active rows: the zones in which each member is.
+    pub active_zones: BTreeMap<Member, BTreeSet<Name, A>, A>,
+    /// What the default zone permits.
+    pub flag: DefaultFlag,
+}
+
 impl<A: Allocator + Copy> Model for Zoning<A> {
     ghost use Rattle.fab_names.specs.Orders.{name_cmp, member_cmp};
     ghost use Rattle.fab_zoning.specs.Zonings.{FabricZoning, zoning_code};
-    ghost use Rattle.fab_zoning.specs.MapsOfSets.{seen_sets};
+    ghost use Rattle.fab_maps.specs.MapsOfSets.{seen_sets};
 
     ghost Value = { FabricZoning };
 
@@ -102,7 +133,7 @@ fn rows_of<A: Allocator + Copy>(
     alloc: A,
     listed: &[(Name, Member)],
 ) -> Result<ActiveRows<A>, AllocError>
-    requires { length listed.now ≤ 65536 }
+    requires { length listed.now ≤ most_rows }
     ensures { IfOk result (λ rows. rows ≡ set.from_list listed.now) }
 {
     let mut rows = ActiveRows::new(alloc);
@@ -116,7 +147,8 @@ impl<A: Allocator + Copy> Zoning<A> {
     /// The zoning of a fabric in which there is nothing yet: no alias, zone or zone set, no active
     /// set, and a default zone that denies.
     pub fn new(alloc: A, fabric: Fabric) -> Self
-        ensures { result ≡ new_zoning fabric }
+        ensures new { result ≡ new_zoning fabric }
+        ensures sound { IsSound result }
     {
         Zoning {
             alloc,
@@ -130,9 +162,49 @@ impl<A: Allocator + Copy> Zoning<A> {
         }
     }
 
+    /// The zoning of a fabric that has just these parts: aliases, zones, zone sets, the name of the
+    /// active set, its rows as the zones of each member, and what the default zone permits. Nothing
+    /// is tested: whether they fit together `is_sound` tells.
+    pub fn from_parts(alloc: A, fabric: Fabric, parts: ZoningParts<A>) -> Self
+        ensures { result ≡ zoning_of fabric parts }
+    {
+        Zoning {
+            alloc,
+            fabric,
+            aliases: parts.aliases,
+            zones: parts.zones,
+            sets: parts.sets,
+            active: parts.active,
+            rows: ActiveRows::from_zones(alloc, parts.active_zones),
+            flag: parts.flag,
+        }
+    }
+
+    /// Whether the aliases, zones and zone sets are sound. It takes no memory.
+    pub fn has_sound_definitions(&self) -> bool
+        ensures { IsTrue result ↔ AreSoundDefinitions self.now.aliases self.now.zones self.now.sets }
+    {
+        are_sound(&self.aliases, &self.zones, &self.sets)
+    }
+
+    /// Whether the active name and rows are sound. It takes no memory.
+    pub fn has_sound_active(&self) -> bool
+        ensures { IsTrue result ↔ IsSoundActive self.now.active self.now.rows }
+    {
+        is_active_sound(self.active, &self.rows)
+    }
+
+    /// Whether the zoning is sound. It takes no memory.
+    pub fn is_sound(&self) -> bool
+        ensures { IsTrue result ↔ IsSound self.now }
+    {
+        self.has_sound_definitions() && self.has_sound_active()
+    }
+
     /// Sets what the default zone permits.
     pub fn set_default(&mut self, flag: DefaultFlag)
-        ensures { self.new ≡ record self.old { flag = flag } }
+        ensures set { self.new ≡ record self.old { flag = flag } }
+        ensures sound { IsSound self.old → IsSound self.new }
     {
         self.flag = flag;
     }
@@ -147,6 +219,7 @@ impl<A: Allocator + Copy> Zoning<A> {
         requires plain { All IsPlain members.now }
         ensures accepted { OnOk result (CanPutAlias self.old name members.now) }
         ensures ok { OnOk result (self.new ≡ record self.old { aliases = map.insert self.old.aliases name (set.from_list members.now) }) }
+        ensures sound { OnOk result (IsSound self.old → IsSound self.new) }
         ensures refused { IfErr result (IsPutAliasFault self.old name members.now) }
         ensures err { OnErr result (self.new ≡ self.old) }
     {
@@ -169,6 +242,7 @@ impl<A: Allocator + Copy> Zoning<A> {
     pub fn drop_alias(&mut self, name: &Name) -> Result<(), ZoningFault>
         ensures accepted { OnOk result (CanDropAlias self.old name.now) }
         ensures ok { OnOk result (self.new ≡ record self.old { aliases = map.remove self.old.aliases name.now }) }
+        ensures sound { OnOk result (IsSound self.old → IsSound self.new) }
         ensures refused { IfErr result (IsDropAliasFault self.old name.now) }
         ensures err { OnErr result (self.new ≡ self.old) }
     {
@@ -191,6 +265,7 @@ impl<A: Allocator + Copy> Zoning<A> {
     pub fn put_zone(&mut self, name: Name, members: &[Member]) -> Result<(), ZoningFault>
         ensures accepted { OnOk result (CanPutZone self.old name members.now) }
         ensures ok { OnOk result (self.new ≡ record self.old { zones = map.insert self.old.zones name (set.from_list members.now) }) }
+        ensures sound { OnOk result (IsSound self.old → IsSound self.new) }
         ensures refused { IfErr result (IsPutZoneFault self.old name members.now) }
         ensures err { OnErr result (self.new ≡ self.old) }
     {
@@ -216,6 +291,7 @@ impl<A: Allocator + Copy> Zoning<A> {
     pub fn drop_zone(&mut self, name: &Name) -> Result<(), ZoningFault>
         ensures accepted { OnOk result (CanDropZone self.old name.now) }
         ensures ok { OnOk result (self.new ≡ record self.old { zones = map.remove self.old.zones name.now }) }
+        ensures sound { OnOk result (IsSound self.old → IsSound self.new) }
         ensures refused { IfErr result (IsDropZoneFault self.old name.now) }
         ensures err { OnErr result (self.new ≡ self.old) }
     {
@@ -238,6 +314,7 @@ impl<A: Allocator + Copy> Zoning<A> {
     pub fn put_set(&mut self, name: Name, zones: &[Name]) -> Result<(), ZoningFault>
         ensures accepted { OnOk result (CanPutSet self.old name zones.now) }
         ensures ok { OnOk result (self.new ≡ record self.old { sets = map.insert self.old.sets name (set.from_list zones.now) }) }
+        ensures sound { OnOk result (IsSound self.old → IsSound self.new) }
         ensures refused { IfErr result (IsPutSetFault self.old name zones.now) }
         ensures err { OnErr result (self.new ≡ self.old) }
     {
@@ -262,6 +339,7 @@ impl<A: Allocator + Copy> Zoning<A> {
     pub fn drop_set(&mut self, name: &Name) -> Result<(), ZoningFault>
         ensures known { OnOk result (map.contains_key self.old.sets name.now ≡ true) }
         ensures ok { OnOk result (self.new ≡ record self.old { sets = map.remove self.old.sets name.now }) }
+        ensures sound { OnOk result (IsSound self.old → IsSound self.new) }
         ensures refused { IfErr result (IsDropSetFault self.old name.now) }
         ensures err { OnErr result (self.new ≡ self.old) }
     {
@@ -281,8 +359,9 @@ impl<A: Allocator + Copy> Zoning<A> {
     pub fn activate(&mut self, name: &Name) -> Result<(), ZoningFault>
         ensures known { OnOk result (map.contains_key self.old.sets name.now ≡ true) }
         ensures rows { OnOk result (AreResolved self.old name.now self.new.rows) }
-        ensures few { OnOk result (set.len self.new.rows ≤ 65536) }
+        ensures few { OnOk result (set.len self.new.rows ≤ most_rows) }
         ensures rest { OnOk result (self.new ≡ record self.old { active = Some name.now; rows = self.new.rows }) }
+        ensures sound { OnOk result (IsSound self.old → IsSound self.new) }
         ensures refused { IfErr result (IsActivateFault self.old name.now) }
         ensures err { OnErr result (self.new ≡ self.old) }
     {
@@ -296,7 +375,8 @@ impl<A: Allocator + Copy> Zoning<A> {
 
     /// Leaves no zone set active, also where none was.
     pub fn deactivate(&mut self)
-        ensures { self.new ≡ record self.old { active = None; rows = set.empty } }
+        ensures inactive { self.new ≡ record self.old { active = None; rows = set.empty } }
+        ensures sound { IsSound self.old → IsSound self.new }
     {
         self.rows = ActiveRows::new(self.alloc);
         self.active = None;
@@ -309,9 +389,10 @@ impl<A: Allocator + Copy> Zoning<A> {
     /// `AllocError` where there is no memory. The zoning is then as it was.
     pub fn set_active(&mut self, name: Name, rows: &[(Name, Member)]) -> Result<(), AllocError>
         requires some { 0 < length rows.now }
-        requires few { length rows.now ≤ 65536 }
+        requires few { length rows.now ≤ most_rows }
         requires plain { All (λ row. IsPlain row.1) rows.now }
         ensures ok { OnOk result (self.new ≡ record self.old { active = Some name; rows = set.from_list rows.now }) }
+        ensures sound { OnOk result (IsSound self.old → IsSound self.new) }
         ensures err { OnErr result (self.new ≡ self.old) }
     {
         self.rows = rows_of(self.alloc, rows)?;
@@ -369,6 +450,65 @@ impl<A: Allocator + Copy> Zoning<A> {
         self.flag
     }
 
+    /// The members of an alias.
+    pub fn alias(&self, name: &Name) -> Option<&BTreeSet<Member, A>>
+        ensures { option_map (seen_set member_cmp) (option_copied result) ≡ map.get self.now.aliases name.now }
+    {
+        self.aliases.get(name)
+    }
+
+    /// The members of a zone.
+    pub fn zone(&self, name: &Name) -> Option<&BTreeSet<Member, A>>
+        ensures { option_map (seen_set member_cmp) (option_copied result) ≡ map.get self.now.zones name.now }
+    {
+        self.zones.get(name)
+    }
+
+    /// The zones of a zone set.
+    pub fn zone_set(&self, name: &Name) -> Option<&BTreeSet<Name, A>>
+        ensures { option_map (seen_set name_cmp) (option_copied result) ≡ map.get self.now.sets name.now }
+    {
+        self.sets.get(name)
+    }
+
+    /// The aliases with their members, in the order of their names.
+    pub fn aliases(&self) -> Iter<'_, Name, BTreeSet<Member, A>>
+        ensures aliases { seen_sets name_cmp member_cmp result ≡ self.now.aliases }
+        ensures ordered { IsStrictlySortedBy name_cmp (keys_of result) }
+    {
+        self.aliases.iter()
+    }
+
+    /// The zones with their members, in the order of their names.
+    pub fn zones(&self) -> Iter<'_, Name, BTreeSet<Member, A>>
+        ensures zones { seen_sets name_cmp member_cmp result ≡ self.now.zones }
+        ensures ordered { IsStrictlySortedBy name_cmp (keys_of result) }
+    {
+        self.zones.iter()
+    }
+
+    /// The zone sets with their zones, in the order of their names.
+    pub fn zone_sets(&self) -> Iter<'_, Name, BTreeSet<Name, A>>
+        ensures sets { seen_sets name_cmp name_cmp result ≡ self.now.sets }
+        ensures ordered { IsStrictlySortedBy name_cmp (keys_of result) }
+    {
+        self.sets.iter()
+    }
+
+    /// The first zone by name that names the alias.
+    pub fn user_of_alias(&self, alias: &Name) -> Option<&Name>
+        ensures { MatchOption result (HasNoUser self.now.zones (Alias alias.now)) (λ zone. IsFirstUser self.now.zones (Alias alias.now) zone.now) }
+    {
+        first_user(&self.zones, &Member::Alias(*alias))
+    }
+
+    /// The first zone set by name that names the zone.
+    pub fn user_of_zone(&self, zone: &Name) -> Option<&Name>
+        ensures { MatchOption result (HasNoUser self.now.sets zone.now) (λ zone_set. IsFirstUser self.now.sets zone.now zone_set.now) }
+    {
+        first_user(&self.sets, zone)
+    }
+
     /// Whether the row of a zone and a member is active. It takes no memory.
     pub fn has_active(&self, zone: &Name, member: &Member) -> bool
         ensures { result ≡ set.contains self.now.rows (zone.now, member.now) }
@@ -381,6 +521,22 @@ impl<A: Allocator + Copy> Zoning<A> {
         ensures { IsTrue result ↔ Holds self.now.rows port.now zone.now }
     {
         self.rows.zones_of(port).contains(zone)
+    }
+
+    /// The zones of the active set that have the port, wherever it is logged in: those with its
+    /// N_Port_Name, those with its Node_Name and those with its place. It takes no memory.
+    pub fn zones_of(&self, port: &Port) -> PortZones<'_, A>
+        ensures { (z : List ℕ) → (in_zones result z ≡ true) ↔ Holds self.now.rows port.now z }
+    {
+        self.rows.zones_of(port)
+    }
+
+    /// The active rows: the zones in which each member is, in the order of the members.
+    pub fn active_zones(&self) -> Iter<'_, Member, BTreeSet<Name, A>>
+        ensures rows { seen_rows result ≡ self.now.rows }
+        ensures ordered { IsStrictlySortedBy member_cmp (keys_of result) }
+    {
+        self.rows.zones_by_member()
     }
 
     /// An equal zoning.

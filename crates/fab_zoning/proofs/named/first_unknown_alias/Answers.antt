@@ -1,14 +1,28 @@
-use Rattle.std.proofs.Common.{ℕ, List, Bool, sym, ◌∙◌, subst, arith}
+use Rattle.std.proofs.Common.{◌≡◌, ℕ, List, Bool, true, false, refl, sym, ap, ◌∙◌, subst, arith}
+use mathlib.Core.Bool.{true≢false}
 use Rattle.std.specs.FinMap as map
 use Rattle.fab_names.specs.declared.member.Member.{Member}
+use Rattle.fab_names.specs.declared.member.Member.TheVariants as member
 use Rattle.fab_names.specs.Orders.{name_cmp, member_cmp}
 use Rattle.fab_names.proofs.OrderLaws.{name_total}
-use Rattle.fab_zoning.specs.MapsOfSets.{seen_sets}
-use Rattle.fab_zoning.specs.Steps.{NamesKnown, IsFirstWithout}
-use Rattle.fab_zoning.proofs.MapsOfSets.{knows_seen}
-use Rattle.fab_zoning.proofs.Scans.{scan_more, scan_end, scan_hit, known_alias, unknown_alias}
+use Rattle.fab_maps.specs.MapsOfSets.{seen_sets}
+use Rattle.fab_zoning.specs.Steps.{NamesKnown}
+use Rattle.fab_maps.specs.Firsts.{IsFirstWithout}
+use Rattle.fab_maps.proofs.MapsOfSets.{knows_seen}
+use Rattle.fab_maps.proofs.Scans.{scan_more, scan_end, scan_hit}
 use Rattle.fab_zoning.proofs.named.first_unknown_alias.Goals as goal
 use Rattle.fab_zoning.proofs.named.first_unknown_alias.Goals.{in-Alias+else-not-contains_key, in_default}
+
+one_alias : (a b : List ℕ) → member.Alias a ≡ member.Alias b → a ≡ b
+one_alias a b e = cc
+
+-- an alias whose name is known
+known_alias : (known : List ℕ → Bool) (m : Member) (a : List ℕ) → m ≡ member.Alias a → known a ≡ true → NamesKnown known m
+known_alias known m a is there b also = ap known (one_alias b a (sym also ∙ is)) ∙ there
+
+-- and one whose name is not
+unknown_alias : (known : List ℕ → Bool) (a : List ℕ) → known a ≡ false → ¬ NamesKnown known (member.Alias a)
+unknown_alias known a absent all = true≢false (sym (all a refl) ∙ absent)
 
 pub returns-then-not-contains_key : goal.returns-then-not-contains_key
 returns-then-not-contains_key g c =

@@ -1,27 +1,19 @@
-use Rattle.std.proofs.Common.{◌≡◌, Bool, true, false, not, refl, sym, ◌∙◌}
+use Rattle.std.proofs.Common.{Bool, true, false}
 use Rattle.std.specs.Bool.{OnTrue, OnFalse}
 use Rattle.fab_names.proofs.OrderLaws.{name_total}
-use Rattle.fab_zoning.proofs.MapsOfSets as maps
+use Rattle.fab_maps.proofs.MapsOfSets.{sets_full, sets_have_room}
 use Rattle.fab_zoning.proofs.named.is_full.Goals as goal
 
-on_true_not : (P : Type 0) (b : Bool) → (b ≡ false → P) → OnTrue (not b) P
-on_true_not P true h = tt
-on_true_not P false h = h refl
+true_as : (P Q : Type 0) (b : Bool) → (P → Q) → OnTrue b P → OnTrue b Q
+true_as P Q true f h = f h
+true_as P Q false f h = tt
 
-on_false_not : (P : Type 0) (b : Bool) → (b ≡ true → P) → OnFalse (not b) P
-on_false_not P true h = h refl
-on_false_not P false h = tt
+false_as : (P Q : Type 0) (b : Bool) → (P → Q) → OnFalse b P → OnFalse b Q
+false_as P Q true f h = tt
+false_as P Q false f h = f h
 
-on_false : (P : Type 0) (b : Bool) → P → OnFalse b P
-on_false P true h = tt
-on_false P false h = h
+pub returns-clause-full : goal.returns-clause-full
+returns-clause-full g c = true_as _ _ c.is_full.result (sets_full g.K.Ord.cmp name_total c.args.sets.now c.args.name.now c.args.most) c.is_full.ensures.full
 
-pub returns-then-len-most-clause-full : goal.returns-then-len-most-clause-full
-returns-then-len-most-clause-full g c =
-    on_true_not _ c.contains_key.result (λ absent. maps.is_full g.K.Ord.cmp name_total c.args.sets.now c.args.name.now c.args.most c.len.result c.len.ensures.ordered c.len.ensures.len c.if-len-most.true (sym c.contains_key.ensures ∙ absent))
-
-pub returns-then-len-most-clause-room : goal.returns-then-len-most-clause-room
-returns-then-len-most-clause-room g c = on_false_not _ c.contains_key.result (λ there. maps.room_there g.K.Ord.cmp name_total c.args.sets.now c.args.name.now c.args.most (sym c.contains_key.ensures ∙ there))
-
-pub returns-else-len-most-clause-room : goal.returns-else-len-most-clause-room
-returns-else-len-most-clause-room g c = on_false _ _ (maps.room_beside g.K.Ord.cmp name_total c.args.sets.now c.args.name.now c.args.most c.len.result c.len.ensures.ordered c.len.ensures.len c.if-len-most.false)
+pub returns-clause-room : goal.returns-clause-room
+returns-clause-room g c = false_as _ _ c.is_full.result (sets_have_room g.K.Ord.cmp name_total c.args.sets.now c.args.name.now c.args.most) c.is_full.ensures.room

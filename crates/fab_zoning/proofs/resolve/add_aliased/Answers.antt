@@ -4,8 +4,9 @@ use Rattle.fab_names.specs.declared.member.Member.{Member}
 use Rattle.std.specs.BTreeMap as tree
 use Rattle.fab_names.specs.Orders.{name_cmp}
 use Rattle.fab_names.proofs.OrderLaws.{member_total, member_exact}
-use Rattle.fab_zoning.specs.Adding.{Adds, AddsOnly, AliasRow}
-use Rattle.fab_zoning.proofs.Searches.{walked, walk_end}
+use Rattle.fab_zoning.specs.Inner.Adding.{AliasRow}
+use Rattle.fab_zoning.proofs.Adding.{AddsRows, AddsRowsOnly}
+use Rattle.fab_maps.proofs.Walks.{walked, walk_end}
 use Rattle.fab_zoning.proofs.Adding.{before_none, before_more, before_all, before_stop, adds_alias, only_alias, adds_unknown, adds_no_alias}
 use Rattle.fab_zoning.proofs.resolve.add_aliased.Goals as goal
 
@@ -17,7 +18,7 @@ loop-member-preserved-in-Continue-1 g c = (
   c.loop-member.invariant.0 ++ c.in-Some.member.now ∷ [],
   walked c.args.members.now.keys c.loop-member.invariant.0 c.loop-member.member-iterator c.next.new.self c.in-Some.member.now c.loop-member.invariant.1 c.in-Some.ensures.steps,
   before_more (AliasRow c.args.aliases.now c.args.zone) c.loop-member.invariant.0 c.in-Some.member.now c.args.rows.now c.loop-member.rows c.add_plain.new.rows c.loop-member.invariant.2
-      (subst (λ (m : Member). Adds (AliasRow c.args.aliases.now c.args.zone m) c.loop-member.rows c.add_plain.new.rows) (sym c.in-Alias.is)
+      (subst (λ (m : Member). AddsRows (AliasRow c.args.aliases.now c.args.zone m) c.loop-member.rows c.add_plain.new.rows) (sym c.in-Alias.is)
       (adds_alias c.args.aliases.now c.args.zone c.in-Alias.alias c.in-Some-get.own.now c.loop-member.rows c.add_plain.new.rows (sym {b = tree.get name_cmp c.args.aliases.now c.in-Alias.alias} c.in-Some-get.ensures.value) c.in_ok-add_plain.ensures.ok.0)),
   c.in_ok-add_plain.ensures.ok.1,
 )
@@ -29,7 +30,7 @@ returns-in_err-add_plain-clause-err g c =
     rw (p.1, p.2) (
       before_stop (AliasRow c.args.aliases.now c.args.zone) member_total member_exact c.args.members.now c.loop-member.invariant.0 c.loop-member.member-iterator c.next.new.self c.in-Some.member.now c.args.rows.now c.loop-member.rows
           c.add_plain.new.rows c.loop-member.invariant.1 c.in-Some.ensures.steps c.loop-member.invariant.2
-          (subst (λ (m : Member). AddsOnly (AliasRow c.args.aliases.now c.args.zone m) c.loop-member.rows c.add_plain.new.rows) (sym c.in-Alias.is)
+          (subst (λ (m : Member). AddsRowsOnly (AliasRow c.args.aliases.now c.args.zone m) c.loop-member.rows c.add_plain.new.rows) (sym c.in-Alias.is)
           (only_alias c.args.aliases.now c.args.zone c.in-Alias.alias c.in-Some-get.own.now c.loop-member.rows c.add_plain.new.rows (sym {b = tree.get name_cmp c.args.aliases.now c.in-Alias.alias} c.in-Some-get.ensures.value) stopped.0)),
       stopped.1,
     )
@@ -39,7 +40,7 @@ loop-member-preserved-in_default-get g c = (
   c.loop-member.invariant.0 ++ c.in-Some.member.now ∷ [],
   walked c.args.members.now.keys c.loop-member.invariant.0 c.loop-member.member-iterator c.next.new.self c.in-Some.member.now c.loop-member.invariant.1 c.in-Some.ensures.steps,
   before_more (AliasRow c.args.aliases.now c.args.zone) c.loop-member.invariant.0 c.in-Some.member.now c.args.rows.now c.loop-member.rows c.loop-member.rows c.loop-member.invariant.2
-      (subst (λ (m : Member). Adds (AliasRow c.args.aliases.now c.args.zone m) c.loop-member.rows c.loop-member.rows) (sym c.in-Alias.is)
+      (subst (λ (m : Member). AddsRows (AliasRow c.args.aliases.now c.args.zone m) c.loop-member.rows c.loop-member.rows) (sym c.in-Alias.is)
       (adds_unknown c.args.aliases.now c.args.zone c.in-Alias.alias c.loop-member.rows (sym c.in_default-get.ensures.value))),
   c.loop-member.invariant.3,
 )

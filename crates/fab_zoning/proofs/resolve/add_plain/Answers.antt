@@ -2,8 +2,9 @@ use Rattle.std.proofs.Common.{◌∷◌, [], ◌++◌, sym, subst}
 use Rattle.std.proofs.lemmas.Result.{err_from_is_err_and}
 use Rattle.fab_names.specs.declared.member.Member.{Member}
 use Rattle.fab_names.proofs.OrderLaws.{member_total, member_exact}
-use Rattle.fab_zoning.specs.Adding.{Adds, PlainRow}
-use Rattle.fab_zoning.proofs.Searches.{walked, walk_end}
+use Rattle.fab_zoning.specs.Inner.Adding.{PlainRow}
+use Rattle.fab_zoning.proofs.Adding.{AddsRows}
+use Rattle.fab_maps.proofs.Walks.{walked, walk_end}
 use Rattle.fab_zoning.proofs.Adding.{before_none, before_more, before_all, before_stop, adds_plain, only_plain, adds_no_plain}
 use Rattle.fab_zoning.proofs.resolve.add_plain.Goals as goal
 
@@ -15,7 +16,7 @@ loop-member-preserved-in-Alias g c = (
   c.loop-member.invariant.0 ++ c.in-Some.member.now ∷ [],
   walked c.args.members.now.keys c.loop-member.invariant.0 c.loop-member.member-iterator c.next.new.self c.in-Some.member.now c.loop-member.invariant.1 c.in-Some.ensures.steps,
   before_more (PlainRow c.args.zone) c.loop-member.invariant.0 c.in-Some.member.now c.args.rows.now c.loop-member.rows c.loop-member.rows c.loop-member.invariant.2
-      (subst (λ (m : Member). Adds (PlainRow c.args.zone m) c.loop-member.rows c.loop-member.rows) (sym c.in-Alias.is) (adds_no_plain c.args.zone c.in-Alias.field-0 c.loop-member.rows)),
+      (subst (λ (m : Member). AddsRows (PlainRow c.args.zone m) c.loop-member.rows c.loop-member.rows) (sym c.in-Alias.is) (adds_no_plain c.args.zone c.in-Alias.field-0 c.loop-member.rows)),
   c.loop-member.invariant.3,
 )
 

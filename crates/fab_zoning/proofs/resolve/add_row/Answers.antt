@@ -3,8 +3,8 @@ use Rattle.fab_zoning.specs.Rows.{Row}
 use Rattle.fab_zoning.proofs.Adding.{adds_one, only_from}
 use Rattle.fab_zoning.proofs.resolve.add_row.Goals as goal
 
-pub returns-then-len-gt-MOST_ROWS-clause-err : goal.returns-then-len-gt-MOST_ROWS-clause-err
-returns-then-len-gt-MOST_ROWS-clause-err g c =
+pub returns-then-count-gt-MOST_ROWS-clause-err : goal.returns-then-count-gt-MOST_ROWS-clause-err
+returns-then-count-gt-MOST_ROWS-clause-err g c =
     let r : Row = (c.args.zone, c.args.member) in (
       only_from (λ (q : Row). q ≡ r) c.args.rows.now c.insert.new.self (adds_one c.args.rows.now c.insert.new.self r c.in_ok-insert.ensures.ok),
       omega arith,

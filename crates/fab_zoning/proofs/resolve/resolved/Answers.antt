@@ -5,8 +5,10 @@ use Rattle.std.proofs.lemmas.Result.{err_from_is_err_and}
 use Rattle.fab_names.specs.Orders.{name_cmp}
 use Rattle.fab_names.proofs.OrderLaws.{name_total, name_exact}
 use Rattle.fab_zoning.specs.Rows.{Rows, row_cmp}
-use Rattle.fab_zoning.specs.Adding.{Adds, Among, ZoneRow}
-use Rattle.fab_zoning.proofs.Searches.{walked, walk_end}
+use Rattle.fab_maps.specs.Adding.{Among}
+use Rattle.fab_zoning.specs.Inner.Adding.{ZoneRow}
+use Rattle.fab_zoning.proofs.Adding.{AddsRows}
+use Rattle.fab_maps.proofs.Walks.{walked, walk_end}
 use Rattle.fab_zoning.proofs.Adding.{Before, before_none, before_more, before_all, before_stop, adds_zone, only_zone, only_zone_plain, adds_no_zone, stopped}
 use Rattle.fab_zoning.proofs.resolve.resolved.Goals as goal
 
@@ -14,7 +16,7 @@ pub loop-zone-init : goal.loop-zone-init
 loop-zone-init g c = (
   [],
   sym c.into_iter-zone-iterator.ensures.into_iter_gives.0,
-  subst (λ (s : Rows). Adds (Before (ZoneRow c.args.aliases.now c.args.zones.now) []) set.empty s) (sym c.new-rows.ensures) (before_none (ZoneRow c.args.aliases.now c.args.zones.now) set.empty),
+  subst (λ (s : Rows). AddsRows (Before (ZoneRow c.args.aliases.now c.args.zones.now) []) set.empty s) (sym c.new-rows.ensures) (before_none (ZoneRow c.args.aliases.now c.args.zones.now) set.empty),
   let none = ap (λ (s : Rows). set.len s) c.new-rows.ensures ∙ set.len-empty row_cmp in omega (arith, none),
 )
 

@@ -1,5 +1,8 @@
 use Rattle.std.proofs.Common.{◌||◌}
-use Rattle.fab_zoning.specs.PortZones.{in_set, in_zones}
+use Rattle.std.specs.Option.{option_copied}
+use Rattle.fab_names.specs.Orders.{name_cmp}
+use Rattle.fab_maps.specs.MapsOfSets.{in_tree}
+use Rattle.fab_zoning.specs.PortZones.{in_zones}
 use Rattle.fab_zoning.proofs.PortZoneLemmas.{first_of_either}
 use Rattle.fab_zoning.proofs.port_zones.PortZones.first_common.Goals as goal
 
@@ -7,5 +10,5 @@ pub returns : goal.returns
 returns g c =
     let p = c.args.self.now in
     let t = in_zones c.args.other.now in
-    let later = first_of_either (in_set p.by_node) (in_set p.by_place) t _ _ _ c.first_in-by_node.ensures c.first_in-by_place.ensures c.lesser.ensures in
-    first_of_either (in_set p.by_port) (λ z. in_set p.by_node z || in_set p.by_place z) t _ _ _ c.first_in-by_port.ensures later c.lesser-2.ensures
+    let later = first_of_either (in_tree name_cmp (option_copied p.by_node)) (in_tree name_cmp (option_copied p.by_place)) t _ _ _ c.first_in-by_node.ensures c.first_in-by_place.ensures c.lesser.ensures in
+    first_of_either (in_tree name_cmp (option_copied p.by_port)) (λ z. in_tree name_cmp (option_copied p.by_node) z || in_tree name_cmp (option_copied p.by_place) z) t _ _ _ c.first_in-by_port.ensures later c.lesser-2.ensures

@@ -1,13 +1,14 @@
-use Rattle.std.proofs.Common.{sym, ap, ◌∙◌, true, false, arith}
+use Rattle.std.proofs.Common.{◌+◌, ◌≤◌, min, sym, ap, ◌∙◌, subst, true, false, arith}
 use Rattle.std.specs.FinSet as set
 use Rattle.std.proofs.lemmas.Result.{err_from_is_err_and}
+use Rattle.fab_zoning.specs.Limits.{most_rows}
 use Rattle.fab_zoning.specs.Rows.{Rows}
 use Rattle.fab_zoning.specs.Views.{seen_rows}
-use Rattle.fab_zoning.proofs.RowSets.{grown}
+use Rattle.fab_zoning.proofs.RowSets.{count_grown}
 use Rattle.fab_zoning.proofs.rows.ActiveRows.insert.Goals as goal
 
 pub invariant_of-self : goal.invariant_of-self
-invariant_of-self g c = (c.add_zone.ensures.ordered, c.self.invariant.1 ∙ sym (ap (λ es. set.len (seen_rows es)) c.in_err-add_zone.ensures.err))
+invariant_of-self g c = (c.add_zone.ensures.ordered, c.self.invariant.1 ∙ sym (ap (λ es. min (set.len (seen_rows es)) (most_rows + 1)) c.in_err-add_zone.ensures.err))
 
 pub returns-in_err-add_zone-clause-err : goal.returns-in_err-add_zone-clause-err
 returns-in_err-add_zone-clause-err g c =
@@ -17,21 +18,22 @@ returns-in_err-add_zone-clause-err g c =
 pub overflow_add-self : goal.overflow_add-self
 overflow_add-self g c =
     let few = c.requires in
-    let len = c.self.invariant.1 ∙ ap set.len c.self.view_is in
-    omega (arith, few, len)
+    let count = c.self.invariant.1 in
+    let len = ap (λ (s : Rows). set.len s) c.self.view_is in
+    omega (arith, few, count, len)
 
 pub invariant_of-self-then-branch : goal.invariant_of-self-then-branch
 invariant_of-self-then-branch g c = (
   c.add_zone.ensures.ordered,
-  grown (seen_rows c.self.inside.zones_by_member.entries) (seen_rows c.add_zone.new.zones_by_member.entries) (c.args.zone, c.args.member) c.self.inside.len c.in_ok-add_zone.field-0 true c.self.invariant.1
-      c.in_ok-add_zone.ensures.ok c.in_ok-add_zone.ensures.is_new c.if-branch.true,
+  count_grown (seen_rows c.self.inside.zones_by_member.entries) (seen_rows c.add_zone.new.zones_by_member.entries) (c.args.zone, c.args.member) c.self.inside.count c.in_ok-add_zone.field-0 true c.self.invariant.1
+      (subst (λ (s : Rows). set.len s ≤ most_rows) (sym c.self.view_is) c.requires) c.in_ok-add_zone.ensures.ok c.in_ok-add_zone.ensures.is_new c.if-branch.true,
 )
 
 pub invariant_of-self-else-branch : goal.invariant_of-self-else-branch
 invariant_of-self-else-branch g c = (
   c.add_zone.ensures.ordered,
-  grown (seen_rows c.self.inside.zones_by_member.entries) (seen_rows c.add_zone.new.zones_by_member.entries) (c.args.zone, c.args.member) c.self.inside.len c.in_ok-add_zone.field-0 false c.self.invariant.1
-      c.in_ok-add_zone.ensures.ok c.in_ok-add_zone.ensures.is_new c.if-branch.false,
+  count_grown (seen_rows c.self.inside.zones_by_member.entries) (seen_rows c.add_zone.new.zones_by_member.entries) (c.args.zone, c.args.member) c.self.inside.count c.in_ok-add_zone.field-0 false c.self.invariant.1
+      (subst (λ (s : Rows). set.len s ≤ most_rows) (sym c.self.view_is) c.requires) c.in_ok-add_zone.ensures.ok c.in_ok-add_zone.ensures.is_new c.if-branch.false,
 )
 
 pub returns-then-branch-clause-ok : goal.returns-then-branch-clause-ok

@@ -9,18 +9,16 @@ use Rattle.fab_names.specs.declared.member.Member.TheVariants as member
 use Rattle.fab_names.specs.Orders.{name_cmp, member_cmp}
 use Rattle.fab_zoning.specs.Rows.{Rows}
 use Rattle.fab_zoning.specs.Views.{seen_rows}
-use Rattle.fab_zoning.specs.MapsOfSets.{in_tree}
-use Rattle.fab_zoning.specs.PortZones.{in_set}
+use Rattle.fab_maps.specs.MapsOfSets.{in_tree}
 use Rattle.fab_zoning.proofs.RowSets.{ByMember, contains_seen}
-use Rattle.fab_zoning.proofs.PortZoneLemmas.{in_set_copied}
 use Rattle.fab_zoning.proofs.Reasons.{held_exactly}
 use Rattle.fab_zoning.proofs.rows.ActiveRows.zones_of.Goals as goal
 use Rattle.fab_zoning.proofs.rows.ActiveRows.zones_of.Goals.{in-Some, in-None}
 
 -- what was found at a member tells which of its rows are there
 found_at : (rows : Rows) (t : ByMember) → seen_rows t.entries ≡ rows → tree.IsOrdered member_cmp t → (z : List ℕ) (m : Member) (o : Option (Bor (BTreeSet (List ℕ)))) → option_copied o ≡ tree.get member_cmp t m
-    → set.contains rows (z, m) ≡ in_set o z
-found_at rows t seen sorted z m o is = sym (ap (λ (r : Rows). set.contains r (z, m)) seen) ∙ contains_seen t sorted z m ∙ sym (in_set_copied o z ∙ ap (λ x. in_tree name_cmp x z) is)
+    → set.contains rows (z, m) ≡ in_tree name_cmp (option_copied o) z
+found_at rows t seen sorted z m o is = sym (ap (λ (r : Rows). set.contains r (z, m)) seen) ∙ contains_seen t sorted z m ∙ ap (λ x. in_tree name_cmp x z) (sym is)
 
 pub returns : goal.returns
 returns g c z =
@@ -31,9 +29,9 @@ returns g c z =
     let by_node = found_at rows t c.self.view_is c.self.invariant.0 z (member.Node p.node) c.get-2.result c.get-2.ensures.value in
     elim c.match-port.branch [
       | in-Some w ↦
-          held_exactly rows p z (in_set c.get.result z) (in_set c.get-2.result z) (in_set c.match-port.result z) by_port by_node (Some (w.in-Some.field-0-0, w.in-Some.place)) w.in-Some.is
-          (found_at rows t c.self.view_is c.self.invariant.0 z (member.Place w.in-Some.place) w.get-in-Some.result w.get-in-Some.ensures.value ∙ ap (λ (o : Option (Bor (BTreeSet (List ℕ)))). in_set o z) (sym w.result-is))
+          held_exactly rows p z (in_tree name_cmp (option_copied c.get.result) z) (in_tree name_cmp (option_copied c.get-2.result) z) (in_tree name_cmp (option_copied c.match-port.result) z) by_port by_node (Some (w.in-Some.field-0-0, w.in-Some.place)) w.in-Some.is
+          (found_at rows t c.self.view_is c.self.invariant.0 z (member.Place w.in-Some.place) w.get-in-Some.result w.get-in-Some.ensures.value ∙ ap (λ (o : Option (Bor (BTreeSet (List ℕ)))). in_tree name_cmp (option_copied o) z) (sym w.result-is))
       | in-None w ↦
-          held_exactly rows p z (in_set c.get.result z) (in_set c.get-2.result z) (in_set c.match-port.result z) by_port by_node None w.in-None.is
-          (ap (λ (o : Option (Bor (BTreeSet (List ℕ)))). in_set o z) w.result-is)
+          held_exactly rows p z (in_tree name_cmp (option_copied c.get.result) z) (in_tree name_cmp (option_copied c.get-2.result) z) (in_tree name_cmp (option_copied c.match-port.result) z) by_port by_node None w.in-None.is
+          (ap (λ (o : Option (Bor (BTreeSet (List ℕ)))). in_tree name_cmp (option_copied o) z) w.result-is)
     ]

@@ -3,10 +3,12 @@ use Rattle.std.specs.FinMap as map
 use Rattle.fab_names.specs.Orders.{member_cmp}
 use Rattle.fab_names.proofs.OrderLaws.{name_total, name_exact}
 use Rattle.fab_names.specs.declared.member.Member.TheVariants.{Alias}
-use Rattle.fab_zoning.specs.MapsOfSets.{HasNoUser, IsFirstUser}
+use Rattle.fab_maps.specs.MapsOfSets.{HasNoUser, IsFirstUser}
 use Rattle.fab_zoning.specs.Zonings.{FabricZoning}
-use Rattle.fab_zoning.proofs.MapsOfSets.{knows_seen, seen_remove}
+use Rattle.fab_maps.proofs.MapsOfSets.{knows_seen, seen_remove}
 use Rattle.fab_zoning.proofs.Changes.{aliases_dropped}
+use Rattle.fab_zoning.specs.Soundness.{IsSound}
+use Rattle.fab_zoning.proofs.Keeping.{drop_alias_keeps}
 use Rattle.fab_zoning.proofs.zoning.Zoning.drop_alias.Goals as goal
 
 pub returns-then-not-contains_key-clause-refused : goal.returns-then-not-contains_key-clause-refused
@@ -30,3 +32,6 @@ returns-clause-accepted g c = record {
   known = ap (λ (v : FabricZoning). map.contains_key v.aliases c.args.name.now) (sym c.self.view_is) ∙ knows_seen member_cmp name_total c.self.inside.aliases c.args.name.now ∙ sym c.contains_key.ensures ∙ c.if-not-contains_key.false;
   unused = subst (λ (v : FabricZoning). HasNoUser v.zones (Alias c.args.name.now)) c.self.view_is c.in_default.ensures;
 }
+
+pub returns-clause-sound : goal.returns-clause-sound
+returns-clause-sound g c sound = subst IsSound (sym (returns-clause-ok g c)) (drop_alias_keeps c.args.self.now sound c.args.name.now (returns-clause-accepted g c))

@@ -1,0 +1,14 @@
+use Rattle.std.proofs.Common.{sym, ap, ◌∙◌}
+use Rattle.std.specs.Option.{option_map}
+use Rattle.std.specs.FinMap as map
+use Rattle.fab_names.specs.Orders.{member_cmp}
+use Rattle.fab_names.proofs.OrderLaws.{name_total}
+use Rattle.fab_maps.specs.MapsOfSets.{seen_set}
+use Rattle.fab_maps.proofs.MapsOfSets.{get_seen}
+use Rattle.fab_zoning.specs.Zonings.{FabricZoning}
+use Rattle.fab_zoning.proofs.zoning.Zoning.alias.Goals as goal
+
+pub returns : goal.returns
+returns g c =
+    ap (option_map (seen_set member_cmp)) c.get.ensures.value ∙ sym (get_seen member_cmp name_total c.self.inside.aliases c.args.name.now)
+    ∙ ap (λ (v : FabricZoning). map.get v.aliases c.args.name.now) c.self.view_is
