@@ -50,4 +50,3 @@ one_member text (member.Alias a) (member.Port m) s t = absurd (omega (arith, ap 
 one_member text (member.Alias a) (member.Node m) s t = absurd (omega (arith, ap (λ (x : List ℕ). get_or x 0 0) (sym s.1 ∙ t.1)))
 one_member text (member.Alias a) (member.Place q) s t = absurd (omega (arith, ap (λ (x : List ℕ). get_or x 0 0) (sym s.1 ∙ t.1)))
 one_member text (member.Alias a) (member.Alias b) s t = let same : s.0 ≡ t.0 = ap (drop 6) (sym s.1 ∙ t.1) in ap member.Alias (s.2.0 ∙ same ∙ sym t.2.0)
-

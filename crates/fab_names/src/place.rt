@@ -74,7 +74,10 @@ impl Place {
         let Some(slot) = read_number(slot) else {
             return Err(NameFault::BadChar);
         };
-        if domain < FIRST_DOMAIN as u128 || domain > LAST_DOMAIN as u128 || slot > LAST_SLOT as u128 {
+        if domain < FIRST_DOMAIN as u128
+            || domain > LAST_DOMAIN as u128
+            || slot > LAST_SLOT as u128
+        {
             return Err(NameFault::OutOfRange);
         }
         Ok(Place {

@@ -94,8 +94,19 @@ some-row : (text : List ℕ) (records : List Record) (rows : List PortRow) (more
 some-row text records rows [] are spell none sound = none rows (records, subst (λ (rs : List Record). AreAllRecords text (header ∷ rs)) (append-nil records) are, spell)
 some-row text records rows (r ∷ more) are spell none sound =
     let are' : AreAllRecords text (header ∷ (records ++ r ∷ []) ++ more) = subst (λ (rs : List Record). AreAllRecords text (header ∷ rs)) (sym (append_assoc records (r ∷ []) more)) are in
-    sound (length rows + 2) (inr (length rows, refl, (records, rows, r, begins text (header ∷ records ++ r ∷ []) more are', spell,
-    (λ row h. some-row text (records ++ r ∷ []) (rows ++ row ∷ []) more are' (spell-more records rows r row spell h) none sound), refl)))
+    sound (length rows + 2) (inr (
+      length rows,
+      refl,
+      (
+        records,
+        rows,
+        r,
+        begins text (header ∷ records ++ r ∷ []) more are',
+        spell,
+        (λ row h. some-row text (records ++ r ∷ []) (rows ++ row ∷ []) more are' (spell-more records rows r row spell h) none sound),
+        refl,
+      ),
+    ))
 
 some-list-of : (text : List ℕ) (records : List Record) → AreAllRecords text records → ((rows : List PortRow) → ¬ (ListsPorts text rows)) → ((line : ℕ) → ¬ (IsFaultAt text line)) → ⊥
 some-list-of text [] are none sound = sound 1 (inl (refl, inl are))
