@@ -1,5 +1,4 @@
-//! The zoning of one fabric by itself: a table of steps with what each answers and who is joined
-//! then, tables of limits, and what is shown and sound.
+//! The zoning of one fabric by itself: tables of steps, of limits, and of what is shown and sound.
 ghost use Rattle.std.specs.Prelude.{All, IfOk};
 ghost use Rattle.fab_zoning.specs.Rows.{IsPlain};
 
@@ -58,15 +57,14 @@ const I2: usize = 1;
 
 const I3: usize = 2;
 
-const T1: usize = 3;
+const TP1: usize = 3;
 
-const T2: usize = 4;
+const TP2: usize = 4;
 
-const T1_IN_B: usize = 5;
+const TP1_IN_B: usize = 5;
 
 const I1_OUT: usize = 6;
 
-/// A member.
 #[derive(Clone, Copy)]
 enum Item {
     /// A port of the table by its N_Port_Name, and by its Node_Name.
@@ -117,90 +115,93 @@ enum Want {
 
 /// An active set joins the ports of a zone, and no others.
 const ACTIVE_SET: [(Act, Want); 9] = [
-    (Act::Joined(I1, T1), Want::Apart),
+    (Act::Joined(I1, TP1), Want::Apart),
     (
         Act::Zone("z1", Item::Port(I1), Item::Place("1,2")),
         Want::Done,
     ),
     (Act::Set("s1", "z1", "z1"), Want::Done),
     (Act::Activate("s1"), Want::Done),
-    (Act::Joined(I1, T1), Want::ByZone("z1")),
+    (Act::Joined(I1, TP1), Want::ByZone("z1")),
     (Act::Joined(I1, I1), Want::Apart),
-    (Act::Joined(I1, T2), Want::Apart),
-    (Act::Joined(I1, T1_IN_B), Want::Apart),
-    (Act::Joined(I1_OUT, T1), Want::Apart),
+    (Act::Joined(I1, TP2), Want::Apart),
+    (Act::Joined(I1, TP1_IN_B), Want::Apart),
+    (Act::Joined(I1_OUT, TP1), Want::Apart),
 ];
 
 /// The default zone without an active set, and beside zones.
 const DEFAULT_ZONE: [(Act, Want); 11] = [
     (Act::Default(DefaultFlag::Permit), Want::Done),
-    (Act::Joined(I1, T1), Want::ByDefault),
+    (Act::Joined(I1, TP1), Want::ByDefault),
     (Act::Joined(I1, I1), Want::Apart),
-    (Act::Rows("z1", I1, "z1", T1), Want::Done),
-    (Act::Joined(I1, T2), Want::Apart),
-    (Act::Rows("z1", T1, "z1", T1), Want::Done),
-    (Act::Joined(I1, T1), Want::Apart),
-    (Act::Joined(I1, T2), Want::ByDefault),
+    (Act::Rows("z1", I1, "z1", TP1), Want::Done),
+    (Act::Joined(I1, TP2), Want::Apart),
+    (Act::Rows("z1", TP1, "z1", TP1), Want::Done),
+    (Act::Joined(I1, TP1), Want::Apart),
+    (Act::Joined(I1, TP2), Want::ByDefault),
     (Act::Deactivate, Want::Done),
     (Act::Default(DefaultFlag::Deny), Want::Done),
-    (Act::Joined(I1, T1), Want::Apart),
+    (Act::Joined(I1, TP1), Want::Apart),
 ];
 
 /// The first zone by name is why.
 const FIRST_ZONE: [(Act, Want); 8] = [
-    (Act::Zone("z1", Item::Port(I1), Item::Port(T1)), Want::Done),
-    (Act::Zone("z2", Item::Port(I1), Item::Port(T1)), Want::Done),
+    (Act::Zone("z1", Item::Port(I1), Item::Port(TP1)), Want::Done),
+    (Act::Zone("z2", Item::Port(I1), Item::Port(TP1)), Want::Done),
     (Act::Set("s1", "z2", "z1"), Want::Done),
     (Act::Activate("s1"), Want::Done),
-    (Act::Joined(I1, T1), Want::ByZone("z1")),
-    (Act::Rows("z2", I1, "z2", T1), Want::Done),
-    (Act::Joined(I1, T1), Want::ByZone("z2")),
+    (Act::Joined(I1, TP1), Want::ByZone("z1")),
+    (Act::Rows("z2", I1, "z2", TP1), Want::Done),
+    (Act::Joined(I1, TP1), Want::ByZone("z2")),
     (Act::Sound, Want::Done),
 ];
 
 /// A member for several ports.
 const SEVERAL_PORTS: [(Act, Want); 10] = [
     (
-        Act::Zone("z3", Item::Place("12,5"), Item::Port(T1)),
+        Act::Zone("z3", Item::Place("12,5"), Item::Port(TP1)),
         Want::Done,
     ),
     (Act::Set("s1", "z3", "z3"), Want::Done),
     (Act::Activate("s1"), Want::Done),
-    (Act::Joined(I2, T1), Want::ByZone("z3")),
-    (Act::Joined(I3, T1), Want::ByZone("z3")),
+    (Act::Joined(I2, TP1), Want::ByZone("z3")),
+    (Act::Joined(I3, TP1), Want::ByZone("z3")),
     (Act::Joined(I2, I3), Want::ByZone("z3")),
-    (Act::Joined(I2, T2), Want::Apart),
-    (Act::Zone("z3", Item::Node(T1), Item::Node(T1)), Want::Done),
+    (Act::Joined(I2, TP2), Want::Apart),
+    (
+        Act::Zone("z3", Item::Node(TP1), Item::Node(TP1)),
+        Want::Done,
+    ),
     (Act::Activate("s1"), Want::Done),
-    (Act::Joined(T1, T2), Want::ByZone("z3")),
+    (Act::Joined(TP1, TP2), Want::ByZone("z3")),
 ];
 
 /// An alias edit changes nothing active, nor do drops, nor a copy.
 const COPIES: [(Act, Want); 16] = [
-    (Act::Alias("disk", T1), Want::Done),
+    (Act::Alias("disk", TP1), Want::Done),
     (
         Act::Zone("z1", Item::Port(I1), Item::Alias("disk")),
         Want::Done,
     ),
     (Act::Set("s1", "z1", "z1"), Want::Done),
     (Act::Activate("s1"), Want::Done),
-    (Act::Alias("disk", T2), Want::Done),
-    (Act::Joined(I1, T1), Want::ByZone("z1")),
+    (Act::Alias("disk", TP2), Want::Done),
+    (Act::Joined(I1, TP1), Want::ByZone("z1")),
     (Act::Activate("s1"), Want::Done),
-    (Act::Joined(I1, T1), Want::Apart),
-    (Act::Joined(I1, T2), Want::ByZone("z1")),
+    (Act::Joined(I1, TP1), Want::Apart),
+    (Act::Joined(I1, TP2), Want::ByZone("z1")),
     (Act::Copied, Want::Done),
     (Act::DropSet("s1"), Want::Done),
     (Act::DropZone("z1"), Want::Done),
     (Act::DropAlias("disk"), Want::Done),
-    (Act::Joined(I1, T2), Want::ByZone("z1")),
+    (Act::Joined(I1, TP2), Want::ByZone("z1")),
     (Act::Deactivate, Want::Done),
-    (Act::Joined(I1, T2), Want::Apart),
+    (Act::Joined(I1, TP2), Want::Apart),
 ];
 
 /// What is refused, by the first that is named.
 const REFUSALS: [(Act, Want); 16] = [
-    (Act::Alias("disk", T1), Want::Done),
+    (Act::Alias("disk", TP1), Want::Done),
     (
         Act::Zone("z1", Item::Port(I1), Item::Alias("disk")),
         Want::Done,
@@ -662,7 +663,7 @@ enum Wrong {
 
 /// A zoning of an alias, a zone with it, a set with that and the same active, with this wrong.
 fn parts(alloc: Global, wrong: Wrong) -> Result<Zoning<Global>, Fail> {
-    let port = Member::Port(port_name(T1)?);
+    let port = Member::Port(port_name(TP1)?);
     let disk = Name::read("disk")?;
     let zone = Name::read("z1")?;
     let zone_set = Name::read("s1")?;
@@ -775,7 +776,7 @@ fn walked(zoning: &Zoning<Global>) -> [usize; 4] {
 /// Whether the rest of such a zoning is shown as it was given.
 fn rest_is_shown(zoning: &Zoning<Global>) -> Result<bool, Fail> {
     let zone = Name::read("z1")?;
-    let port = port_at(port_name(T1)?, node_name(T1)?, login_of(T1)?);
+    let port = port_at(port_name(TP1)?, node_name(TP1)?, login_of(TP1)?);
     if !zoning.has_active(&zone, &Member::Port(port.name)) {
         return Ok(false);
     }
