@@ -4,22 +4,37 @@
 //! standard error. The scripts in `bench/` make tables of them. It decides nothing in the gate.
 #![tactic(auto)]
 
-mod mappings;
+mod clashes;
+mod holders;
 mod names;
+mod paths;
 mod plans;
 mod policies;
+mod timing;
 mod zonings;
 
 use anyhow::{Context, Result, bail};
 use std::env;
+use std::rt::Clock;
+use timing::{Timed, run_turns};
 
-/// What a case came to, and how long its turns took together.
-#[derive(Clone, Copy)]
-pub struct Timed {
-    /// How much was found or made.
-    pub came_to: usize,
-    /// The nanoseconds of all turns.
-    pub nanos: u128,
+/// Runs a case on the large: makes what it is timed on, and then takes the turns.
+fn run<R: Clock + AllocGlobal>(rt: &R, case: &str, size: u64, turns: u64) -> Result<Timed> {
+    let alloc = rt.alloc();
+    match case {
+        "activate" => run_turns(rt, turns, &mut zonings::ready_zoning(alloc, size)?),
+        "joined" => run_turns(rt, turns, &mut zonings::two_hubs(alloc, size)?),
+        "plan" => run_turns(rt, turns, &mut plans::plan_text(alloc, size)?),
+        "decide" => run_turns(rt, turns, &mut policies::policy_and_act(alloc, size)?),
+        "policy" => run_turns(rt, turns, &mut policies::policy_text(alloc, size)?),
+        "clash" => run_turns(rt, turns, &mut clashes::small_groups(alloc, size)?),
+        "clash-wide" => run_turns(rt, turns, &mut clashes::wide_groups(alloc, size)?),
+        "clash-many" => run_turns(rt, turns, &mut clashes::many_groups(alloc, size)?),
+        "paths" => run_turns(rt, turns, &mut paths::world_of_paths(alloc, size)?),
+        "host" => run_turns(rt, turns, &mut holders::host_put(alloc, size)?),
+        "volume" => run_turns(rt, turns, &mut holders::volume_put(alloc, size)?),
+        _ => bail!("no such case"),
+    }
 }
 
 fn main(rt: HostRuntime) -> Result<()> {
@@ -27,19 +42,10 @@ fn main(rt: HostRuntime) -> Result<()> {
     let [_, case, size, turns] = words.as_slice() else {
         bail!("fab_bench CASE SIZE TURNS");
     };
-    let size = size.as_str().parse::<u64>().context("the size")?;
-    let turns = turns.as_str().parse::<u64>().context("the turns")?;
-    let timed = match case.as_str() {
-        "activate" => zonings::activate(&rt, size, turns)?,
-        "joined" => zonings::joined(&rt, size, turns)?,
-        "plan" => plans::read(&rt, size, turns)?,
-        "decide" => policies::decided(&rt, size, turns)?,
-        "policy" => policies::read(&rt, size, turns)?,
-        "clash" => mappings::clash(&rt, size, turns)?,
-        "host" => mappings::put_host(&rt, size, turns)?,
-        "volume" => mappings::put_volume(&rt, size, turns)?,
-        _ => bail!("no such case"),
-    };
+    let (case, size, turns) = (case.as_str(), size.as_str(), turns.as_str());
+    let size = size.parse::<u64>().context("the size")?;
+    let turns = turns.parse::<u64>().context("the turns")?;
+    let timed = run(&rt, case, size, turns)?;
     let came_to = timed.came_to;
     println!(rt; "{case} {size}: {came_to}")?;
     let each = timed.nanos / u128::from(turns.max(1));

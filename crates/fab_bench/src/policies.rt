@@ -1,17 +1,67 @@
 //! Reading a policy, and its verdicts.
-use crate::Timed;
 use crate::names::name_of;
+use crate::timing::Turn;
 use anyhow::{Result, bail};
 use fab_names::{Fabric, Name};
-use fab_policy::{Act, Action, Approval, PlanApprovals, Policy, Verdict, decide};
+use fab_policy::{Act, Action, Approval, CallerId, PlanApprovals, Policy, Verdict, decide};
 use std::alloc::{AllocError, Global};
-use std::rt::Clock;
-use std::time::Instant;
 
 /// How many tenants and how many approvals there are.
 const TENANTS: u64 = 64;
 
 const APPROVALS: u64 = 16;
+
+/// The fabrics that the act names.
+const FABRICS: [Fabric; 1] = [Fabric::A];
+
+/// What a caller has behind the name and the token.
+const WINDOW: &str = "[[windows]]\nname = \"always\"\nweekly = [[0, 10080]]\n";
+
+/// What a rule has behind its name.
+const RULE: &str =
+    "actions = [\"activate\"]\nfabric = \"A\"\nrole = \"r15\"\nscope = \"own\"\nwindow = \"always\"\napprovals = 16\napprover = \"r15\"\nfresh = true\n";
+
+/// A policy text.
+#[derive(Drop)]
+pub struct Reading {
+    alloc: Global,
+    text: String,
+}
+
+impl Turn for Reading {
+    fn turn(&mut self) -> bool {
+        Policy::read(self.alloc, self.text.as_str()).is_ok()
+    }
+}
+
+/// A policy, and an activation that each of its rules allows.
+#[derive(Drop)]
+pub struct Judging {
+    policy: Policy,
+    caller: CallerId,
+    author: Name,
+    touched: Vec<Name>,
+    approvals: Vec<Approval>,
+}
+
+impl Turn for Judging {
+    fn turn(&mut self) -> bool {
+        let plan = PlanApprovals {
+            author: self.author,
+            approvals: self.approvals.as_slice(),
+        };
+        let act = Act {
+            caller: self.caller,
+            action: Action::Activate,
+            fabrics: &FABRICS,
+            touched: self.touched.as_slice(),
+            moment: 349_200,
+            plan: Some(plan),
+            revision: 6,
+        };
+        matches!(decide(&self.policy, &act), Verdict::Allowed)
+    }
+}
 
 /// The list of names of a letter and a number.
 fn list_of(alloc: Global, letter: &str, count: u64) -> Result<String, AllocError> {
@@ -26,58 +76,45 @@ fn list_of(alloc: Global, letter: &str, count: u64) -> Result<String, AllocError
     Ok(text)
 }
 
-/// A policy text of so many callers, and a rule for every fourth of them, which asks for all that
-/// a rule can ask for.
-fn text_of(alloc: Global, callers: u64) -> Result<String, AllocError> {
+/// Writes so many callers, with these roles and tenants.
+fn write_callers(
+    text: &mut String,
+    callers: u64,
+    roles: &str,
+    tenants: &str,
+) -> Result<(), AllocError> {
+    for i in 0..callers {
+        write!(text, "[[callers]]\nname = \"c{i}\"\ntoken = \"k{i}\"\n")?;
+        write!(text, "roles = {roles}\ntenants = {tenants}\n")?;
+    }
+    Ok(())
+}
+
+/// Writes so many rules, each of which asks for all that a rule can ask for.
+fn write_rules(text: &mut String, rules: u64) -> Result<(), AllocError> {
+    for i in 0..rules {
+        write!(text, "[[rules]]\nname = \"rule{i}\"\n{RULE}")?;
+    }
+    Ok(())
+}
+
+/// A policy text of so many callers, and a rule for every fourth of them.
+pub fn policy_text(alloc: Global, size: u64) -> Result<Reading> {
+    let callers = size.min(256);
     let tenants = list_of(alloc, "t", TENANTS)?;
     let roles = list_of(alloc, "r", 16)?;
     let mut text = String::new(alloc);
-    for i in 0..callers {
-        write!(
-            text,
-            "[[callers]]\nname = \"c{i}\"\ntoken = \"k{i}\"\nroles = {roles}\ntenants = {tenants}\n"
-        )?;
-    }
-    text.push_str("[[windows]]\nname = \"always\"\nweekly = [[0, 10080]]\n")?;
-    for i in 0..callers / 4 {
-        write!(
-            text,
-            "[[rules]]\nname = \"rule{i}\"\nactions = [\"activate\"]\nfabric = \"A\"\nrole = \"r15\"\nscope = \"own\"\nwindow = \"always\"\napprovals = 16\napprover = \"r15\"\nfresh = true\n"
-        )?;
-    }
-    Ok(text)
+    write_callers(&mut text, callers, roles.as_str(), tenants.as_str())?;
+    text.push_str(WINDOW)?;
+    write_rules(&mut text, callers / 4)?;
+    Ok(Reading { alloc, text })
 }
 
-fn policy_of(alloc: Global, text: &str) -> Result<Policy> {
-    match Policy::read(alloc, text) {
-        Ok(policy) => Ok(policy),
-        Err(_) => bail!("a policy"),
-    }
-}
-
-/// Reads the policy, time and again.
-pub fn read<R: Clock + AllocGlobal>(rt: &R, size: u64, turns: u64) -> Result<Timed> {
-    let alloc = rt.alloc();
-    let text = text_of(alloc, size.min(256))?;
-    let mut done = 0usize;
-    let start = Instant::now(rt)?;
-    for _ in 0..turns {
-        if Policy::read(alloc, text.as_str()).is_ok() {
-            done = done.saturating_add(1);
-        }
-    }
-    let nanos = start.elapsed(rt)?.as_nanos();
-    Ok(Timed {
-        came_to: done,
-        nanos,
-    })
-}
-
-/// Approvals of the first callers.
+/// Approvals of callers behind the first, who is the author.
 fn approvals_of(alloc: Global) -> Result<Vec<Approval>> {
     let mut approvals = Vec::new(alloc);
     for i in 0..APPROVALS {
-        let caller = name_of(alloc, "c", i)?;
+        let caller = name_of(alloc, "c", i.saturating_add(1))?;
         approvals.push(Approval {
             caller,
             revision: 6,
@@ -86,42 +123,29 @@ fn approvals_of(alloc: Global) -> Result<Vec<Approval>> {
     Ok(approvals)
 }
 
-/// Judges an activation that every rule allows, time and again.
-pub fn decided<R: Clock + AllocGlobal>(rt: &R, size: u64, turns: u64) -> Result<Timed> {
-    let alloc = rt.alloc();
-    let callers = size.min(256);
-    let text = text_of(alloc, callers)?;
-    let policy = policy_of(alloc, text.as_str())?;
-    let mut touched = Vec::new(alloc);
-    for i in 0..TENANTS {
-        touched.push(name_of(alloc, "t", i)?)?;
+/// Names of a letter and a number.
+fn names_of(alloc: Global, letter: &str, count: u64) -> Result<Vec<Name>> {
+    let mut names = Vec::new(alloc);
+    for i in 0..count {
+        names.push(name_of(alloc, letter, i)?)?;
     }
-    let approvals = approvals_of(alloc)?;
+    Ok(names)
+}
+
+/// The policy of such a text, and an activation that each rule allows.
+pub fn policy_and_act(alloc: Global, size: u64) -> Result<Judging> {
+    let Reading { alloc, text } = policy_text(alloc, size)?;
+    let Ok(policy) = Policy::read(alloc, text.as_str()) else {
+        bail!("a policy");
+    };
     let Some(caller) = policy.caller("k0") else {
         bail!("a caller");
     };
-    let act = Act {
+    Ok(Judging {
+        policy,
         caller,
-        action: Action::Activate,
-        fabrics: &[Fabric::A],
-        touched: touched.as_slice(),
-        moment: 349_200,
-        plan: Some(PlanApprovals {
-            author: name_of(alloc, "c", APPROVALS)?,
-            approvals: approvals.as_slice(),
-        }),
-        revision: 6,
-    };
-    let mut done = 0usize;
-    let start = Instant::now(rt)?;
-    for _ in 0..turns {
-        if let Verdict::Allowed = decide(&policy, &act) {
-            done = done.saturating_add(1);
-        }
-    }
-    let nanos = start.elapsed(rt)?.as_nanos();
-    Ok(Timed {
-        came_to: done,
-        nanos,
+        author: name_of(alloc, "c", 0)?,
+        touched: names_of(alloc, "t", TENANTS)?,
+        approvals: approvals_of(alloc)?,
     })
 }
