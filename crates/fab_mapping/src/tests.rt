@@ -12,12 +12,15 @@ fn name(text: &str) -> Result<Name, Fail> {
     Ok(Name::read(text)?)
 }
 
-/// The first target port, the second, and the third.
+/// The first target port, and the second.
 const FIRST_TARGET: u64 = 0x5000_0000_0000_0001;
 
 const SECOND_TARGET: u64 = 0x5000_0000_0000_0002;
 
-const THIRD_TARGET: u64 = 0x5000_0000_0000_0003;
+/// The target port of a number: the first has 0.
+fn target(number: u8) -> Wwn {
+    Wwn::new(FIRST_TARGET + u64::from(number))
+}
 
 /// The targets; the hosts `db1` and `db2`; `arr1` with the first target, the third and the volumes
 /// `v1` and `v2`, `arr2` with the second and `w1`.
@@ -30,7 +33,7 @@ fn stock(rt: &HostRuntime) -> Result<Inventory<Global>, Fail> {
         Wwn::new(SECOND_TARGET),
         name("blue")?,
     );
-    let (arr1, arr2, t3) = (name("arr1")?, name("arr2")?, Wwn::new(THIRD_TARGET));
+    let (arr1, arr2, t3) = (name("arr1")?, name("arr2")?, target(2));
     let rows = [
         PortRow {
             name: t3,
@@ -59,8 +62,8 @@ fn stock(rt: &HostRuntime) -> Result<Inventory<Global>, Fail> {
     Ok(inventory)
 }
 
-/// A storage group: its name, its host group, its target, and its volume at its unit.
-type Row = (&'static str, &'static str, u64, u16, &'static str);
+/// A storage group: its name, its host group, the number of its target, and its volume at its unit.
+type Row = (&'static str, &'static str, u8, u16, &'static str);
 
 /// Makes the storage group, and exposes it.
 fn put_group(
@@ -71,7 +74,7 @@ fn put_group(
     let (group, blue, arr1) = (name(row.0)?, name("blue")?, name("arr1")?);
     mapping.new_group(group, blue, arr1, inventory)?;
     mapping.add_hosts(&group, &name(row.1)?)?;
-    mapping.add_target(&group, &Wwn::new(row.2), inventory)?;
+    mapping.add_target(&group, &target(row.2), inventory)?;
     mapping.map(&group, row.3, &name(row.4)?, inventory)?;
     mapping.expose(&group)?;
     Ok(())
@@ -102,22 +105,19 @@ fn two_groups(
     alloc: Global,
     volume: &'static str,
 ) -> Result<Mapping<Global>, Fail> {
-    let rows = [
-        ("g1", "hosts1", FIRST_TARGET, 0, "v1"),
-        ("g2", "hosts2", FIRST_TARGET, 0, volume),
-    ];
+    let rows = [("g1", "hosts1", 0, 0, "v1"), ("g2", "hosts2", 0, 0, volume)];
     mapped(inventory, alloc, &rows)
 }
 
 /// Six storage groups with three clashes: of `db1` at the first target and at the third, and of
 /// `db2` at the first.
 const CLASHING: [Row; 6] = [
-    ("g1", "hosts3", FIRST_TARGET, 3, "v1"),
-    ("g2", "hosts1", THIRD_TARGET, 5, "v1"),
-    ("g3", "hosts1", FIRST_TARGET, 7, "v2"),
-    ("g4", "hosts3", FIRST_TARGET, 3, "v2"),
-    ("g5", "hosts1", THIRD_TARGET, 5, "v2"),
-    ("g6", "hosts1", FIRST_TARGET, 7, "v1"),
+    ("g1", "hosts3", 0, 3, "v1"),
+    ("g2", "hosts1", 2, 5, "v1"),
+    ("g3", "hosts1", 0, 7, "v2"),
+    ("g4", "hosts3", 0, 3, "v2"),
+    ("g5", "hosts1", 2, 5, "v2"),
+    ("g6", "hosts1", 0, 7, "v1"),
 ];
 
 #[test]
@@ -125,13 +125,9 @@ fn the_least_of_three_clashes(rt: HostRuntime) -> Result<(), Fail> {
     let inventory = stock(&rt)?;
     let mut mapping = mapped(&inventory, rt.alloc(), &CLASHING)?;
     let (db1, db2) = (name("db1")?, name("db2")?);
-    let steps = [
-        ("g3", db1, FIRST_TARGET, 7),
-        ("g2", db1, THIRD_TARGET, 5),
-        ("g1", db2, FIRST_TARGET, 3),
-    ];
-    for (group, host, target, unit) in steps {
-        let target = Wwn::new(target);
+    let steps = [("g3", db1, 0, 7), ("g2", db1, 2, 5), ("g1", db2, 0, 3)];
+    for (group, host, number, unit) in steps {
+        let target = target(number);
         assert_eq!(rt; mapping.clash(), Ok(Some(Nexus { host, target, unit })));
         mapping.hide(&name(group)?)?;
     }
