@@ -1,7 +1,6 @@
 -- The differences of two worlds.
-use Rattle.std.proofs.Common.{◌≡◌, List, Bool, true, false, not, ◌&&◌, Contains, refl, sym, ap, ◌∙◌, subst}
+use Rattle.std.proofs.Common.{◌≡◌, List, Bool, true, false, not, ◌&&◌, refl, sym, ◌∙◌, subst}
 use mathlib.Core.Bool.{true≢false}
-use Rattle.std.specs.Ordering.{eq_by_cmp}
 use Rattle.std.specs.List.Sorted.{IsStrictlySortedBy}
 use Rattle.std.specs.BTreeSet.{BTreeSet, contains, difference, IsDifference}
 use Rattle.std.proofs.lemmas.Map.Made.{is_member-Decides}

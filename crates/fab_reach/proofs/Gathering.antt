@@ -1,8 +1,8 @@
 -- Paths that are found pair by pair.
-use Rattle.std.proofs.Common.{◌≡◌, ◌<◌, ◌≤◌, ℕ, List, [], ◌∷◌, ◌++◌, length, Bool, true, false, cond, Contains, Option, None, Some, IsTrue, ◌⊎◌, inl, inr, refl, sym, ap, ◌∙◌, subst, rules, arith}
+use Rattle.std.proofs.Common.{◌≡◌, ◌<◌, ℕ, List, [], ◌∷◌, ◌++◌, length, true, false, cond, Contains, Option, None, Some, IsTrue, inl, inr, refl, sym, ap, ◌∙◌, subst}
 use mathlib.Core.Bool.{true≢false}
-use Rattle.std.specs.Ordering.{nat_cmp, is_eq, ordering_then}
-use Rattle.std.specs.Cmp.{IsTotalOrder, Equal-is, nat_cmp_total, tied_itself}
+use Rattle.std.specs.Ordering.{nat_cmp}
+use Rattle.std.specs.Cmp.{nat_cmp_total}
 use Rattle.std.proofs.lemmas.Map.Views.{btree_set_contains_iff}
 use Rattle.std.specs.BTreeMap as tree
 use Rattle.std.specs.BTreeMap.{is_at}
@@ -22,9 +22,9 @@ use Rattle.fab_mapping.specs.Groups.{StorageGroupRows}
 use Rattle.fab_mapping.specs.Mappings.{MappingRows}
 use Rattle.fab_reach.specs.Adding.{Adds, AddsOnly}
 use Rattle.fab_reach.specs.Records.{Records}
-use Rattle.fab_reach.specs.Orders.{fabric_cmp, path_cmp, Has, IsListOf}
+use Rattle.fab_reach.specs.Orders.{path_cmp, Has, IsListOf}
 use Rattle.fab_reach.specs.Reach.{IsPort, IsInitiator, IsTarget, PathOf, Reaches}
-use Rattle.fab_reach.specs.Gathering.{Index, Lists, IsServed, IsIndexOf, MayMeet, UnitPath, GroupPath, HasTarget, IsTargeted, PathFrom, StopsAt}
+use Rattle.fab_reach.specs.Gathering.{Index, Lists, IsIndexOf, MayMeet, UnitPath, GroupPath, HasTarget, IsTargeted, PathFrom, StopsAt}
 use Rattle.fab_reach.specs.Limits.{MoreThan, IsPathsFault}
 use Rattle.fab_reach.proofs.PathOrder.{path_total, path_exact}
 use Rattle.fab_reach.proofs.Adding.{Before, adds_as, adds_none, from_none, only_as, before_stop}

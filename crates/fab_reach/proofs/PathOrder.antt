@@ -8,9 +8,9 @@ use Rattle.std.proofs.lemmas.Cmp.{on_total, then_total}
 use Rattle.std.specs.FinSet as set
 use Rattle.fab_names.specs.declared.fabric.Fabric.TheVariants.{A, B}
 use Rattle.fab_names.specs.contracts.fabric.FabricOrd.TheImpl.Laws.{total-law}
-use Rattle.fab_names.specs.Orders.{name_cmp}
+use Rattle.fab_names.specs.Orders.{fabric_cmp, name_cmp}
 use Rattle.fab_names.proofs.OrderLaws.{name_total, name_exact}
-use Rattle.fab_reach.specs.Orders.{fabric_cmp, path_cmp, path_order}
+use Rattle.fab_reach.specs.Orders.{path_cmp, path_order}
 use Rattle.fab_reach.specs.declared.path.Path.{Path}
 
 pub fabric_exact : set.IsAntisymmetric fabric_cmp

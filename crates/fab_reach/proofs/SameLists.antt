@@ -1,5 +1,5 @@
 -- Two ordered lists with the same items are one.
-use Rattle.std.proofs.Common.{◌≡◌, List, [], ◌∷◌, Bool, true, false, Contains, ◌⊎◌, inl, inr, refl, sym, ap, ◌∙◌, subst}
+use Rattle.std.proofs.Common.{◌≡◌, List, [], ◌∷◌, Bool, true, ◌⊎◌, inl, inr, refl, sym, ap, ◌∙◌, subst}
 use mathlib.Core.Bool.{true≢false}
 use Rattle.std.specs.declared.cmp.Ordering.{Ordering}
 use Rattle.std.specs.declared.cmp.Ordering.TheVariants.{Less, Equal}
@@ -12,7 +12,7 @@ use Rattle.std.proofs.lemmas.Map.Keys.{sorted_head, sorted_tail}
 use Rattle.std.proofs.lemmas.Map.Made.{is_member-Decides}
 use Rattle.fab_maps.proofs.Tests.{or_true, or_right, or_left}
 use Rattle.fab_maps.proofs.SeenSets.{tie_decides}
-use Rattle.fab_reach.specs.Orders.{path_cmp, IsListOf}
+use Rattle.fab_reach.specs.Orders.{IsListOf}
 use Rattle.fab_reach.specs.declared.path.Path.{Path}
 use Rattle.fab_reach.proofs.PathOrder.{path_total, path_exact}
 

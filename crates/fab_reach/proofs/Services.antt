@@ -1,5 +1,5 @@
 -- The index of the storage groups that serve each host.
-use Rattle.std.proofs.Common.{◌≡◌, ℕ, List, [], ◌∷◌, Bool, true, false, cond, Contains, Option, None, Some, ◌⊎◌, inl, inr, refl, sym, ap, ◌∙◌, subst}
+use Rattle.std.proofs.Common.{◌≡◌, ℕ, List, [], Bool, true, false, cond, Contains, Option, None, Some, ◌⊎◌, inl, inr, refl, sym, ap, ◌∙◌, subst}
 use mathlib.Core.Bool.{true≢false}
 use Rattle.std.specs.Ordering.{is_eq}
 use Rattle.std.specs.Cmp.{Equal-is, tied_itself}
@@ -16,7 +16,7 @@ use Rattle.fab_mapping.specs.Groups.{HostGroupRows, StorageGroupRows}
 use Rattle.fab_mapping.specs.Mappings.{MappingRows}
 use Rattle.fab_maps.proofs.SeenSets.{listed_decides}
 use Rattle.fab_reach.specs.Adding.{Adds}
-use Rattle.fab_reach.specs.Gathering.{Index, Lists, ServesBy, Serves, IsServed, IsIndexOf}
+use Rattle.fab_reach.specs.Gathering.{Index, Lists, ServesBy, Serves, IsIndexOf}
 use Rattle.fab_reach.proofs.Adding.{Before, adds_as, adds_none, from_none}
 use Rattle.fab_maps.proofs.SeenEntries.{entry_decides}
 

@@ -1,5 +1,5 @@
 -- Ordered sets that grow.
-use Rattle.std.proofs.Common.{◌≡◌, List, [], Bool, true, false, cond, Contains, IsTrue, ◌⊎◌, inl, inr, refl, sym, ap, ◌∙◌, subst, rules, arith}
+use Rattle.std.proofs.Common.{◌≡◌, [], Bool, true, false, cond, Contains, IsTrue, ◌⊎◌, inl, inr, refl, sym, ap, ◌∙◌, subst, rules, arith}
 use Rattle.std.specs.declared.cmp.Ordering.{Ordering}
 use Rattle.std.specs.Ordering.{is_eq}
 use Rattle.std.specs.Cmp.{IsTotalOrder, Equal-is, tied_itself}

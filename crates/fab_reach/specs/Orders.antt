@@ -4,15 +4,9 @@ use Rattle.std.specs.declared.cmp.Ordering.{Ordering}
 use Rattle.std.specs.Ordering.{nat_cmp, ordering_then}
 use Rattle.std.specs.List.Sorted.{IsStrictlySortedBy}
 use Rattle.std.specs.BTreeSet.{BTreeSet, contains}
-use Rattle.fab_names.specs.declared.fabric.Fabric.{Fabric}
-use Rattle.fab_names.specs.Orders.{name_cmp}
-use Rattle.fab_names.specs.contracts.fabric.FabricOrd.TheImpl as fabrics
+use Rattle.fab_names.specs.Orders.{name_cmp, fabric_cmp}
 use Rattle.fab_reach.specs.declared.path.Path.{Path}
 use Rattle.fab_reach.specs.contracts.path.PathOrd.TheImpl as paths
-
--- A before B
-abbrev pub fabric_cmp : Fabric → Fabric → Ordering
-fabric_cmp = fabrics.ghosts.cmp
 
 -- by fabric, initiator, target, volume, unit
 abbrev pub path_order : Path → Path → Ordering

@@ -5,7 +5,7 @@ use Rattle.std.specs.FinSet as set
 use Rattle.fab_names.specs.declared.fabric.Fabric.{Fabric}
 use Rattle.fab_inventory.specs.declared.port.Port.{Port}
 use Rattle.fab_inventory.specs.Ports.{port_at}
-use Rattle.fab_inventory.specs.Inventories.{InventoryRows, IsHost, IsArray}
+use Rattle.fab_inventory.specs.Inventories.{IsHost, IsArray}
 use Rattle.fab_zoning.specs.Joins.{IsLoggedInAt, Joined}
 use Rattle.fab_mapping.specs.declared.nexus.Nexus.{Nexus}
 use Rattle.fab_mapping.specs.Groups.{StorageGroupRows}

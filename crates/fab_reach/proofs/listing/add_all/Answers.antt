@@ -1,10 +1,10 @@
-use Rattle.std.proofs.Common.{◌∷◌, [], ◌++◌, sym, ◌∙◌}
+use Rattle.std.proofs.Common.{◌∷◌, [], ◌++◌, ◌∙◌}
 use Rattle.std.specs.Map.Iter.{deref_pair}
 use Rattle.std.proofs.lemmas.Map.Iter.{rest_more, rest_all}
 use Rattle.fab_maps.proofs.Walks.{walked, walk_end}
 use Rattle.fab_reach.specs.Orders.{Has}
 use Rattle.fab_reach.specs.Views.{seen}
-use Rattle.fab_reach.proofs.Adding.{before_none, before_more}
+use Rattle.fab_reach.proofs.Adding.{before_more}
 use Rattle.fab_reach.proofs.Gathering.{ByPort, all_added}
 use Rattle.fab_reach.proofs.listing.add_all.Goals as goal
 

@@ -1,6 +1,6 @@
 use Rattle.std.proofs.Common.{sym, ◌∙◌}
 use Rattle.fab_reach.specs.Orders.{Has}
-use Rattle.fab_reach.proofs.Gathering.{group_added, no_target, no_group}
+use Rattle.fab_reach.proofs.Gathering.{group_added}
 use Rattle.fab_reach.proofs.listing.add_group.Goals as goal
 
 pub returns-in_ok-add_units : goal.returns-in_ok-add_units

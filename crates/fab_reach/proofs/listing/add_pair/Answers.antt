@@ -5,8 +5,8 @@ use Rattle.fab_reach.specs.Adding.{Adds}
 use Rattle.fab_reach.specs.Orders.{Has}
 use Rattle.fab_reach.specs.Views.{seen}
 use Rattle.fab_reach.specs.Gathering.{GroupPath}
-use Rattle.fab_reach.proofs.Adding.{before_none, before_more}
-use Rattle.fab_reach.proofs.Gathering.{no_meeting, not_served, pair_added}
+use Rattle.fab_reach.proofs.Adding.{before_more}
+use Rattle.fab_reach.proofs.Gathering.{not_served, pair_added}
 use Rattle.fab_reach.proofs.listing.add_pair.Goals as goal
 
 pub returns-in_default-get : goal.returns-in_default-get

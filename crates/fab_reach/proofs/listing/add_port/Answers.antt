@@ -1,15 +1,11 @@
 use Rattle.std.proofs.Common.{◌∷◌, [], ◌++◌, ℕ, sym, ◌∙◌, subst}
-use Rattle.std.specs.BTreeSet.{BTreeSet}
 use Rattle.fab_maps.proofs.Walks.{walked, walk_end}
 use Rattle.fab_mapping.specs.Mappings.{MappingRows}
-use Rattle.std.specs.BTreeMap as tree
-use Rattle.fab_names.specs.Orders.{name_cmp}
-use Rattle.fab_reach.specs.Adding.{Adds}
 use Rattle.fab_reach.specs.Orders.{Has}
 use Rattle.fab_reach.specs.Reach.{PathOf}
 use Rattle.fab_reach.specs.Views.{seen}
-use Rattle.fab_reach.specs.Gathering.{IsTargeted, PathFrom}
-use Rattle.fab_reach.proofs.Adding.{adds_none, before_more, before_skip}
+use Rattle.fab_reach.specs.Gathering.{IsTargeted}
+use Rattle.fab_reach.proofs.Adding.{before_more, before_skip}
 use Rattle.fab_reach.proofs.Gathering.{HasPort, no_port, pair_of, port_added, not_served_from}
 use Rattle.fab_reach.proofs.listing.add_port.Goals as goal
 

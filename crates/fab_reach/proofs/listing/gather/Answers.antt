@@ -1,4 +1,4 @@
-use Rattle.std.proofs.Common.{subst, rules, sym, ◌∙◌, arith}
+use Rattle.std.proofs.Common.{subst, arith}
 use Rattle.std.proofs.lemmas.Result.{err_from_is_err_and}
 use Rattle.fab_mapping.specs.Mappings.{MappingRows}
 use Rattle.fab_reach.specs.Gathering.{IsIndexOf}
