@@ -1,0 +1,11 @@
+//! Tests of paths, over worlds that are built call by call. Nothing here is part of the product.
+#![tactic(auto)]
+
+#[cfg(test)]
+mod rows;
+#[cfg(test)]
+mod steps;
+#[cfg(test)]
+mod stock;
+#[cfg(test)]
+mod ways;

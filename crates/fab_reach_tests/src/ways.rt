@@ -1,0 +1,69 @@
+//! Paths that are expected.
+
+use crate::stock::{I1, I2, I3, T1, T2, V1, V2, name, port};
+use fab_names::Fabric;
+use fab_reach::Path;
+use std::alloc::Global;
+use std::test::Fail;
+
+/// A path in fabric A: initiator, target, volume, unit.
+type Way = (usize, usize, usize, u16);
+
+/// The path of the first host to the first volume.
+const ONE: Way = (I1, T1, V1, 0);
+
+/// All paths that are there.
+#[derive(Clone, Copy)]
+pub enum Ways {
+    None,
+    /// That of the first host to the first volume.
+    One,
+    /// The same by the other target.
+    OtherTarget,
+    /// The same to the other volume.
+    OtherVolume,
+    /// Those of the second host to the second volume.
+    Second,
+    /// Those of both hosts.
+    Both,
+    /// Those of the first host to the first volume at units 0 and 5.
+    TwoUnits,
+    /// The same, and that to the second volume at unit 1.
+    Units,
+}
+
+/// The path of this number, if there are so many.
+fn way(ways: Ways, number: usize) -> Option<Way> {
+    match (ways, number) {
+        (Ways::One | Ways::Both | Ways::TwoUnits | Ways::Units, 0) => Some(ONE),
+        (Ways::OtherTarget, 0) => Some((I1, T2, V1, 0)),
+        (Ways::OtherVolume, 0) => Some((I1, T1, V2, 0)),
+        (Ways::Second, 0) | (Ways::Both, 1) => Some((I2, T1, V2, 0)),
+        (Ways::Second, 1) | (Ways::Both, 2) => Some((I3, T1, V2, 0)),
+        (Ways::TwoUnits | Ways::Units, 1) => Some((I1, T1, V1, 5)),
+        (Ways::Units, 2) => Some((I1, T1, V2, 1)),
+        _ => None,
+    }
+}
+
+/// The path.
+fn path(way: Way) -> Result<Path, Fail> {
+    Ok(Path {
+        fabric: Fabric::A,
+        initiator: port(way.0)?,
+        target: port(way.1)?,
+        volume: name(way.2)?,
+        unit: way.3,
+    })
+}
+
+/// Whether the paths are these, in this order.
+pub fn are(paths: &Vec<Path, Global>, ways: Ways) -> Result<bool, Fail> {
+    for (number, found) in paths.iter().enumerate() {
+        match way(ways, number) {
+            Some(way) if path(way)? == *found => {}
+            _ => return Ok(false),
+        }
+    }
+    Ok(way(ways, paths.len()).is_none())
+}
