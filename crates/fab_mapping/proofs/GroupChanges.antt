@@ -55,6 +55,15 @@ pub on_ok : {X E : Type 0} {P Q : Type 0} (r : Result X E) → OnOk r P → (P �
 on_ok (Ok x) h f = f h
 on_ok (Err e) h f = tt
 
+-- what three clauses of an `Ok` say, or four
+pub on_three : {X E : Type 0} {P Q S R : Type 0} (r : Result X E) → OnOk r P → OnOk r Q → OnOk r S → (P → Q → S → R) → OnOk r R
+on_three (Ok x) p q s f = f p q s
+on_three (Err e) p q s f = tt
+
+pub on_four : {X E : Type 0} {P Q S T R : Type 0} (r : Result X E) → OnOk r P → OnOk r Q → OnOk r S → OnOk r T → (P → Q → S → T → R) → OnOk r R
+on_four (Ok x) p q s t f = f p q s t
+on_four (Err e) p q s t f = tt
+
 -- what an `Err` says
 pub on_err : {X E : Type 0} {P Q : Type 0} (r : Result X E) → OnErr r P → (P → Q) → OnErr r Q
 on_err (Ok x) h f = tt

@@ -7,3 +7,6 @@ pub mod Least
 pub mod Walked
 pub mod Serving
 pub mod ClashSearch
+pub mod Passed
+pub mod Sounding
+pub mod Keeping

@@ -3,3 +3,4 @@ pub mod Nexuses
 pub mod Clashes
 pub mod Mappings
 pub mod ClashSearch
+pub mod Soundness

@@ -1,5 +1,5 @@
 //! Host groups.
-ghost use Rattle.std.specs.Prelude.{◌≡◌, IfOk};
+ghost use Rattle.std.specs.Prelude.{◌≡◌, IfOk, IsTrue, ◌↔◌};
 ghost use Rattle.std.specs.FinSet as set;
 ghost use Rattle.std.specs.List.{list_any};
 ghost use Rattle.std.specs.Ordering.{eq_by_cmp};
@@ -7,7 +7,9 @@ ghost use Rattle.std.specs.BTreeSet.{contains};
 ghost use Rattle.std.specs.List.Sorted.{IsStrictlySortedBy};
 ghost use Rattle.fab_names.specs.Orders.{name_cmp};
 ghost use Rattle.fab_mapping.specs.Groups.{host_group_of};
+ghost use Rattle.fab_mapping.specs.Soundness.{IsSoundHostGroup};
 
+use crate::limits::MOST_HOSTS;
 use fab_names::Name;
 use std::alloc::{AllocError, Allocator};
 use std::collections::BTreeSet;
@@ -91,6 +93,14 @@ impl<A: Allocator + Copy> HostGroup<A> {
         ensures ordered { IsStrictlySortedBy name_cmp result }
     {
         self.hosts.iter()
+    }
+
+    /// Whether there is a host, and there are no more than there may be.
+    pub(crate) fn is_sound(&self) -> bool
+        ensures { IsTrue result ↔ IsSoundHostGroup self.now }
+    {
+        let count = self.hosts.len();
+        0 < count && count <= MOST_HOSTS
     }
 }
 

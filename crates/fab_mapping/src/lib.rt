@@ -10,6 +10,7 @@ mod mapping;
 mod nexus;
 mod search;
 mod served;
+mod sound;
 mod storage_group;
 #[cfg(test)]
 mod tests;

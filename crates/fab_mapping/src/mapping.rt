@@ -1,5 +1,5 @@
 //! The mapping.
-ghost use Rattle.std.specs.Prelude.{◌≡◌, ◌<◌, ◌≤◌, length, true, false, OnOk, OnErr, IfOk, IfErr, MatchOption};
+ghost use Rattle.std.specs.Prelude.{◌≡◌, ◌<◌, ◌≤◌, ◌↔◌, length, IsTrue, true, false, OnOk, OnErr, IfOk, IfErr, MatchOption};
 ghost use Rattle.std.specs.Option.{option_copied};
 ghost use Rattle.std.specs.FinMap as map;
 ghost use Rattle.std.specs.FinSet as set;
@@ -7,6 +7,8 @@ ghost use Rattle.fab_maps.specs.Firsts.{IsFirstWith, HasAt, HasNowhere};
 ghost use Rattle.fab_names.specs.Orders.{name_cmp};
 ghost use Rattle.fab_mapping.specs.Groups.{HoldsHost, HasTarget, IsOfArray, MapsVolume, host_group_of, new_storage_group, with_hosts, without_hosts, with_target, without_target, with_unit, without_unit, exposed_as, HasRoomForHosts, HasRoomForTarget, HasRoomForUnit, HasFreeUnit};
 ghost use Rattle.fab_mapping.specs.Mappings.{no_groups, IsLeastClash, HasNoClash, CanPutHostGroup, PutHostGroupFails, IsUnservedIn, IsLeastServing, DropHostGroupFails, CanMakeGroup, NewGroupFails, NamesNoGroup, ChangesGroup, GroupHas, AddHostsFails, RemoveHostsFails, IsPortOf, AddTargetFails, RemoveTargetFails, IsVolumeOn, MapFails, UnmapFails};
+ghost use Rattle.fab_inventory.specs.Inventories.{InventoryRows};
+ghost use Rattle.fab_mapping.specs.Soundness.{IsSound, Fits, Keeps, KeepsAll};
 
 use crate::clash::first_clash;
 use crate::known_pairs::KnownPairs;
@@ -16,6 +18,7 @@ use crate::search::{
     first_with_volume, is_array, is_held_by,
 };
 use crate::served::{exposed_of, served_hosts};
+use crate::sound::{are_sound, groups_fit, have_hosts};
 use crate::{HostGroup, MappingFault, MappingLimit, Nexus, StorageGroup};
 use fab_inventory::Inventory;
 use fab_names::{Name, Wwn};
@@ -49,7 +52,9 @@ impl<A: Allocator + Copy> Model for Mapping<A> {
 impl<A: Allocator + Copy> Mapping<A> {
     /// A mapping with no group.
     pub fn new(alloc: A) -> Self
-        ensures { result ≡ no_groups }
+        ensures new { result ≡ no_groups }
+        ensures sound { IsSound result }
+        ensures fits { (inventory : InventoryRows) → Fits inventory result }
     {
         Mapping {
             alloc,
@@ -154,6 +159,27 @@ impl<A: Allocator + Copy> Mapping<A> {
         self.groups.iter()
     }
 
+    /// Whether the mapping is sound of itself: each host group has a host and no more than it may
+    /// have, each host group that a storage group names is there, and no limit is passed. It takes
+    /// no memory.
+    pub fn is_sound(&self) -> bool
+        ensures { IsTrue result ↔ IsSound self.now }
+    {
+        are_sound(&self.host_groups, &self.groups)
+    }
+
+    /// Whether what the mapping names is in the inventory: its hosts are hosts, and the array of
+    /// each storage group is an array that holds its targets and has its volumes. It takes no
+    /// memory.
+    pub fn fits(&self, inventory: &Inventory<A>) -> bool
+        ensures { IsTrue result ↔ Fits inventory.now self.now }
+    {
+        if !have_hosts(inventory, &self.host_groups) {
+            return false;
+        }
+        groups_fit(inventory, &self.groups)
+    }
+
     /// The least nexus at which exposed storage groups name two volumes, if there is one. The same
     /// volume there through two groups is no clash.
     ///
@@ -185,6 +211,7 @@ impl<A: Allocator + Copy> Mapping<A> {
         requires some { 0 < length hosts.now }
         ensures can { OnOk result (CanPutHostGroup self.old inventory.now name hosts.now) }
         ensures ok { OnOk result (self.new ≡ record self.old { host_groups = map.insert self.old.host_groups name (host_group_of tenant hosts.now) }) }
+        ensures keeps { OnOk result (Keeps inventory.now self.old self.new) }
         ensures err { IfErr result (PutHostGroupFails self.old inventory.now name hosts.now) }
         ensures unchanged { OnErr result (self.new ≡ self.old) }
     {
@@ -211,6 +238,7 @@ impl<A: Allocator + Copy> Mapping<A> {
         ensures known { OnOk result (map.contains_key self.old.host_groups name.now ≡ true) }
         ensures unused { OnOk result (IsUnservedIn (map.get self.old.groups) name.now) }
         ensures ok { OnOk result (self.new ≡ record self.old { host_groups = map.remove self.old.host_groups name.now }) }
+        ensures keeps { OnOk result (KeepsAll self.old self.new) }
         ensures err { IfErr result (DropHostGroupFails self.old name.now) }
         ensures unchanged { OnErr result (self.new ≡ self.old) }
     {
@@ -239,6 +267,7 @@ impl<A: Allocator + Copy> Mapping<A> {
     ) -> Result<(), MappingFault>
         ensures can { OnOk result (CanMakeGroup self.old inventory.now name array) }
         ensures ok { OnOk result (self.new ≡ record self.old { groups = map.insert self.old.groups name (new_storage_group tenant array) }) }
+        ensures keeps { OnOk result (Keeps inventory.now self.old self.new) }
         ensures err { IfErr result (NewGroupFails self.old inventory.now name array) }
         ensures unchanged { OnErr result (self.new ≡ self.old) }
     {
@@ -263,6 +292,7 @@ impl<A: Allocator + Copy> Mapping<A> {
     pub fn drop_group(&mut self, name: &Name) -> Result<(), MappingFault>
         ensures known { OnOk result (map.contains_key self.old.groups name.now ≡ true) }
         ensures ok { OnOk result (self.new ≡ record self.old { groups = map.remove self.old.groups name.now }) }
+        ensures keeps { OnOk result (KeepsAll self.old self.new) }
         ensures err { IfErr result (NamesNoGroup self.old name.now) }
         ensures unchanged { OnErr result (self.new ≡ self.old) }
     {
@@ -284,6 +314,7 @@ impl<A: Allocator + Copy> Mapping<A> {
         ensures known { OnOk result (map.contains_key self.old.host_groups hosts.now ≡ true) }
         ensures room { OnOk result (GroupHas self.old name.now (λ g. HasRoomForHosts g hosts.now)) }
         ensures ok { OnOk result (ChangesGroup name.now (with_hosts hosts.now) self.old self.new) }
+        ensures keeps { OnOk result (KeepsAll self.old self.new) }
         ensures err { IfErr result (AddHostsFails self.old name.now hosts.now) }
         ensures unchanged { OnErr result (self.new ≡ self.old) }
     {
@@ -305,6 +336,7 @@ impl<A: Allocator + Copy> Mapping<A> {
     pub fn remove_hosts(&mut self, name: &Name, hosts: &Name) -> Result<(), MappingFault>
         ensures had { OnOk result (GroupHas self.old name.now (λ g. set.contains g.host_groups hosts.now ≡ true)) }
         ensures ok { OnOk result (ChangesGroup name.now (without_hosts hosts.now) self.old self.new) }
+        ensures keeps { OnOk result (KeepsAll self.old self.new) }
         ensures err { IfErr result (RemoveHostsFails self.old name.now hosts.now) }
         ensures unchanged { OnErr result (self.new ≡ self.old) }
     {
@@ -334,6 +366,7 @@ impl<A: Allocator + Copy> Mapping<A> {
         ensures held { OnOk result (GroupHas self.old name.now (λ g. IsPortOf inventory.now g.array target.now)) }
         ensures room { OnOk result (GroupHas self.old name.now (λ g. HasRoomForTarget g target.now)) }
         ensures ok { OnOk result (ChangesGroup name.now (with_target target.now) self.old self.new) }
+        ensures keeps { OnOk result (Keeps inventory.now self.old self.new) }
         ensures err { IfErr result (AddTargetFails self.old inventory.now name.now target.now) }
         ensures unchanged { OnErr result (self.new ≡ self.old) }
     {
@@ -357,6 +390,7 @@ impl<A: Allocator + Copy> Mapping<A> {
     pub fn remove_target(&mut self, name: &Name, target: &Wwn) -> Result<(), MappingFault>
         ensures had { OnOk result (GroupHas self.old name.now (λ g. set.contains g.targets target.now ≡ true)) }
         ensures ok { OnOk result (ChangesGroup name.now (without_target target.now) self.old self.new) }
+        ensures keeps { OnOk result (KeepsAll self.old self.new) }
         ensures err { IfErr result (RemoveTargetFails self.old name.now target.now) }
         ensures unchanged { OnErr result (self.new ≡ self.old) }
     {
@@ -390,6 +424,7 @@ impl<A: Allocator + Copy> Mapping<A> {
         ensures free { OnOk result (GroupHas self.old name.now (λ g. HasFreeUnit g unit volume.now)) }
         ensures room { OnOk result (GroupHas self.old name.now (λ g. HasRoomForUnit g unit)) }
         ensures ok { OnOk result (ChangesGroup name.now (with_unit unit volume.now) self.old self.new) }
+        ensures keeps { OnOk result (Keeps inventory.now self.old self.new) }
         ensures err { IfErr result (MapFails self.old inventory.now name.now unit volume.now) }
         ensures unchanged { OnErr result (self.new ≡ self.old) }
     {
@@ -416,6 +451,7 @@ impl<A: Allocator + Copy> Mapping<A> {
     pub fn unmap(&mut self, name: &Name, unit: u16) -> Result<(), MappingFault>
         ensures had { OnOk result (GroupHas self.old name.now (λ g. map.contains_key g.units unit ≡ true)) }
         ensures ok { OnOk result (ChangesGroup name.now (without_unit unit) self.old self.new) }
+        ensures keeps { OnOk result (KeepsAll self.old self.new) }
         ensures err { IfErr result (UnmapFails self.old name.now unit) }
         ensures unchanged { OnErr result (self.new ≡ self.old) }
     {
@@ -435,6 +471,7 @@ impl<A: Allocator + Copy> Mapping<A> {
     /// `Unknown` where there is no such storage group. Nothing is then changed.
     pub fn expose(&mut self, name: &Name) -> Result<(), MappingFault>
         ensures ok { OnOk result (ChangesGroup name.now (exposed_as true) self.old self.new) }
+        ensures keeps { OnOk result (KeepsAll self.old self.new) }
         ensures err { IfErr result (NamesNoGroup self.old name.now) }
         ensures unchanged { OnErr result (self.new ≡ self.old) }
     {
@@ -451,6 +488,7 @@ impl<A: Allocator + Copy> Mapping<A> {
     /// `Unknown` where there is no such storage group. Nothing is then changed.
     pub fn hide(&mut self, name: &Name) -> Result<(), MappingFault>
         ensures ok { OnOk result (ChangesGroup name.now (exposed_as false) self.old self.new) }
+        ensures keeps { OnOk result (KeepsAll self.old self.new) }
         ensures err { IfErr result (NamesNoGroup self.old name.now) }
         ensures unchanged { OnErr result (self.new ≡ self.old) }
     {

@@ -6,9 +6,10 @@ ghost use Rattle.std.specs.Ordering.{nat_cmp};
 ghost use Rattle.fab_names.specs.Orders.{name_cmp};
 ghost use Rattle.std.specs.FinMap as map;
 ghost use Rattle.fab_mapping.specs.ClashSearch.{MapsOther};
+ghost use Rattle.fab_mapping.specs.Soundness.{HasFewParts, HasUnitNumbers};
 ghost use Rattle.fab_mapping.specs.Groups.{MapsVolume, new_storage_group, with_hosts, without_hosts, with_target, without_target, with_unit, without_unit, exposed_as, HasRoomForHosts, HasRoomForTarget, HasRoomForUnit, HasFreeUnit, AddHostsLimit, AddTargetLimit, MapRefusal};
 
-use crate::limits::{MOST_GROUPS_SERVED, MOST_TARGETS, MOST_UNITS};
+use crate::limits::{LAST_UNIT, MOST_GROUPS_SERVED, MOST_TARGETS, MOST_UNITS};
 use crate::{MappingFault, MappingLimit};
 use fab_names::{Name, Wwn};
 use std::alloc::{AllocError, Allocator};
@@ -178,6 +179,28 @@ impl<A: Allocator + Copy> StorageGroup<A> {
         ensures { result ≡ map.contains_key self.now.units unit }
     {
         self.units.contains_key(&unit)
+    }
+
+    /// Whether there are no more host groups, targets and units than there may be.
+    pub(crate) fn has_few_parts(&self) -> bool
+        ensures { IsTrue result ↔ HasFewParts self.now }
+    {
+        let (host_groups, targets) = (self.host_groups.len(), self.targets.len());
+        let units = self.units.len();
+        if host_groups > MOST_GROUPS_SERVED {
+            return false;
+        }
+        if targets > MOST_TARGETS {
+            return false;
+        }
+        units <= MOST_UNITS
+    }
+
+    /// Whether nothing is mapped above the last logical unit number.
+    pub(crate) fn has_unit_numbers(&self) -> bool
+        ensures { IsTrue result ↔ HasUnitNumbers self.now }
+    {
+        self.units().all(|(unit, _volume)| *unit <= LAST_UNIT)
     }
 
     /// Adds a host group.

@@ -4,7 +4,8 @@ use Rattle.fab_names.proofs.OrderLaws.{name_total}
 use Rattle.fab_inventory.proofs.SeenMaps.{get_entries}
 use Rattle.fab_mapping.specs.Groups.{with_hosts}
 use Rattle.fab_mapping.specs.Mappings.{MappingRows}
-use Rattle.fab_mapping.proofs.GroupChanges.{group_seen, changed, kept, on_ok, on_err, if_err, always_ok, add_hosts_fails}
+use Rattle.fab_mapping.proofs.GroupChanges.{on_three, group_seen, changed, kept, on_ok, on_err, if_err, always_ok, add_hosts_fails}
+use Rattle.fab_mapping.proofs.Keeping.{change_keeps, of_group, hosts_put, hosts_put_fits}
 use Rattle.fab_mapping.proofs.mapping.Mapping.add_hosts.Goals as goal
 
 pub returns-in_default-clause-err : goal.returns-in_default-clause-err
@@ -30,3 +31,9 @@ returns-clause-err g c = if_err c.add_hosts.result c.add_hosts.ensures.err (add_
 
 pub returns-clause-unchanged : goal.returns-clause-unchanged
 returns-clause-unchanged g c = on_err c.add_hosts.result c.add_hosts.ensures.unchanged (λ is. kept c.self.inside.host_groups c.self.inside.groups (c.get_mut.follows.lender c.add_hosts.new.self) c.args.name.now c.in-Some.group.now c.add_hosts.new.self c.args.self.now c.self.view_is (sym c.in-Some.ensures.value) is (c.get_mut.follows.holds c.add_hosts.new.self).0)
+
+pub returns-clause-keeps : goal.returns-clause-keeps
+returns-clause-keeps g c =
+    on_three c.add_hosts.result (returns-clause-known g c) (returns-clause-room g c) (returns-clause-ok g c) (λ known room is inventory.
+    change_keeps c.args.self.now _ c.args.name.now (with_hosts c.args.hosts.now) inventory is
+    (λ x at h. hosts_put _ x h c.args.hosts.now known (of_group c.args.self.now c.args.name.now _ room x at)) (λ x at h. hosts_put_fits inventory x h c.args.hosts.now))

@@ -2,7 +2,8 @@ use Rattle.std.proofs.Common.{Some, None, is_some, refl, sym, ap, ◌∙◌}
 use mathlib.Core.Bool.{true≢false}
 use Rattle.fab_mapping.specs.Groups.{with_target}
 use Rattle.fab_mapping.specs.Mappings.{MappingRows}
-use Rattle.fab_mapping.proofs.GroupChanges.{group_seen, changed, kept, on_ok, on_err, if_err, always_ok, add_target_fails, port_held, port_missing}
+use Rattle.fab_mapping.proofs.GroupChanges.{on_three, group_seen, changed, kept, on_ok, on_err, if_err, always_ok, add_target_fails, port_held, port_missing}
+use Rattle.fab_mapping.proofs.Keeping.{change_keeps, of_group, target_put, target_put_fits}
 use Rattle.fab_mapping.proofs.mapping.Mapping.add_target.Goals as goal
 
 pub returns-in_default-clause-err : goal.returns-in_default-clause-err
@@ -34,3 +35,9 @@ returns-clause-err g c = if_err c.add_target.result c.add_target.ensures.err (ad
 
 pub returns-clause-unchanged : goal.returns-clause-unchanged
 returns-clause-unchanged g c = on_err c.add_target.result c.add_target.ensures.unchanged (λ is. kept c.self.inside.host_groups c.self.inside.groups (c.get_mut.follows.lender c.add_target.new.self) c.args.name.now c.in-Some.group.now c.add_target.new.self c.args.self.now c.self.view_is (sym c.in-Some.ensures.value) is (c.get_mut.follows.holds c.add_target.new.self).0)
+
+pub returns-clause-keeps : goal.returns-clause-keeps
+returns-clause-keeps g c =
+    on_three c.add_target.result (returns-clause-held g c) (returns-clause-room g c) (returns-clause-ok g c) (λ held room is.
+    change_keeps c.args.self.now _ c.args.name.now (with_target c.args.target.now) c.args.inventory.now is
+    (λ x at h. target_put _ x h c.args.target.now (of_group c.args.self.now c.args.name.now _ room x at)) (λ x at h. target_put_fits c.args.inventory.now x h c.args.target.now (of_group c.args.self.now c.args.name.now _ held x at)))

@@ -3,7 +3,8 @@ use mathlib.Core.Bool.{true≢false}
 use Rattle.std.specs.Cmp.Lexicographic.{bytes_decides}
 use Rattle.fab_mapping.specs.Groups.{with_unit}
 use Rattle.fab_mapping.specs.Mappings.{MappingRows}
-use Rattle.fab_mapping.proofs.GroupChanges.{group_seen, changed, kept, on_ok, on_err, if_err, always_ok, map_fails}
+use Rattle.fab_mapping.proofs.GroupChanges.{on_four, group_seen, changed, kept, on_ok, on_err, if_err, always_ok, map_fails}
+use Rattle.fab_mapping.proofs.Keeping.{change_keeps, of_group, unit_put, unit_put_fits}
 use Rattle.fab_mapping.proofs.mapping.Mapping.map.Goals as goal
 
 un_not : {b : Bool} → not b ≡ false → b ≡ true
@@ -45,3 +46,9 @@ returns-clause-err g c = if_err c.map.result c.map.ensures.err (map_fails c.args
 
 pub returns-clause-unchanged : goal.returns-clause-unchanged
 returns-clause-unchanged g c = on_err c.map.result c.map.ensures.unchanged (λ is. kept c.self.inside.host_groups c.self.inside.groups (c.get_mut.follows.lender c.map.new.self) c.args.name.now c.in-Some.group.now c.map.new.self c.args.self.now c.self.view_is (sym c.in-Some.ensures.value) is (c.get_mut.follows.holds c.map.new.self).0)
+
+pub returns-clause-keeps : goal.returns-clause-keeps
+returns-clause-keeps g c =
+    on_four c.map.result (returns-clause-unit g c) (returns-clause-on_array g c) (returns-clause-room g c) (returns-clause-ok g c) (λ small on room is.
+    change_keeps c.args.self.now _ c.args.name.now (with_unit c.args.unit c.args.volume.now) c.args.inventory.now is
+    (λ x at h. unit_put _ x h c.args.unit c.args.volume.now small (of_group c.args.self.now c.args.name.now _ room x at)) (λ x at h. unit_put_fits c.args.inventory.now x h c.args.unit c.args.volume.now (of_group c.args.self.now c.args.name.now _ on x at)))

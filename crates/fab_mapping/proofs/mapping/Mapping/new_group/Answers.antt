@@ -5,6 +5,8 @@ use Rattle.fab_names.proofs.OrderLaws.{name_total, name_exact}
 use Rattle.fab_inventory.proofs.SeenMaps.{get_entries, len_entries, seen_insert}
 use Rattle.fab_mapping.specs.Groups.{new_storage_group}
 use Rattle.fab_mapping.specs.Mappings.{MappingRows}
+use Rattle.fab_mapping.specs.Soundness.{Keeps}
+use Rattle.fab_mapping.proofs.Keeping.{new_group_keeps}
 use Rattle.fab_mapping.proofs.mapping.Mapping.new_group.Goals as goal
 
 pub returns-then-contains_key-clause-err : goal.returns-then-contains_key-clause-err
@@ -21,3 +23,6 @@ returns-clause-can g c = record { fresh = ap (λ (v : MappingRows). map.contains
 
 pub returns-clause-ok : goal.returns-clause-ok
 returns-clause-ok g c = (λ i. record { host_groups = map.from_entries c.self.inside.host_groups.entries; groups = (seen_insert name_total name_exact c.self.inside.groups c.insert.new.self c.args.name c.new-group.result c.in_ok-insert.ensures.updates.0 ∙ ap (map.insert (map.from_entries c.self.inside.groups.entries) c.args.name) c.new-group.ensures) i }) ∙ ap (λ (v : MappingRows). record v { groups = map.insert v.groups c.args.name (new_storage_group c.args.tenant c.args.array) }) c.self.view_is
+
+pub returns-clause-keeps : goal.returns-clause-keeps
+returns-clause-keeps g c = subst (Keeps c.args.inventory.now c.args.self.now) (sym (returns-clause-ok g c)) (new_group_keeps c.args.self.now c.args.inventory.now c.args.name c.args.tenant c.args.array (returns-clause-can g c))

@@ -2,6 +2,7 @@ use Rattle.std.proofs.Common.{Some, None, is_some, refl, sym, ap, ◌∙◌}
 use Rattle.fab_mapping.specs.Groups.{without_target}
 use Rattle.fab_mapping.specs.Mappings.{MappingRows}
 use Rattle.fab_mapping.proofs.GroupChanges.{group_seen, changed, kept}
+use Rattle.fab_mapping.proofs.Keeping.{change_keeps, target_gone, target_gone_fits}
 use Rattle.fab_mapping.proofs.mapping.Mapping.remove_target.Goals as goal
 
 pub returns-in_default-clause-err : goal.returns-in_default-clause-err
@@ -18,3 +19,6 @@ returns-clause-had g c = (c.in-Some.group.now, group_seen c.self.inside.groups c
 
 pub returns-clause-ok : goal.returns-clause-ok
 returns-clause-ok g c = changed c.self.inside.host_groups c.self.inside.groups (c.get_mut.follows.lender c.remove_target.new.self) c.args.name.now c.in-Some.group.now c.remove_target.new.self (without_target c.args.target.now) c.args.self.now c.self.view_is (sym c.in-Some.ensures.value) c.remove_target.ensures ((c.get_mut.follows.holds c.remove_target.new.self).3 (ap is_some (sym c.in-Some.ensures.value))).0
+
+pub returns-clause-keeps : goal.returns-clause-keeps
+returns-clause-keeps g c = λ inventory. change_keeps c.args.self.now _ c.args.name.now (without_target c.args.target.now) inventory (returns-clause-ok g c) (λ x at h. target_gone _ x h c.args.target.now) (λ x at h. target_gone_fits inventory x h c.args.target.now)

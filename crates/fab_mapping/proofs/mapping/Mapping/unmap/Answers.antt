@@ -3,6 +3,7 @@ use Rattle.std.specs.FinMap as map
 use Rattle.fab_mapping.specs.Groups.{without_unit}
 use Rattle.fab_mapping.specs.Mappings.{MappingRows}
 use Rattle.fab_mapping.proofs.GroupChanges.{group_seen, changed, kept}
+use Rattle.fab_mapping.proofs.Keeping.{change_keeps, unit_gone, unit_gone_fits}
 use Rattle.fab_mapping.proofs.mapping.Mapping.unmap.Goals as goal
 use Rattle.fab_inventory.proofs.Leasts.{none_from_test as nothing}
 
@@ -20,3 +21,6 @@ returns-clause-had g c = (c.in-Some.group.now, group_seen c.self.inside.groups c
 
 pub returns-clause-ok : goal.returns-clause-ok
 returns-clause-ok g c = changed c.self.inside.host_groups c.self.inside.groups (c.get_mut.follows.lender c.unmap.new.self) c.args.name.now c.in-Some.group.now c.unmap.new.self (without_unit c.args.unit) c.args.self.now c.self.view_is (sym c.in-Some.ensures.value) c.unmap.ensures ((c.get_mut.follows.holds c.unmap.new.self).3 (ap is_some (sym c.in-Some.ensures.value))).0
+
+pub returns-clause-keeps : goal.returns-clause-keeps
+returns-clause-keeps g c = λ inventory. change_keeps c.args.self.now _ c.args.name.now (without_unit c.args.unit) inventory (returns-clause-ok g c) (λ x at h. unit_gone _ x h c.args.unit) (λ x at h. unit_gone_fits inventory x h c.args.unit)
