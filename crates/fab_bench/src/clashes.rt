@@ -42,7 +42,7 @@ impl Shape {
     fn first_unit(self, group: u64) -> u16 {
         let turn = match self.serves {
             Serves::All => 0,
-            Serves::One => group / self.host_groups() % 32,
+            Serves::One => group.checked_div(self.host_groups()).unwrap_or(0) % 32,
         };
         let first = turn * u64::from(self.units.min(256));
         u16::try_from(first).unwrap_or(0)
@@ -112,9 +112,10 @@ impl Making {
     /// Adds its host groups to a storage group.
     fn add_hosts(&mut self, group: &Name, number: u64) -> Result<()> {
         let count = self.shape.host_groups();
+        let one = number.checked_rem(count).unwrap_or(0);
         let (first, last) = match self.shape.serves {
             Serves::All => (0, count),
-            Serves::One => (number % count, (number % count).saturating_add(1)),
+            Serves::One => (one, one.saturating_add(1)),
         };
         for hosts in first..last {
             let hosts = name_of(self.alloc, "hosts", hosts)?;

@@ -46,21 +46,34 @@ pub struct Judging {
 
 impl Turn for Judging {
     fn turn(&mut self) -> bool {
-        let plan = PlanApprovals {
-            author: self.author,
-            approvals: self.approvals.as_slice(),
-        };
-        let act = Act {
-            caller: self.caller,
-            action: Action::Activate,
-            fabrics: &FABRICS,
-            touched: self.touched.as_slice(),
-            moment: 349_200,
-            plan: Some(plan),
-            revision: 6,
-        };
-        matches!(decide(&self.policy, &act), Verdict::Allowed)
+        is_allowed(
+            &self.policy,
+            self.caller,
+            self.author,
+            self.touched.as_slice(),
+            self.approvals.as_slice(),
+        )
     }
+}
+
+/// Whether the policy allows the activation of the author's plan.
+fn is_allowed(
+    policy: &Policy,
+    caller: CallerId,
+    author: Name,
+    touched: &[Name],
+    approvals: &[Approval],
+) -> bool {
+    let act = Act {
+        caller,
+        action: Action::Activate,
+        fabrics: &FABRICS,
+        touched,
+        moment: 349_200,
+        plan: Some(PlanApprovals { author, approvals }),
+        revision: 6,
+    };
+    matches!(decide(policy, &act), Verdict::Allowed)
 }
 
 /// The list of names of a letter and a number.
