@@ -21,9 +21,9 @@ pub const I2: usize = 1;
 
 pub const I3: usize = 2;
 
-pub const T1: usize = 3;
+pub const TP1: usize = 3;
 
-pub const T2: usize = 4;
+pub const TP2: usize = 4;
 
 /// Tenants, hosts, the array, and the volumes; then names of what a configuration has.
 const NAMES: [&str; 19] = [
@@ -160,7 +160,7 @@ pub fn stock(alloc: Global) -> Result<Inventory<Global>, Fail> {
     list(&mut inventory, alloc, 5)?;
     hold(&mut inventory, HolderKind::Host, DB1, I1, I1)?;
     hold(&mut inventory, HolderKind::Host, DB2, I2, I3)?;
-    hold(&mut inventory, HolderKind::Array, ARR1, T1, T2)?;
+    hold(&mut inventory, HolderKind::Array, ARR1, TP1, TP2)?;
     volume(&mut inventory, V1, BLUE)?;
     volume(&mut inventory, V2, GREEN)?;
     Ok(inventory)

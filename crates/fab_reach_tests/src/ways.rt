@@ -1,6 +1,6 @@
 //! Paths that are expected.
 
-use crate::stock::{I1, I2, I3, T1, T2, V1, V2, name, port};
+use crate::stock::{I1, I2, I3, TP1, TP2, V1, V2, name, port};
 use fab_names::Fabric;
 use fab_reach::Path;
 use std::alloc::Global;
@@ -10,7 +10,7 @@ use std::test::Fail;
 type Way = (usize, usize, usize, u16);
 
 /// The path of the first host to the first volume.
-const ONE: Way = (I1, T1, V1, 0);
+const ONE: Way = (I1, TP1, V1, 0);
 
 /// All paths that are there.
 #[derive(Clone, Copy)]
@@ -36,12 +36,12 @@ pub enum Ways {
 fn way(ways: Ways, number: usize) -> Option<Way> {
     match (ways, number) {
         (Ways::One | Ways::Both | Ways::TwoUnits | Ways::Units, 0) => Some(ONE),
-        (Ways::OtherTarget, 0) => Some((I1, T2, V1, 0)),
-        (Ways::OtherVolume, 0) => Some((I1, T1, V2, 0)),
-        (Ways::Second, 0) | (Ways::Both, 1) => Some((I2, T1, V2, 0)),
-        (Ways::Second, 1) | (Ways::Both, 2) => Some((I3, T1, V2, 0)),
-        (Ways::TwoUnits | Ways::Units, 1) => Some((I1, T1, V1, 5)),
-        (Ways::Units, 2) => Some((I1, T1, V2, 1)),
+        (Ways::OtherTarget, 0) => Some((I1, TP2, V1, 0)),
+        (Ways::OtherVolume, 0) => Some((I1, TP1, V2, 0)),
+        (Ways::Second, 0) | (Ways::Both, 1) => Some((I2, TP1, V2, 0)),
+        (Ways::Second, 1) | (Ways::Both, 2) => Some((I3, TP1, V2, 0)),
+        (Ways::TwoUnits | Ways::Units, 1) => Some((I1, TP1, V1, 5)),
+        (Ways::Units, 2) => Some((I1, TP1, V2, 1)),
         _ => None,
     }
 }
