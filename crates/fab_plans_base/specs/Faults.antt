@@ -1,15 +1,25 @@
 -- The faults of plan texts: which stands, and that it stands first.
 use Rattle.std.specs.Prelude.{ℕ, ◌≡◌, ◌+◌, ◌<◌, ◌≤◌, List, [], ◌∷◌, ◌++◌, length, ◌⊎◌, Result, MatchResult}
-use Rattle.fab_plans_base.specs.Limits.{most_bytes, most_steps}
-use Rattle.fab_plans_base.specs.Texts.{lines_of, words_of}
-use Rattle.fab_plans_base.specs.Values.{Kind, kind_of, Value, SpellsValue, fault_of}
-use Rattle.fab_plans_base.specs.Steps.{PlanStep}
-use Rattle.fab_plans_base.specs.Forms.{keyword_text, form_of, Takes, kinds_in}
-use Rattle.fab_plans_base.specs.Plans.{SpellsStep, SpellsLines, plan_text}
-use Rattle.fab_plans_base.specs.declared.keyword.Keyword.{Keyword}
+use Rattle.fab_steps.specs.Limits.{most_bytes, most_steps}
+use Rattle.fab_steps.specs.Texts.{lines_of, words_of}
+use Rattle.fab_steps.specs.Values.{Kind, kind_of, Value, SpellsValue, a_fabric, a_name, a_flag, a_member, a_port_member, a_wwn, a_unit}
+use Rattle.fab_steps.specs.Steps.{PlanStep}
+use Rattle.fab_steps.specs.Forms.{keyword_text, form_of, Takes, kinds_in}
+use Rattle.fab_steps.specs.Plans.{SpellsStep, SpellsLines, plan_text}
+use Rattle.fab_steps.specs.declared.keyword.Keyword.{Keyword}
 use Rattle.fab_plans_base.specs.declared.fault.PlanFaultKind.{PlanFaultKind}
 use Rattle.fab_plans_base.specs.declared.fault.PlanFaultKind.TheVariants as kind
 use Rattle.fab_plans_base.specs.declared.fault.PlanFault.{PlanFault}
+
+-- the fault of a word that should be of a kind and is not
+abbrev pub fault_of : Kind → PlanFaultKind
+fault_of a_fabric = kind.Fabric
+fault_of a_name = kind.Name
+fault_of a_flag = kind.Flag
+fault_of a_member = kind.Member
+fault_of a_port_member = kind.Member
+fault_of a_wwn = kind.Wwn
+fault_of a_unit = kind.Number
 
 -- the word is a text of some value of the kind
 pub record IsOfKind (kind : Kind) (word : List ℕ) : Type 0 where

@@ -1,8 +1,1 @@
-pub mod Limits
-pub mod Texts
-pub mod Values
-pub mod Steps
-pub mod Actions
-pub mod Forms
-pub mod Plans
 pub mod Faults

@@ -1,18 +1,7 @@
 //! What holds of plan texts and of the printed forms of steps.
 ghost use Rattle.std.specs.Prelude.{◌≡◌, ℕ, List, All};
-ghost use Rattle.fab_plans_base.specs.Limits.{most_bytes, most_steps, most_items, last_unit};
-ghost use Rattle.fab_plans_base.specs.Steps.{PlanStep};
-ghost use Rattle.fab_plans_base.specs.Plans.{IsStep, IsWithinLimits, Spells, plan_text};
-
-use crate::{LAST_UNIT, MOST_BYTES, MOST_ITEMS, MOST_STEPS};
-
-/// The constants are the limits that the definitions name.
-pub fn constants_are_the_limits()
-    ensures bytes { MOST_BYTES ≡ most_bytes }
-    ensures steps { MOST_STEPS ≡ most_steps }
-    ensures items { MOST_ITEMS ≡ most_items }
-    ensures unit { LAST_UNIT ≡ last_unit }
-{}
+ghost use Rattle.fab_steps.specs.Steps.{PlanStep};
+ghost use Rattle.fab_steps.specs.Plans.{IsStep, IsWithinLimits, Spells, plan_text};
 
 /// A text spells one plan at most.
 pub fn one_plan_a_text()

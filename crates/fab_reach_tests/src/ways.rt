@@ -26,6 +26,8 @@ pub enum Ways {
     Second,
     /// Those of both hosts.
     Both,
+    /// That of the first host to the first volume at unit 5.
+    UnitFive,
     /// Those of the first host to the first volume at units 0 and 5.
     TwoUnits,
     /// The same, and that to the second volume at unit 1.
@@ -40,7 +42,7 @@ fn way(ways: Ways, number: usize) -> Option<Way> {
         (Ways::OtherVolume, 0) => Some((I1, TP1, V2, 0)),
         (Ways::Second, 0) | (Ways::Both, 1) => Some((I2, TP1, V2, 0)),
         (Ways::Second, 1) | (Ways::Both, 2) => Some((I3, TP1, V2, 0)),
-        (Ways::TwoUnits | Ways::Units, 1) => Some((I1, TP1, V1, 5)),
+        (Ways::UnitFive, 0) | (Ways::TwoUnits | Ways::Units, 1) => Some((I1, TP1, V1, 5)),
         (Ways::Units, 2) => Some((I1, TP1, V2, 1)),
         _ => None,
     }

@@ -3,7 +3,7 @@ use Rattle.std.specs.String.{string_bytes}
 use Rattle.std.proofs.lemmas.List.{take_all}
 use Rattle.std.proofs.lemmas.List.Elements.{All-more, recursion_from_All}
 use Rattle.std.proofs.lemmas.Grind.{common_steps}
-use Rattle.fab_plans_base.specs.Plans.{IsStep, Spells, plan_text}
+use Rattle.fab_steps.specs.Plans.{IsStep, Spells, plan_text}
 use Rattle.fab_plans_base.proofs.Printed.{printed_again}
 use Rattle.fab_plans_base.proofs.print.print_plan.Goals as goal
 

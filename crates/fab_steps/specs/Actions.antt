@@ -1,11 +1,11 @@
 -- What contracts see of an action.
-use Rattle.fab_plans_base.specs.Steps.{PlanStep, alias_put, alias_drop, zone_put, zone_drop, set_put, set_drop, activate, deactivate, default_zone, host_group_put, host_group_drop, group_new, group_drop, group_host, group_unhost, group_target, group_untarget, group_map, group_unmap, group_expose, group_hide}
-use Rattle.fab_plans_base.specs.declared.step.Action.{Action}
-use Rattle.fab_plans_base.specs.declared.step.Action.TheVariants.{Zoning, Mapping}
-use Rattle.fab_plans_base.specs.declared.zoning_action.ZoningAction.{ZoningAction}
-use Rattle.fab_plans_base.specs.declared.zoning_action.ZoningAction.TheVariants as zoning
-use Rattle.fab_plans_base.specs.declared.mapping_action.MappingAction.{MappingAction}
-use Rattle.fab_plans_base.specs.declared.mapping_action.MappingAction.TheVariants as mapping
+use Rattle.fab_steps.specs.Steps.{PlanStep, alias_put, alias_drop, zone_put, zone_drop, set_put, set_drop, activate, deactivate, default_zone, host_group_put, host_group_drop, group_new, group_drop, group_host, group_unhost, group_target, group_untarget, group_map, group_unmap, group_expose, group_hide}
+use Rattle.fab_steps.specs.declared.step.Action.{Action}
+use Rattle.fab_steps.specs.declared.step.Action.TheVariants.{Zoning, Mapping}
+use Rattle.fab_steps.specs.declared.zoning_action.ZoningAction.{ZoningAction}
+use Rattle.fab_steps.specs.declared.zoning_action.ZoningAction.TheVariants as zoning
+use Rattle.fab_steps.specs.declared.mapping_action.MappingAction.{MappingAction}
+use Rattle.fab_steps.specs.declared.mapping_action.MappingAction.TheVariants as mapping
 
 -- the step that an action of zoning is, its lists without where they lie in memory
 abbrev pub zoning_step : {A : Type 0} → ZoningAction A → PlanStep

@@ -1,8 +1,8 @@
 //! The first words of mapping lines.
 ghost use Rattle.std.specs.Prelude.{◌≡◌, ℕ, IsTrue, IfSome, IfNone, ◌↔◌};
-ghost use Rattle.fab_plans_base.specs.Forms.{keyword_text, form_of, Takes};
-ghost use Rattle.fab_plans_base.specs.declared.mapping_keyword.MappingKeyword.{MappingKeyword};
-ghost use Rattle.fab_plans_base.specs.declared.keyword.Keyword.TheVariants.{Mapping};
+ghost use Rattle.fab_steps.specs.Forms.{keyword_text, form_of, Takes};
+ghost use Rattle.fab_steps.specs.declared.mapping_keyword.MappingKeyword.{MappingKeyword};
+ghost use Rattle.fab_steps.specs.declared.keyword.Keyword.TheVariants.{Mapping};
 
 use crate::keyword::fits_list;
 

@@ -1,11 +1,11 @@
 -- The grammar of plan texts, and the printed form of a plan.
 use Rattle.std.specs.Prelude.{ℕ, ◌≡◌, ◌≤◌, List, [], ◌∷◌, ◌++◌, length, codes}
 use Rattle.std.specs.List.{flat_map}
-use Rattle.fab_plans_base.specs.Limits.{most_bytes, most_steps}
-use Rattle.fab_plans_base.specs.Texts.{lines_of, words_of}
-use Rattle.fab_plans_base.specs.Values.{Value, SpellsValues, value_text}
-use Rattle.fab_plans_base.specs.Steps.{PlanStep}
-use Rattle.fab_plans_base.specs.Forms.{keyword_text, form_of, keyword_of, values_of, Takes}
+use Rattle.fab_steps.specs.Limits.{most_bytes, most_steps}
+use Rattle.fab_steps.specs.Texts.{lines_of, words_of}
+use Rattle.fab_steps.specs.Values.{Value, SpellsValues, value_text}
+use Rattle.fab_steps.specs.Steps.{PlanStep}
+use Rattle.fab_steps.specs.Forms.{keyword_text, form_of, keyword_of, values_of, Takes}
 
 -- the first word of a line is that of the step, and the others are texts of its values, not too few or too many
 pub record SpellsWords (first : List ℕ) (others : List (List ℕ)) (step : PlanStep) : Type 0 where

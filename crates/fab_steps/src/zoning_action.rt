@@ -1,8 +1,8 @@
 //! What the steps of zoning do.
 ghost use Rattle.std.specs.Prelude.{◌≡◌};
-ghost use Rattle.fab_plans_base.specs.Actions.{zoning_step};
-ghost use Rattle.fab_plans_base.specs.Forms.{keyword_of};
-ghost use Rattle.fab_plans_base.specs.declared.keyword.Keyword.TheVariants.{Zoning};
+ghost use Rattle.fab_steps.specs.Actions.{zoning_step};
+ghost use Rattle.fab_steps.specs.Forms.{keyword_of};
+ghost use Rattle.fab_steps.specs.declared.keyword.Keyword.TheVariants.{Zoning};
 
 use crate::ZoningKeyword;
 use fab_names::{Fabric, Member, Name};

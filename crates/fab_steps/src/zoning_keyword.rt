@@ -1,8 +1,8 @@
 //! The first words of zoning lines.
 ghost use Rattle.std.specs.Prelude.{◌≡◌, ℕ, IsTrue, IfSome, IfNone, ◌↔◌};
-ghost use Rattle.fab_plans_base.specs.Forms.{keyword_text, form_of, Takes};
-ghost use Rattle.fab_plans_base.specs.declared.zoning_keyword.ZoningKeyword.{ZoningKeyword};
-ghost use Rattle.fab_plans_base.specs.declared.keyword.Keyword.TheVariants.{Zoning};
+ghost use Rattle.fab_steps.specs.Forms.{keyword_text, form_of, Takes};
+ghost use Rattle.fab_steps.specs.declared.zoning_keyword.ZoningKeyword.{ZoningKeyword};
+ghost use Rattle.fab_steps.specs.declared.keyword.Keyword.TheVariants.{Zoning};
 
 use crate::keyword::fits_list;
 

@@ -1,7 +1,7 @@
 //! The steps of plans.
 ghost use Rattle.std.specs.Prelude.{◌≡◌};
-ghost use Rattle.fab_plans_base.specs.Forms.{keyword_of};
-ghost use Rattle.fab_plans_base.specs.Plans.{IsStep};
+ghost use Rattle.fab_steps.specs.Forms.{keyword_of};
+ghost use Rattle.fab_steps.specs.Plans.{IsStep};
 
 use crate::{Keyword, MappingAction, ZoningAction};
 use std::alloc::Allocator;
@@ -26,12 +26,12 @@ pub struct Step<A: Allocator + Copy> {
 }
 
 impl<A: Allocator + Copy> Model for Step<A> {
-    ghost use Rattle.fab_plans_base.specs.Steps.{PlanStep};
+    ghost use Rattle.fab_steps.specs.Steps.{PlanStep};
 
     ghost Value = { PlanStep };
 
-    ghost use Rattle.fab_plans_base.specs.Actions.{step_of};
-    ghost use Rattle.fab_plans_base.specs.Plans.{IsStep};
+    ghost use Rattle.fab_steps.specs.Actions.{step_of};
+    ghost use Rattle.fab_steps.specs.Plans.{IsStep};
 
     ghost view = { λ s. step_of s.action };
 
@@ -39,7 +39,7 @@ impl<A: Allocator + Copy> Model for Step<A> {
 }
 
 impl<A: Allocator + Copy> Step<A> {
-    ghost use Rattle.fab_plans_base.specs.Actions.{step_of};
+    ghost use Rattle.fab_steps.specs.Actions.{step_of};
 
     /// The step of an action that some line spells: the lists of the action have 1 to 255 items,
     /// an alias is given no alias as a member, and a logical unit number is at most 16383.

@@ -1,12 +1,12 @@
 -- The forms of lines: the first word, and the words that may follow it.
 use Rattle.std.specs.Prelude.{ℕ, ◌≡◌, ◌+◌, ◌-◌, ◌<◌, ◌≤◌, List, [], ◌∷◌, ◌++◌, length, map, replicate, codes, Option, Some, None}
-use Rattle.fab_plans_base.specs.Limits.{most_items}
-use Rattle.fab_plans_base.specs.Steps.{PlanStep, alias_put, alias_drop, zone_put, zone_drop, set_put, set_drop, activate, deactivate, default_zone, host_group_put, host_group_drop, group_new, group_drop, group_host, group_unhost, group_target, group_untarget, group_map, group_unmap, group_expose, group_hide}
-use Rattle.fab_plans_base.specs.Values.{Kind, a_fabric, a_name, a_flag, a_member, a_port_member, a_wwn, a_unit, Value, of_fabric, of_name, of_flag, of_member, of_port_member, of_wwn, of_unit}
-use Rattle.fab_plans_base.specs.declared.keyword.Keyword.{Keyword}
-use Rattle.fab_plans_base.specs.declared.keyword.Keyword.TheVariants.{Zoning, Mapping}
-use Rattle.fab_plans_base.specs.declared.zoning_keyword.ZoningKeyword.TheVariants as zoning
-use Rattle.fab_plans_base.specs.declared.mapping_keyword.MappingKeyword.TheVariants as mapping
+use Rattle.fab_steps.specs.Limits.{most_items}
+use Rattle.fab_steps.specs.Steps.{PlanStep, alias_put, alias_drop, zone_put, zone_drop, set_put, set_drop, activate, deactivate, default_zone, host_group_put, host_group_drop, group_new, group_drop, group_host, group_unhost, group_target, group_untarget, group_map, group_unmap, group_expose, group_hide}
+use Rattle.fab_steps.specs.Values.{Kind, a_fabric, a_name, a_flag, a_member, a_port_member, a_wwn, a_unit, Value, of_fabric, of_name, of_flag, of_member, of_port_member, of_wwn, of_unit}
+use Rattle.fab_steps.specs.declared.keyword.Keyword.{Keyword}
+use Rattle.fab_steps.specs.declared.keyword.Keyword.TheVariants.{Zoning, Mapping}
+use Rattle.fab_steps.specs.declared.zoning_keyword.ZoningKeyword.TheVariants as zoning
+use Rattle.fab_steps.specs.declared.mapping_keyword.MappingKeyword.TheVariants as mapping
 
 -- the first word
 abbrev pub keyword_text : Keyword → List ℕ

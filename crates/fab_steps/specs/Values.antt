@@ -12,9 +12,7 @@ use Rattle.fab_zoning.specs.declared.flag.DefaultFlag.{DefaultFlag}
 use Rattle.fab_zoning.specs.declared.flag.DefaultFlag.TheVariants.{Permit, Deny}
 use Rattle.std.specs.Prelude.{map}
 use Rattle.std.specs.Borrow.{Bor}
-use Rattle.fab_plans_base.specs.Limits.{last_unit}
-use Rattle.fab_plans_base.specs.declared.fault.PlanFaultKind.{PlanFaultKind}
-use Rattle.fab_plans_base.specs.declared.fault.PlanFaultKind.TheVariants as fault
+use Rattle.fab_steps.specs.Limits.{last_unit}
 
 -- the kinds of words that may follow the first word of a line
 pub data Kind : Type 0 where
@@ -88,16 +86,6 @@ value_text (of_member m) = member_text m
 value_text (of_port_member m) = member_text m
 value_text (of_wwn w) = wwn_text w
 value_text (of_unit u) = decimal u
-
--- the fault of a word that should be of a kind and is not
-abbrev pub fault_of : Kind → PlanFaultKind
-fault_of a_fabric = fault.Fabric
-fault_of a_name = fault.Name
-fault_of a_flag = fault.Flag
-fault_of a_member = fault.Member
-fault_of a_port_member = fault.Member
-fault_of a_wwn = fault.Wwn
-fault_of a_unit = fault.Number
 
 -- the words that references lead to
 abbrev pub texts_of : List (Bor (List ℕ)) → List (List ℕ)

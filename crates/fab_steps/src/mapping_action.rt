@@ -1,8 +1,8 @@
 //! What the steps of mapping do.
 ghost use Rattle.std.specs.Prelude.{◌≡◌};
-ghost use Rattle.fab_plans_base.specs.Actions.{mapping_step};
-ghost use Rattle.fab_plans_base.specs.Forms.{keyword_of};
-ghost use Rattle.fab_plans_base.specs.declared.keyword.Keyword.TheVariants.{Mapping};
+ghost use Rattle.fab_steps.specs.Actions.{mapping_step};
+ghost use Rattle.fab_steps.specs.Forms.{keyword_of};
+ghost use Rattle.fab_steps.specs.declared.keyword.Keyword.TheVariants.{Mapping};
 
 use crate::MappingKeyword;
 use fab_names::{Name, Wwn};
