@@ -1,18 +1,12 @@
 -- A text spells one list of steps at most.
-use Rattle.std.proofs.Common.{ℕ, ◌≡◌, ◌-◌, List, [], ◌∷◌, suc, length, get_or, drop, map, replicate, codes, cond, nat_eq, refl, sym, ap, ◌∙◌, subst, arith}
+use Rattle.std.proofs.Common.{ℕ, ◌≡◌, ◌-◌, List, [], ◌∷◌, suc, length, get_or, drop, map, replicate, codes, cond, nat_eq, refl, sym, ap, ◌∙◌, arith}
 use Rattle.std.specs.Cmp.Lexicographic.{pointwise}
-use Rattle.fab_names.specs.WorldWideNames.{SpellsDigits, number_of}
-use Rattle.fab_names.specs.Places.{Position, SpellsPlace}
-use Rattle.fab_names.specs.Numbers.{SpellsNumber}
-use Rattle.fab_names.specs.Fabrics.{fabric_text}
-use Rattle.fab_names.specs.Members.{SpellsMember}
 use Rattle.fab_names.specs.declared.fabric.Fabric.{Fabric}
-use Rattle.fab_names.specs.declared.fabric.Fabric.TheVariants.{A, B}
+use Rattle.fab_names.specs.declared.fabric.Fabric.TheVariants.{A}
 use Rattle.fab_names.specs.declared.member.Member.{Member}
 use Rattle.fab_names.specs.declared.member.Member.TheVariants as member
-use Rattle.fab_names.proofs.Digits.{one_reading}
-use Rattle.fab_names.proofs.Numerals.{one_number, not_in_number}
-use Rattle.fab_names.proofs.Splits.{one_cut}
+use Rattle.fab_names.proofs.Numerals.{one_number}
+use Rattle.fab_names.proofs.Unique.{one_fabric, one_wwn, one_member}
 use Rattle.fab_zoning.specs.declared.flag.DefaultFlag.{DefaultFlag}
 use Rattle.fab_zoning.specs.declared.flag.DefaultFlag.TheVariants.{Permit, Deny}
 use Rattle.fab_steps.specs.Texts.{words_of}
@@ -25,56 +19,21 @@ use Rattle.fab_steps.specs.declared.keyword.Keyword.TheVariants.{Zoning, Mapping
 use Rattle.fab_steps.specs.declared.zoning_keyword.ZoningKeyword.TheVariants as zoning
 use Rattle.fab_steps.specs.declared.mapping_keyword.MappingKeyword.TheVariants as mapping
 
--- a fabric's text, a flag's word and a world-wide name's text are those of one
-one_fabric : (f g : Fabric) → fabric_text f ≡ fabric_text g → f ≡ g
-one_fabric A A e = refl
-one_fabric A B e = absurd (omega (arith, ap (λ (t : List ℕ). get_or t 0 0) e))
-one_fabric B A e = absurd (omega (arith, ap (λ (t : List ℕ). get_or t 0 0) e))
-one_fabric B B e = refl
-
+-- a flag's word is that of one flag
 one_flag : (f g : DefaultFlag) → flag_text f ≡ flag_text g → f ≡ g
 one_flag Permit Permit e = refl
 one_flag Permit Deny e = absurd (omega (arith, ap (λ (t : List ℕ). get_or t 0 0) e))
 one_flag Deny Permit e = absurd (omega (arith, ap (λ (t : List ℕ). get_or t 0 0) e))
 one_flag Deny Deny e = refl
 
-one_wwn : (text : List ℕ) (n m : ℕ) → SpellsDigits text n → SpellsDigits text m → n ≡ m
-one_wwn text n m s t = sym s.value ∙ ap number_of (one_reading s.digits t.digits text s.sixteen t.sixteen s.form t.form) ∙ t.value
-
-one_place : (text : List ℕ) (p q : Position) → SpellsPlace text p → SpellsPlace text q → p ≡ q
-one_place text p q (d, s, is, spelled) (e, t, is2, spelled2) =
-    let cut = one_cut 44 d s e t (not_in_number 44 (λ h. omega arith) d p.domain spelled.domain_number) (not_in_number 44 (λ h. omega arith) e q.domain spelled2.domain_number) (sym is ∙ is2) in
-    let domain : p.domain ≡ q.domain = one_number e p.domain q.domain (subst (λ x. SpellsNumber x p.domain) cut.0 spelled.domain_number) spelled2.domain_number in
-    let slot : p.slot ≡ q.slot = one_number t p.slot q.slot (subst (λ x. SpellsNumber x p.slot) cut.1 spelled.slot_number) spelled2.slot_number in
-    λ i. record { domain = domain i; slot = slot i }
-
--- a member's text is that of one member
-one_member : (text : List ℕ) (m k : Member) → SpellsMember text m → SpellsMember text k → m ≡ k
-one_member text (member.Port n) (member.Port m) s t = let same : s.0 ≡ t.0 = ap (drop 5) (sym s.1 ∙ t.1) in ap member.Port (one_wwn t.0 n m (subst (λ x. SpellsDigits x n) same s.2.0) t.2.0)
-one_member text (member.Port n) (member.Node m) s t = absurd (omega (arith, ap (λ (x : List ℕ). get_or x 2 0) (sym s.1 ∙ t.1)))
-one_member text (member.Port n) (member.Place q) s t = absurd (omega (arith, ap (λ (x : List ℕ). get_or x 0 0) (sym s.1 ∙ t.1)))
-one_member text (member.Port n) (member.Alias b) s t = absurd (omega (arith, ap (λ (x : List ℕ). get_or x 0 0) (sym s.1 ∙ t.1)))
-one_member text (member.Node n) (member.Port m) s t = absurd (omega (arith, ap (λ (x : List ℕ). get_or x 2 0) (sym s.1 ∙ t.1)))
-one_member text (member.Node n) (member.Node m) s t = let same : s.0 ≡ t.0 = ap (drop 5) (sym s.1 ∙ t.1) in ap member.Node (one_wwn t.0 n m (subst (λ x. SpellsDigits x n) same s.2.0) t.2.0)
-one_member text (member.Node n) (member.Place q) s t = absurd (omega (arith, ap (λ (x : List ℕ). get_or x 0 0) (sym s.1 ∙ t.1)))
-one_member text (member.Node n) (member.Alias b) s t = absurd (omega (arith, ap (λ (x : List ℕ). get_or x 0 0) (sym s.1 ∙ t.1)))
-one_member text (member.Place p) (member.Port m) s t = absurd (omega (arith, ap (λ (x : List ℕ). get_or x 0 0) (sym s.1 ∙ t.1)))
-one_member text (member.Place p) (member.Node m) s t = absurd (omega (arith, ap (λ (x : List ℕ). get_or x 0 0) (sym s.1 ∙ t.1)))
-one_member text (member.Place p) (member.Place q) s t = let same : s.0 ≡ t.0 = ap (drop 3) (sym s.1 ∙ t.1) in ap member.Place (one_place t.0 p q (subst (λ x. SpellsPlace x p) same s.2) t.2)
-one_member text (member.Place p) (member.Alias b) s t = absurd (omega (arith, ap (λ (x : List ℕ). get_or x 0 0) (sym s.1 ∙ t.1)))
-one_member text (member.Alias a) (member.Port m) s t = absurd (omega (arith, ap (λ (x : List ℕ). get_or x 0 0) (sym s.1 ∙ t.1)))
-one_member text (member.Alias a) (member.Node m) s t = absurd (omega (arith, ap (λ (x : List ℕ). get_or x 0 0) (sym s.1 ∙ t.1)))
-one_member text (member.Alias a) (member.Place q) s t = absurd (omega (arith, ap (λ (x : List ℕ). get_or x 0 0) (sym s.1 ∙ t.1)))
-one_member text (member.Alias a) (member.Alias b) s t = let same : s.0 ≡ t.0 = ap (drop 6) (sym s.1 ∙ t.1) in ap member.Alias (s.2.0 ∙ same ∙ sym t.2.0)
-
 -- a word spells one value of a kind
 one_value : (word : List ℕ) (v w : Value) → kind_of v ≡ kind_of w → SpellsValue word v → SpellsValue word w → v ≡ w
-one_value word (of_fabric f) (of_fabric g) kinds s t = ap of_fabric (one_fabric f g (sym s ∙ t))
+one_value word (of_fabric f) (of_fabric g) kinds s t = ap of_fabric (one_fabric word f g s t)
 one_value word (of_name n) (of_name m) kinds s t = ap of_name (s.0 ∙ sym t.0)
 one_value word (of_flag f) (of_flag g) kinds s t = ap of_flag (one_flag f g (sym s ∙ t))
 one_value word (of_member m) (of_member k) kinds s t = ap of_member (one_member word m k s t)
 one_value word (of_port_member m) (of_port_member k) kinds s t = ap of_port_member (one_member word m k s.0 t.0)
-one_value word (of_wwn n) (of_wwn m) kinds s t = ap of_wwn (one_wwn word n m s.0 t.0)
+one_value word (of_wwn n) (of_wwn m) kinds s t = ap of_wwn (one_wwn word n m s t)
 one_value word (of_unit n) (of_unit m) kinds s t = ap of_unit (one_number word n m s.number t.number)
 one_value word v w kinds s t = absurd cc
 
