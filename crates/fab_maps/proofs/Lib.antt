@@ -8,3 +8,5 @@ pub mod MapsOfSets
 pub mod Passing
 pub mod Adding
 pub mod Filters
+pub mod Sizes
+pub mod Changed
