@@ -8,16 +8,16 @@ use Rattle.std.specs.Map.{set_value}
 use Rattle.std.proofs.lemmas.Map.Steps.{set_value_same}
 use Rattle.fab_names.specs.Orders.{name_cmp}
 use Rattle.fab_names.proofs.OrderLaws.{name_total, name_exact}
-use Rattle.fab_inventory.proofs.SeenMaps.{get_entries, seen_insert}
+use Rattle.fab_maps.proofs.SeenMaps.{get_entries, seen_insert}
 use Rattle.fab_inventory.specs.declared.port.Known.{Known}
 use Rattle.fab_inventory.specs.declared.port.Port.{Port}
 use Rattle.fab_inventory.specs.Ports.{KnownPorts, port_at, port_of}
 use Rattle.fab_inventory.specs.Holders.{holder_in}
 use Rattle.fab_inventory.specs.Inventories.{InventoryRows}
-use Rattle.fab_mapping.specs.declared.fault.MappingFault.{MappingFault}
-use Rattle.fab_mapping.specs.declared.fault.MappingFault.TheVariants.{UnitTaken, Limit, Memory}
-use Rattle.fab_mapping.specs.declared.fault.MappingLimit.TheVariants.{Parts}
-use Rattle.fab_mapping.specs.Groups.{HostGroupRows, StorageGroupRows, AddHostsLimit, AddTargetLimit, MapRefusal}
+use Rattle.fab_mapping_base.specs.declared.fault.MappingFault.{MappingFault}
+use Rattle.fab_mapping_base.specs.declared.fault.MappingFault.TheVariants.{UnitTaken, Limit, Memory}
+use Rattle.fab_mapping_base.specs.declared.fault.MappingLimit.TheVariants.{Parts}
+use Rattle.fab_mapping_base.specs.Groups.{HostGroupRows, StorageGroupRows, AddHostsLimit, AddTargetLimit, MapRefusal}
 use Rattle.fab_mapping.specs.Mappings.{MappingRows, ChangesGroup, AddHostsFails, AddTargetFails, MapFails, IsPortOf, IsVolumeOn}
 
 -- the code's maps, as contracts see them

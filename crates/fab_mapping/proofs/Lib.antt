@@ -1,12 +1,3 @@
 pub mod GroupChanges
-pub mod GroupParts
-pub mod NexusOrder
-pub mod SeenEntries
-pub mod SeenSets
-pub mod Least
-pub mod Walked
-pub mod Serving
-pub mod ClashSearch
 pub mod Passed
-pub mod Sounding
 pub mod Keeping

@@ -1,6 +1,5 @@
-pub mod Groups
-pub mod Nexuses
-pub mod Clashes
+pub use Rattle.fab_mapping_base.specs.Groups
+pub use Rattle.fab_mapping_base.specs.Nexuses
+pub use Rattle.fab_mapping_base.specs.Clashes
 pub mod Mappings
-pub mod ClashSearch
 pub mod Soundness

@@ -4,19 +4,20 @@ use Rattle.std.specs.Ordering.{is_gt}
 use Rattle.std.specs.Coded.{Coded, code_by, coded×}
 use Rattle.std.specs.FinMap as map
 use Rattle.std.specs.FinSet as set
+use Rattle.fab_maps.specs.Firsts.{IsFirstWithout}
+use Rattle.fab_maps.specs.Room.{IsFull, HasRoom}
 use Rattle.fab_names.specs.Orders.{name_cmp}
 use Rattle.fab_names.specs.Codes.{name_code}
-use Rattle.fab_inventory.specs.declared.holder.Volume.{Volume}
-use Rattle.fab_inventory.specs.Holders.{holder_in}
 use Rattle.fab_inventory.specs.Inventories.{InventoryRows, IsHost, IsArray}
-use Rattle.fab_mapping.specs.declared.limits.TheConstants.{MOST_HOSTS, MOST_HOST_GROUPS, MOST_STORAGE_GROUPS, LAST_UNIT}
-use Rattle.fab_mapping.specs.declared.fault.MappingFault.{MappingFault}
-use Rattle.fab_mapping.specs.declared.fault.MappingFault.TheVariants.{Unknown, UnknownPort, Exists, InUse, WrongArray, UnitTaken, NotMapped, Limit, Memory}
-use Rattle.fab_mapping.specs.declared.fault.MappingLimit.TheVariants.{HostGroups, Hosts, Groups, Parts, UnitNumber}
-use Rattle.fab_mapping.specs.declared.nexus.Nexus.{Nexus}
-use Rattle.fab_mapping.specs.Groups.{HostGroupRows, StorageGroupRows, host_group_code, storage_group_code, AddHostsLimit, AddTargetLimit, MapRefusal}
-use Rattle.fab_mapping.specs.Nexuses.{Claim}
-use Rattle.fab_mapping.specs.Clashes.{StorageGroups, Maps, IsLeastClashIn, HasNoClashIn}
+use Rattle.fab_mapping_base.specs.declared.limits.TheConstants.{MOST_HOSTS, MOST_HOST_GROUPS, MOST_STORAGE_GROUPS, LAST_UNIT}
+use Rattle.fab_mapping_base.specs.declared.fault.MappingFault.{MappingFault}
+use Rattle.fab_mapping_base.specs.declared.fault.MappingFault.TheVariants.{Unknown, UnknownPort, Exists, InUse, WrongArray, UnitTaken, NotMapped, Limit, Memory}
+use Rattle.fab_mapping_base.specs.declared.fault.MappingLimit.TheVariants.{HostGroups, Hosts, Groups, Parts, UnitNumber}
+use Rattle.fab_mapping_base.specs.declared.nexus.Nexus.{Nexus}
+use Rattle.fab_mapping_base.specs.Groups.{HostGroupRows, StorageGroupRows, host_group_code, storage_group_code, AddHostsLimit, AddTargetLimit, MapRefusal}
+use Rattle.fab_mapping_base.specs.Nexuses.{Claim}
+pub use Rattle.fab_mapping_base.specs.Fitting.{IsPortOf, IsVolumeOn, IsVolumeElsewhere}
+use Rattle.fab_mapping_base.specs.Clashes.{StorageGroups, Maps, IsLeastClashIn, HasNoClashIn}
 
 -- the host groups and the storage groups, by name
 pub record MappingRows : Type 0 where
@@ -50,32 +51,17 @@ HasNoClash v = HasNoClashIn (IsMapped v)
 
 -- ---- host groups
 
--- the name is the first listed one that is no host's
-pub record IsFirstNoHost (v : InventoryRows) (hosts : List (List ℕ)) (n : List ℕ) : Type 0 where
-  pub at : ℕ
-  pub is : slice_get hosts at ≡ Some n
-  pub unknown : ¬ IsHost v.holders n
-  pub before : All (IsHost v.holders) (take at hosts)
-
--- there is no host group of this name, and there are as many as there may be
-abbrev pub HasNoRoom : {X : Type 0} → map.FinMap name_cmp X → List ℕ → Type 0
-HasNoRoom m name = (map.contains_key m name ≡ false) × (MOST_HOST_GROUPS ≤ map.len m)
-
--- a group of this name is there, or there are fewer than there may be
-abbrev pub HasRoom : {X : Type 0} → map.FinMap name_cmp X → List ℕ → Type 0
-HasRoom m name = map.contains_key m name ≡ false → map.len m < MOST_HOST_GROUPS
-
 -- nothing refuses the host group
 pub record CanPutHostGroup (v : MappingRows) (inventory : InventoryRows) (name : List ℕ) (hosts : List (List ℕ)) : Type 0 where
   pub few : length hosts ≤ MOST_HOSTS
   pub known : All (IsHost inventory.holders) hosts
-  pub room : HasRoom v.host_groups name
+  pub room : HasRoom v.host_groups name MOST_HOST_GROUPS
 
 -- what refuses it, in this order
 abbrev pub PutHostGroupFails : MappingRows → InventoryRows → List ℕ → List (List ℕ) → MappingFault → Type 0
 PutHostGroupFails v inventory name hosts (Limit Hosts) = MOST_HOSTS < length hosts
-PutHostGroupFails v inventory name hosts (Unknown n) = (length hosts ≤ MOST_HOSTS) × IsFirstNoHost inventory hosts n
-PutHostGroupFails v inventory name hosts (Limit HostGroups) = (length hosts ≤ MOST_HOSTS) × All (IsHost inventory.holders) hosts × HasNoRoom v.host_groups name
+PutHostGroupFails v inventory name hosts (Unknown n) = (length hosts ≤ MOST_HOSTS) × IsFirstWithout (IsHost inventory.holders) hosts n
+PutHostGroupFails v inventory name hosts (Limit HostGroups) = (length hosts ≤ MOST_HOSTS) × All (IsHost inventory.holders) hosts × IsFull v.host_groups name MOST_HOST_GROUPS
 PutHostGroupFails v inventory name hosts Memory = Unit {0}
 PutHostGroupFails v inventory name hosts _ = ⊥
 
@@ -142,10 +128,6 @@ abbrev pub RemoveHostsFails : MappingRows → List ℕ → List ℕ → MappingF
 RemoveHostsFails v name hosts (Unknown n) = NamesNoGroup v name (Unknown n) ⊎ ((n ≡ hosts) × GroupHas v name (λ g. set.contains g.host_groups hosts ≡ false))
 RemoveHostsFails v name hosts _ = ⊥
 
--- the port is known, and the array holds it
-abbrev pub IsPortOf : InventoryRows → List ℕ → ℕ → Type 0
-IsPortOf inventory array target = holder_in (map.get inventory.ports) target ≡ Some array
-
 -- what refuses to add a target, in this order: no such storage group, no such port, a port that the
 -- group's array does not hold, or one too many
 abbrev pub AddTargetFails : MappingRows → InventoryRows → List ℕ → ℕ → MappingFault → Type 0
@@ -161,14 +143,6 @@ abbrev pub RemoveTargetFails : MappingRows → List ℕ → ℕ → MappingFault
 RemoveTargetFails v name target (Unknown n) = NamesNoGroup v name (Unknown n)
 RemoveTargetFails v name target (UnknownPort w) = (w ≡ target) × GroupHas v name (λ g. set.contains g.targets target ≡ false)
 RemoveTargetFails v name target _ = ⊥
-
--- the volume is there, and on the array
-abbrev pub IsVolumeOn : InventoryRows → List ℕ → List ℕ → Type 0
-IsVolumeOn inventory array volume = (x : Volume) × (map.get inventory.volumes volume ≡ Some x) × (x.array ≡ array)
-
--- the volume is there, and on another array
-abbrev pub IsVolumeElsewhere : InventoryRows → List ℕ → List ℕ → Type 0
-IsVolumeElsewhere inventory array volume = (x : Volume) × (map.get inventory.volumes volume ≡ Some x) × (x.array ≢ array)
 
 -- what refuses to map a volume, in this order: a unit above the last, no such storage group, no such
 -- volume, a volume on another array, another volume at the unit, or one too many

@@ -1,26 +1,15 @@
-//! The mapping of volumes: host groups, storage groups, and where a host would meet two volumes.
+//! The mapping of volumes: host groups and storage groups by name, and where a host would meet two
+//! volumes.
+//!
+//! The groups themselves stand in `fab_mapping_base` and are handed on here.
 #![tactic(auto)]
 
-mod clash;
-mod fault;
-mod host_group;
-mod known_pairs;
-mod limits;
 mod mapping;
-mod nexus;
 mod search;
-mod served;
 mod sound;
-mod storage_group;
-#[cfg(test)]
-mod tests;
 
-pub use fault::{MappingFault, MappingLimit};
-pub use host_group::HostGroup;
-pub use limits::{
-    LAST_UNIT, MOST_GROUPS_SERVED, MOST_HOST_GROUPS, MOST_HOSTS, MOST_STORAGE_GROUPS, MOST_TARGETS,
-    MOST_UNITS,
+pub use fab_mapping_base::{
+    HostGroup, LAST_UNIT, MOST_GROUPS_SERVED, MOST_HOST_GROUPS, MOST_HOSTS, MOST_STORAGE_GROUPS,
+    MOST_TARGETS, MOST_UNITS, MappingFault, MappingLimit, Nexus, StorageGroup,
 };
 pub use mapping::Mapping;
-pub use nexus::Nexus;
-pub use storage_group::StorageGroup;

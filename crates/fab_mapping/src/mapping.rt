@@ -5,22 +5,23 @@ ghost use Rattle.std.specs.FinMap as map;
 ghost use Rattle.std.specs.FinSet as set;
 ghost use Rattle.fab_maps.specs.Firsts.{IsFirstWith, HasAt, HasNowhere};
 ghost use Rattle.fab_names.specs.Orders.{name_cmp};
-ghost use Rattle.fab_mapping.specs.Groups.{HoldsHost, HasTarget, IsOfArray, MapsVolume, host_group_of, new_storage_group, with_hosts, without_hosts, with_target, without_target, with_unit, without_unit, exposed_as, HasRoomForHosts, HasRoomForTarget, HasRoomForUnit, HasFreeUnit};
-ghost use Rattle.fab_mapping.specs.Mappings.{no_groups, IsLeastClash, HasNoClash, CanPutHostGroup, PutHostGroupFails, IsUnservedIn, IsLeastServing, DropHostGroupFails, CanMakeGroup, NewGroupFails, NamesNoGroup, ChangesGroup, GroupHas, AddHostsFails, RemoveHostsFails, IsPortOf, AddTargetFails, RemoveTargetFails, IsVolumeOn, MapFails, UnmapFails};
+ghost use Rattle.fab_mapping_base.specs.Groups.{HoldsHost, HasTarget, IsOfArray, MapsVolume, host_group_of, new_storage_group, with_hosts, without_hosts, with_target, without_target, with_unit, without_unit, exposed_as, HasRoomForHosts, HasRoomForTarget, HasRoomForUnit, HasFreeUnit};
+ghost use Rattle.fab_mapping_base.specs.Fitting.{IsPortOf, IsVolumeOn};
+ghost use Rattle.fab_mapping.specs.Mappings.{no_groups, IsLeastClash, HasNoClash, CanPutHostGroup, PutHostGroupFails, IsUnservedIn, IsLeastServing, DropHostGroupFails, CanMakeGroup, NewGroupFails, NamesNoGroup, ChangesGroup, GroupHas, AddHostsFails, RemoveHostsFails, AddTargetFails, RemoveTargetFails, MapFails, UnmapFails};
 ghost use Rattle.fab_inventory.specs.Inventories.{InventoryRows};
 ghost use Rattle.fab_mapping.specs.Soundness.{IsSound, Fits, Keeps, KeepsAll};
 
-use crate::clash::first_clash;
-use crate::known_pairs::KnownPairs;
-use crate::limits::{LAST_UNIT, MOST_HOST_GROUPS, MOST_HOSTS, MOST_STORAGE_GROUPS};
 use crate::search::{
-    first_no_host, first_of_array, first_serving, first_with_host, first_with_target,
-    first_with_volume, is_array, is_held_by,
+    first_of_array, first_serving, first_with_host, first_with_target, first_with_volume,
 };
-use crate::served::{exposed_of, served_hosts};
 use crate::sound::{are_sound, groups_fit, have_hosts};
-use crate::{HostGroup, MappingFault, MappingLimit, Nexus, StorageGroup};
+use crate::{
+    HostGroup, LAST_UNIT, MOST_HOST_GROUPS, MOST_HOSTS, MOST_STORAGE_GROUPS, MappingFault,
+    MappingLimit, Nexus, StorageGroup,
+};
 use fab_inventory::Inventory;
+use fab_mapping_base::{first_no_host, is_array, is_held_by, least_clash};
+use fab_maps::is_full;
 use fab_names::{Name, Wwn};
 use std::alloc::{AllocError, Allocator};
 use std::collections::BTreeMap;
@@ -188,11 +189,7 @@ impl<A: Allocator + Copy> Mapping<A> {
     pub fn clash(&self) -> Result<Option<Nexus>, AllocError>
         ensures { IfOk result (λ clash. MatchOption clash (HasNoClash self.now) (IsLeastClash self.now)) }
     {
-        let exposed = exposed_of(self.alloc, &self.groups)?;
-        let groups = exposed.as_slice();
-        let served = served_hosts(self.alloc, &self.host_groups, groups)?;
-        let mut known = KnownPairs::new(self.alloc, groups.len())?;
-        Ok(first_clash(groups, &served, &mut known))
+        least_clash(self.alloc, &self.host_groups, &self.groups)
     }
 
     /// Makes or replaces a host group. Hosts listed twice count once.
@@ -221,7 +218,7 @@ impl<A: Allocator + Copy> Mapping<A> {
         if let Some(host) = first_no_host(inventory, hosts) {
             return Err(MappingFault::Unknown(host));
         }
-        if self.host_groups.len() >= MOST_HOST_GROUPS && !self.host_groups.contains_key(&name) {
+        if is_full(&self.host_groups, &name, MOST_HOST_GROUPS) {
             return Err(MappingFault::Limit(MappingLimit::HostGroups));
         }
         let group = HostGroup::new(self.alloc, tenant, hosts)?;

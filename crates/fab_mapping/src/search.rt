@@ -1,59 +1,15 @@
-//! Searches in an inventory and among storage groups.
-ghost use Rattle.std.specs.Prelude.{◌≡◌, Some, IsTrue, ◌↔◌, All, MatchOption};
+//! Searches among host groups and storage groups.
+ghost use Rattle.std.specs.Prelude.{MatchOption};
 ghost use Rattle.std.specs.BTreeMap.{get};
 ghost use Rattle.fab_names.specs.Orders.{name_cmp};
-ghost use Rattle.fab_inventory.specs.Inventories.{IsHost, IsArray};
 ghost use Rattle.fab_maps.specs.Firsts.{IsFirstWith, HasAt, HasNowhere};
-ghost use Rattle.fab_mapping.specs.Groups.{HoldsHost, HasTarget, IsOfArray, MapsVolume};
-ghost use Rattle.fab_mapping.specs.Mappings.{IsFirstNoHost, IsUnservedIn, IsLeastServing};
+ghost use Rattle.fab_mapping_base.specs.Groups.{HoldsHost, HasTarget, IsOfArray, MapsVolume};
+ghost use Rattle.fab_mapping.specs.Mappings.{IsUnservedIn, IsLeastServing};
 
 use crate::{HostGroup, StorageGroup};
-use fab_inventory::{HolderKind, Inventory, Port};
 use fab_names::{Name, Wwn};
 use std::alloc::Allocator;
 use std::collections::BTreeMap;
-
-/// Whether the name is a host's.
-pub fn is_host<A: Allocator + Copy>(inventory: &Inventory<A>, name: &Name) -> bool
-    ensures { IsTrue result ↔ IsHost inventory.now.holders name.now }
-{
-    match inventory.holder(name) {
-        Some(holder) => holder.kind == HolderKind::Host,
-        None => false,
-    }
-}
-
-/// Whether the name is an array's.
-pub fn is_array<A: Allocator + Copy>(inventory: &Inventory<A>, name: &Name) -> bool
-    ensures { IsTrue result ↔ IsArray inventory.now.holders name.now }
-{
-    match inventory.holder(name) {
-        Some(holder) => holder.kind == HolderKind::Array,
-        None => false,
-    }
-}
-
-/// Whether the holder of this name holds the port.
-pub fn is_held_by(port: &Port, name: &Name) -> bool
-    ensures { IsTrue result ↔ (port.now.holder ≡ Some name.now) }
-{
-    match port.holder {
-        Some(holder) => holder == *name,
-        None => false,
-    }
-}
-
-/// The first listed name that is no host's.
-pub fn first_no_host<A: Allocator + Copy>(inventory: &Inventory<A>, hosts: &[Name]) -> Option<Name>
-    ensures { MatchOption result (All (IsHost inventory.now.holders) hosts.now) (IsFirstNoHost inventory.now hosts.now) }
-{
-    for host in hosts {
-        if !is_host(inventory, host) {
-            return Some(*host);
-        }
-    }
-    None
-}
 
 /// The least storage group by name that has the host group.
 pub fn first_serving<'a, A: Allocator + Copy>(

@@ -1,6 +1,6 @@
 use Rattle.std.proofs.Common.{◌≡◌, ℕ, List, ◌++◌}
 use Rattle.std.specs.List.{AllByRecursion}
-use Rattle.fab_mapping.specs.Groups.{StorageGroupRows, IsOfArray}
+use Rattle.fab_mapping_base.specs.Groups.{StorageGroupRows, IsOfArray}
 use Rattle.fab_mapping.proofs.search.first_of_array.Given as goal
 
 abbrev pub invariant-loop-name : goal.invariant-loop-name

@@ -1,7 +1,7 @@
 use Rattle.std.proofs.Common.{◌≡◌, ℕ, List, ◌++◌, true}
 use Rattle.std.specs.FinSet as set
 use Rattle.std.specs.List.{AllByRecursion}
-use Rattle.fab_mapping.specs.Groups.{StorageGroupRows}
+use Rattle.fab_mapping_base.specs.Groups.{StorageGroupRows}
 use Rattle.fab_mapping.proofs.search.first_serving.Given as goal
 
 abbrev pub invariant-loop-name : goal.invariant-loop-name

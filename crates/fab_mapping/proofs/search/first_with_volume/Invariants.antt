@@ -1,6 +1,6 @@
 use Rattle.std.proofs.Common.{◌≡◌, ℕ, List, ◌++◌}
 use Rattle.std.specs.List.{AllByRecursion}
-use Rattle.fab_mapping.specs.Groups.{StorageGroupRows, MapsVolume}
+use Rattle.fab_mapping_base.specs.Groups.{StorageGroupRows, MapsVolume}
 use Rattle.fab_mapping.proofs.search.first_with_volume.Given as goal
 
 abbrev pub invariant-loop-name : goal.invariant-loop-name

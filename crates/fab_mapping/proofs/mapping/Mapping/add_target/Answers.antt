@@ -1,6 +1,6 @@
 use Rattle.std.proofs.Common.{Some, None, is_some, refl, sym, ap, ◌∙◌}
 use mathlib.Core.Bool.{true≢false}
-use Rattle.fab_mapping.specs.Groups.{with_target}
+use Rattle.fab_mapping_base.specs.Groups.{with_target}
 use Rattle.fab_mapping.specs.Mappings.{MappingRows}
 use Rattle.fab_mapping.proofs.GroupChanges.{on_three, group_seen, changed, kept, on_ok, on_err, if_err, always_ok, add_target_fails, port_held, port_missing}
 use Rattle.fab_mapping.proofs.Keeping.{change_keeps, of_group, target_put, target_put_fits}

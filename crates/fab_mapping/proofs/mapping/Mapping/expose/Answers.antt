@@ -1,5 +1,5 @@
 use Rattle.std.proofs.Common.{None, true, is_some, refl, sym, ap}
-use Rattle.fab_mapping.specs.Groups.{exposed_as}
+use Rattle.fab_mapping_base.specs.Groups.{exposed_as}
 use Rattle.fab_mapping.specs.Mappings.{MappingRows}
 use Rattle.fab_mapping.proofs.GroupChanges.{group_seen, changed}
 use Rattle.fab_mapping.proofs.Keeping.{change_keeps, exposed_sound, exposed_fits}

@@ -1,6 +1,6 @@
 use Rattle.std.proofs.Common.{ap, subst}
 use Rattle.fab_names.proofs.OrderLaws.{name_total}
-use Rattle.fab_inventory.proofs.SeenMaps.{same_look_ups}
+use Rattle.fab_maps.proofs.SeenMaps.{same_look_ups}
 use Rattle.fab_mapping.specs.Mappings.{MappingRows, IsUnservedIn, IsLeastServing}
 use Rattle.fab_mapping.proofs.mapping.Mapping.group_serving.Goals as goal
 

@@ -1,7 +1,7 @@
 use Rattle.std.proofs.Common.{◌≡◌, Some, None, Bool, true, false, not, is_some, inl, inr, refl, sym, ap, ◌∙◌, arith}
 use mathlib.Core.Bool.{true≢false}
 use Rattle.std.specs.Cmp.Lexicographic.{bytes_decides}
-use Rattle.fab_mapping.specs.Groups.{with_unit}
+use Rattle.fab_mapping_base.specs.Groups.{with_unit}
 use Rattle.fab_mapping.specs.Mappings.{MappingRows}
 use Rattle.fab_mapping.proofs.GroupChanges.{on_four, group_seen, changed, kept, on_ok, on_err, if_err, always_ok, map_fails}
 use Rattle.fab_mapping.proofs.Keeping.{change_keeps, of_group, unit_put, unit_put_fits}

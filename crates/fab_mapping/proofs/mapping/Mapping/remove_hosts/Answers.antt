@@ -1,5 +1,5 @@
 use Rattle.std.proofs.Common.{Some, None, is_some, inl, inr, refl, sym, ap, ◌∙◌}
-use Rattle.fab_mapping.specs.Groups.{without_hosts}
+use Rattle.fab_mapping_base.specs.Groups.{without_hosts}
 use Rattle.fab_mapping.specs.Mappings.{MappingRows}
 use Rattle.fab_mapping.proofs.GroupChanges.{group_seen, changed, kept}
 use Rattle.fab_mapping.proofs.Keeping.{change_keeps, hosts_gone, hosts_gone_fits}

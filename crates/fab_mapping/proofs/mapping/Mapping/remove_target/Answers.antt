@@ -1,5 +1,5 @@
 use Rattle.std.proofs.Common.{Some, None, is_some, refl, sym, ap, ◌∙◌}
-use Rattle.fab_mapping.specs.Groups.{without_target}
+use Rattle.fab_mapping_base.specs.Groups.{without_target}
 use Rattle.fab_mapping.specs.Mappings.{MappingRows}
 use Rattle.fab_mapping.proofs.GroupChanges.{group_seen, changed, kept}
 use Rattle.fab_mapping.proofs.Keeping.{change_keeps, target_gone, target_gone_fits}

@@ -1,9 +1,0 @@
-use Rattle.std.proofs.Common.{sym, ap, ◌∙◌}
-use Rattle.std.specs.FinSet as set
-use Rattle.fab_names.proofs.OrderLaws.{name_total}
-use Rattle.fab_mapping.specs.Groups.{StorageGroupRows}
-use Rattle.fab_mapping.proofs.SeenSets.{contains_seen}
-use Rattle.fab_mapping.proofs.storage_group.StorageGroup.has_hosts.Goals as goal
-
-pub returns : goal.returns
-returns g c = c.contains.ensures ∙ sym (contains_seen name_total c.self.inside.host_groups c.args.hosts.now) ∙ ap (λ (v : StorageGroupRows). set.contains v.host_groups c.args.hosts.now) c.self.view_is

@@ -1,0 +1,8 @@
+pub mod GroupParts
+pub mod NexusOrder
+pub mod Least
+pub mod Walked
+pub mod Serving
+pub mod ClashSearch
+pub mod Passed
+pub mod Sounding

@@ -1,0 +1,11 @@
+use Rattle.std.proofs.Common.{Bor, ◌≤◌, length, map, false}
+use Rattle.std.specs.BTreeMap.{get}
+use Rattle.fab_maps.specs.Adding.{Adds}
+use Rattle.fab_names.specs.Orders.{name_cmp}
+use Rattle.fab_mapping_base.specs.Groups.{StorageGroupRows}
+use Rattle.fab_mapping_base.specs.ClashSearch.{lists}
+use Rattle.fab_mapping_base.proofs.Serving.{Below}
+use Rattle.fab_mapping_base.proofs.served.served_hosts.Given as goal
+
+abbrev pub invariant-loop-place : goal.invariant-loop-place
+invariant-loop-place g l = Adds (Below (get name_cmp l.host_groups) (map (λ (r : Bor StorageGroupRows). r.now) l.groups) l.place) (λ _. false) (lists l.served)

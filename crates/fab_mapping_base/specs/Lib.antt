@@ -1,0 +1,6 @@
+pub mod Groups
+pub mod Nexuses
+pub mod Clashes
+pub mod Soundness
+pub mod Fitting
+pub mod ClashSearch

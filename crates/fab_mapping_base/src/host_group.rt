@@ -1,0 +1,100 @@
+//! Host groups.
+ghost use Rattle.std.specs.Prelude.{◌≡◌, IfOk, IsTrue, ◌↔◌};
+ghost use Rattle.std.specs.FinSet as set;
+ghost use Rattle.std.specs.List.Sorted.{IsStrictlySortedBy};
+ghost use Rattle.fab_names.specs.Orders.{name_cmp};
+ghost use Rattle.fab_mapping_base.specs.Groups.{host_group_of};
+ghost use Rattle.fab_mapping_base.specs.Soundness.{IsSoundHostGroup};
+
+use crate::limits::MOST_HOSTS;
+use fab_maps::set_of;
+use fab_names::Name;
+use std::alloc::{AllocError, Allocator};
+use std::collections::BTreeSet;
+use std::collections::btree_set::Iter;
+use std::marker::Model;
+
+/// A host group: hosts that a storage group serves together (the group of initiators of SNIA
+/// Swordfish).
+///
+/// A contract sees it as a `HostGroupRows`.
+#[derive(Drop)]
+pub struct HostGroup<A: Allocator + Copy> {
+    tenant: Name,
+    hosts: BTreeSet<Name, A>,
+}
+
+impl<A: Allocator + Copy> Model for HostGroup<A> {
+    ghost use Rattle.std.specs.FinSet as set;
+    ghost use Rattle.fab_mapping_base.specs.Groups.{HostGroupRows, host_group_code};
+
+    ghost Value = { HostGroupRows };
+
+    ghost coded = { host_group_code };
+
+    ghost view = { λ a. record { tenant = a.tenant; hosts = set.from_list a.hosts.keys } };
+}
+
+impl<A: Allocator + Copy> HostGroup<A> {
+    /// A host group of the listed hosts. Hosts listed twice count once.
+    ///
+    /// # Errors
+    /// `AllocError` where there is no memory.
+    pub fn new(alloc: A, tenant: Name, hosts: &[Name]) -> Result<Self, AllocError>
+        ensures { IfOk result (λ group. group ≡ host_group_of tenant hosts.now) }
+    {
+        Ok(HostGroup {
+            tenant,
+            hosts: set_of(alloc, hosts)?,
+        })
+    }
+
+    /// The host group of these hosts, as they are: what a stored one was made of. Nothing is
+    /// tested, not even that there is a host.
+    pub fn from_parts(tenant: Name, hosts: BTreeSet<Name, A>) -> Self
+        ensures { result ≡ record { tenant = tenant; hosts = set.from_list hosts.keys } }
+    {
+        HostGroup { tenant, hosts }
+    }
+
+    /// Whose it is.
+    pub fn tenant(&self) -> Name
+        ensures { result ≡ self.now.tenant }
+    {
+        self.tenant
+    }
+
+    /// Whether the host is in it.
+    pub fn has_host(&self, host: &Name) -> bool
+        ensures { result ≡ set.contains self.now.hosts host.now }
+    {
+        self.hosts.contains(host)
+    }
+
+    /// Its hosts, in the order of their names.
+    pub fn hosts(&self) -> Iter<'_, Name>
+        ensures hosts { set.from_list result ≡ self.now.hosts }
+        ensures ordered { IsStrictlySortedBy name_cmp result }
+    {
+        self.hosts.iter()
+    }
+
+    /// Whether there is a host, and there are no more than there may be.
+    pub fn is_sound(&self) -> bool
+        ensures { IsTrue result ↔ IsSoundHostGroup self.now }
+    {
+        let count = self.hosts.len();
+        0 < count && count <= MOST_HOSTS
+    }
+}
+
+impl<A: Allocator + Copy> Clone for HostGroup<A> {
+    ghost is_clone = { λ x y. y ≡ x };
+
+    fn clone(&self) -> Result<Self, AllocError> {
+        Ok(HostGroup {
+            tenant: self.tenant,
+            hosts: self.hosts.clone()?,
+        })
+    }
+}
