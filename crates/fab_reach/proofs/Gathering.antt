@@ -18,7 +18,7 @@ use Rattle.fab_inventory.specs.declared.port.Port.{Port}
 use Rattle.fab_inventory.specs.Ports.{port_at, port_of}
 use Rattle.fab_maps.proofs.SeenSets.{listed_decides}
 use Rattle.fab_maps.specs.MapsOfSets.{in_tree}
-use Rattle.fab_mapping.specs.Groups.{StorageGroupRows}
+use Rattle.fab_mapping_base.specs.Groups.{StorageGroupRows}
 use Rattle.fab_mapping.specs.Mappings.{MappingRows}
 use Rattle.fab_reach.specs.Adding.{Adds, AddsOnly}
 use Rattle.fab_reach.specs.Records.{Records}

@@ -12,7 +12,7 @@ use Rattle.fab_names.specs.declared.fabric.Fabric.{Fabric}
 use Rattle.fab_inventory.specs.declared.port.Port.{Port}
 use Rattle.fab_zoning.specs.Joins.{IsLoggedInAt, Joined}
 use Rattle.fab_maps.specs.MapsOfSets.{tree_has}
-use Rattle.fab_mapping.specs.Groups.{HostGroupRows, StorageGroupRows}
+use Rattle.fab_mapping_base.specs.Groups.{HostGroupRows, StorageGroupRows}
 use Rattle.fab_mapping.specs.Mappings.{MappingRows}
 use Rattle.fab_reach.specs.Records.{Records, zoning_at}
 use Rattle.fab_reach.specs.Reach.{IsTarget, IsInitiatorOf, PathOf, Reaches}

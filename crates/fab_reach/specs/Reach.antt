@@ -8,7 +8,7 @@ use Rattle.fab_inventory.specs.Ports.{port_at}
 use Rattle.fab_inventory.specs.Inventories.{IsHost, IsArray}
 use Rattle.fab_zoning.specs.Joins.{IsLoggedInAt, Joined}
 use Rattle.fab_mapping_base.specs.declared.nexus.Nexus.{Nexus}
-use Rattle.fab_mapping.specs.Groups.{StorageGroupRows}
+use Rattle.fab_mapping_base.specs.Groups.{StorageGroupRows}
 use Rattle.fab_mapping.specs.Mappings.{IsMapped}
 use Rattle.fab_reach.specs.Records.{Records, zoning_at}
 use Rattle.fab_reach.specs.declared.path.Path.{Path}

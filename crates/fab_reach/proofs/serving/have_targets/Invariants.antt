@@ -1,6 +1,6 @@
 use Rattle.std.proofs.Common.{◌≡◌, ℕ, List, ◌++◌}
 use Rattle.std.specs.FinMap as map
-use Rattle.fab_mapping.specs.Groups.{StorageGroupRows}
+use Rattle.fab_mapping_base.specs.Groups.{StorageGroupRows}
 use Rattle.fab_reach.specs.Serving.{AreTargets}
 use Rattle.fab_reach.proofs.Scanning.{AllSoFar}
 use Rattle.fab_reach.proofs.serving.have_targets.Given as goal
