@@ -7,6 +7,7 @@ use Rattle.fab_inventory.specs.declared.port.PortRow.{PortRow}
 use Rattle.fab_inventory.specs.declared.fault.InventoryFault.{InventoryFault}
 use Rattle.fab_inventory.specs.declared.fault.InventoryFault.TheVariants as fault
 use Rattle.fab_inventory.specs.declared.fault.InventoryLimit.TheVariants.{Ports}
+use Rattle.fab_inventory.specs.Limits.{most_ports}
 use Rattle.fab_inventory.specs.Imports.{IsImported, IsClash}
 use Rattle.fab_inventory.specs.Ports.{KnownPorts, port_at}
 use Rattle.fab_zoning.specs.Joins.{Joined, IsFirstZone, InDefaultZone}
@@ -20,18 +21,18 @@ use Rattle.fab_first.specs.World.{World, zoning_of}
 abbrev pub most_changes : ℕ
 most_changes = 1000000000
 
--- an import would know more than 4096 ports
+-- an import would know too many ports
 abbrev pub KnowsTooMany : World → Fabric → List PortRow → Type 0
-KnowsTooMany w fabric rows = (ports : KnownPorts) × IsImported fabric rows w.inventory.ports ports × (4096 < map.len ports)
+KnowsTooMany w fabric rows = (ports : KnownPorts) × IsImported fabric rows w.inventory.ports ports × (most_ports < map.len ports)
 
 -- an import could be taken but for the number of changes
 abbrev pub CouldBeTaken : World → Fabric → List PortRow → Type 0
-CouldBeTaken w fabric rows = (ports : KnownPorts) × IsImported fabric rows w.inventory.ports ports × (map.len ports ≤ 4096)
+CouldBeTaken w fabric rows = (ports : KnownPorts) × IsImported fabric rows w.inventory.ports ports × (map.len ports ≤ most_ports)
 
 -- the list of a fabric is taken: a clash of two records, then too many ports, then too many changes refuse it and change nothing
 abbrev pub Imports : World → Fabric → List PortRow → Reply → World → Type 0
 Imports w fabric rows (reply.Revision r) next =
-    IsImported fabric rows w.inventory.ports next.inventory.ports × (map.len next.inventory.ports ≤ 4096) × (w.revision < most_changes) × (r ≡ w.revision + 1) × (next ≡ record w { inventory = record w.inventory { ports = next.inventory.ports }; revision = r })
+    IsImported fabric rows w.inventory.ports next.inventory.ports × (map.len next.inventory.ports ≤ most_ports) × (w.revision < most_changes) × (r ≡ w.revision + 1) × (next ≡ record w { inventory = record w.inventory { ports = next.inventory.ports }; revision = r })
 Imports w fabric rows (reply.PortClash name) next = IsClash rows name × (next ≡ w)
 Imports w fabric rows (reply.Limit limit.Ports) next = KnowsTooMany w fabric rows × (next ≡ w)
 Imports w fabric rows (reply.Limit limit.Changes) next = CouldBeTaken w fabric rows × (most_changes ≤ w.revision) × (next ≡ w)

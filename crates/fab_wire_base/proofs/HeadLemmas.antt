@@ -6,6 +6,7 @@ use Rattle.std.specs.Io.KnownBytes.{Consumes}
 use Rattle.std.specs.List.{flat_map}
 use Rattle.httparse.specs.Grammar.{LineEnd, print_end, crlf, lf, Field, IsField, print_field, RequestHead, IsRequestHead, print_request, HasNoRequest}
 use Rattle.httparse.specs.Spans.{RequestOverflows}
+use Rattle.fab_wire_base.specs.Limits.{most_head, most_lines}
 use Rattle.fab_wire_base.specs.Heads.{HasNoHead}
 
 -- what is consumed in two turns is consumed as one
@@ -51,14 +52,14 @@ pub record ReadTo (old new : Option (List ℕ)) (before after : ℕ) (got : List
   pub count : after ≡ before
   pub none : 0 < length got → HasNoRequest got
 
-full-none : (got more : List ℕ) → length got ≡ 8192 → HasNoRequest got → HasNoHead (got ++ more)
+full-none : (got more : List ℕ) → length got ≡ most_head → HasNoRequest got → HasNoHead (got ++ more)
 full-none got more e n h rest k =
     let z = shorter_front got more (print_request h) rest k.0.1 (omega arith) in
     n h z.0 (k.0.0, z.1)
 
-over-none : (got more : List ℕ) → RequestOverflows 2731 got → HasNoHead (got ++ more)
+over-none : (got more : List ℕ) → RequestOverflows most_lines got → HasNoHead (got ++ more)
 over-none got more o h rest k =
-    let a : 2731 < length h.fields = o more h rest k.0 in
+    let a : most_lines < length h.fields = o more h rest k.0 in
     let b : 3 * length h.fields ≤ length (print_request h) = head_three h k.0.0 in
     omega arith
 
@@ -87,11 +88,11 @@ known-none (Some xs) (Some ys) got h n none =
     subst P (sym h) (simp length-append (omega arith), none ys)
 
 -- the buffer is full, and no head has come
-pub full-refused : (a b : Option (List ℕ)) (n m : ℕ) (got : List ℕ) → ReadTo a b n m got → length got ≡ 8192
+pub full-refused : (a b : Option (List ℕ)) (n m : ℕ) (got : List ℕ) → ReadTo a b n m got → length got ≡ most_head
     → IfSome a (λ input. (0 < length input) × HasNoHead input)
 full-refused a b n m got s e = known-none a b got s.consumes (omega arith) (λ more. full-none got more e (s.none (omega arith)))
 
 -- the bytes that were read begin no head
-pub head-refused : (a b : Option (List ℕ)) (got : List ℕ) → Consumes a b got → 0 < length got → RequestOverflows 2731 got
+pub head-refused : (a b : Option (List ℕ)) (got : List ℕ) → Consumes a b got → 0 < length got → RequestOverflows most_lines got
     → IfSome a (λ input. (0 < length input) × HasNoHead input)
 head-refused a b got h n o = known-none a b got h n (λ more. over-none got more o)

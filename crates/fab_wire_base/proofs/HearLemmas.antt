@@ -7,6 +7,7 @@ use Rattle.httparse.specs.Spans.{IsRequestOf, span_bytes, name_and_value}
 use Rattle.httparse.proofs.GrammarLemmas.{ReadsRequest-append}
 use Rattle.httparse.specs.declared.spans.HeaderSpan.{HeaderSpan}
 use Rattle.httparse.specs.declared.spans.RequestSpans.{RequestSpans}
+use Rattle.fab_wire_base.specs.Limits.{most_head}
 use Rattle.fab_wire_base.specs.Lines.{Line, lines_of}
 use Rattle.fab_wire_base.specs.Asking.{Asking, asks, HeadAsks}
 use Rattle.fab_wire_base.specs.Spelling.{Spelling, refused, unnamed, asked, SpellsCommand, SpellsBehind, Spells}
@@ -21,11 +22,11 @@ use Rattle.fab_wire_base.proofs.SpellingLemmas.{head-some}
 
 -- a head that has been read, and what it asks for, spell for the whole input
 pub spells-read : (knows : List ℕ → Bool) (got more : List ℕ) (headers : List HeaderSpan) (spans : RequestSpans) (asking : Asking) (s : Spelling)
-    → IsRequestOf got headers spans → length got ≤ 8192 → spans.len ≤ length got
+    → IsRequestOf got headers spans → length got ≤ most_head → spans.len ≤ length got
     → HeadAsks knows (span_bytes got spans.method) (span_bytes got spans.path) (lines_of got (take spans.headers headers)) asking
     → SpellsBehind (span_bytes got spans.path) (drop spans.len got ++ more) asking s → Spells knows (got ++ more) s
 spells-read knows got more headers spans asking s (h, at) small within asks_it behind =
-    let short : length (print_request h) ≤ 8192 = omega (arith, at.len) in
+    let short : length (print_request h) ≤ most_head = omega (arith, at.len) in
     let same : HeadAsks knows h.method h.target (lines_of got (take spans.headers headers)) asking = rw (at.method, at.path) at asks_it in
     let named : HeadAsks knows h.method h.target (map name_and_value h.fields) asking = subst (λ (ls : List Line). HeadAsks knows h.method h.target ls asking) at.fields same in
     inr (inr (h, drop spans.len got ++ more, (ReadsRequest-append got h (drop spans.len got) more at.reads, short), (asking, named, rw at.path at behind)))
@@ -68,7 +69,7 @@ behind-short token what target rest size h = let e : nat_le size (length rest) �
 
 -- what is heard by a token, and is meant behind a head without a body, is heard of the input
 pub heard-bare : {A : Type 0} (answer : Heard A) (what : Meant A) (knows : List ℕ → Bool) (got more : List ℕ) (headers : List HeaderSpan) (spans : RequestSpans) (token : List ℕ) (k : Kind)
-    → IsRequestOf got headers spans → length got ≤ 8192 → spans.len ≤ length got
+    → IsRequestOf got headers spans → length got ≤ most_head → spans.len ≤ length got
     → HeadAsks knows (span_bytes got spans.method) (span_bytes got spans.path) (lines_of got (take spans.headers headers)) (asks token k None)
     → IsMeant k (span_bytes got spans.path) [] what → IsHeardBy token what answer → IsHeardOf knows got more answer
 heard-bare answer what knows got more headers spans token k head short within judged behind by =
@@ -77,7 +78,7 @@ heard-bare answer what knows got more headers spans token k head short within ju
 
 -- the same behind a head and a body
 pub heard-whole : {A : Type 0} (answer : Heard A) (what : Meant A) (knows : List ℕ → Bool) (got more : List ℕ) (headers : List HeaderSpan) (spans : RequestSpans) (token : List ℕ) (k : Kind) (size : ℕ) (body : List ℕ)
-    → IsRequestOf got headers spans → length got ≤ 8192 → spans.len ≤ length got
+    → IsRequestOf got headers spans → length got ≤ most_head → spans.len ≤ length got
     → HeadAsks knows (span_bytes got spans.method) (span_bytes got spans.path) (lines_of got (take spans.headers headers)) (asks token k (Some size))
     → size ≤ length (drop spans.len got ++ more) → body ≡ take size (drop spans.len got ++ more)
     → IsMeant k (span_bytes got spans.path) body what → IsHeardBy token what answer → IsHeardOf knows got more answer

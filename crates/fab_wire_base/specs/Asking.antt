@@ -1,6 +1,7 @@
 -- What the head of a request asks for: its checks, in their order.
 use Rattle.std.specs.Prelude.{ℕ, ◌≡◌, List, [], ◌∷◌, Bool, true, false, ◌&&◌, ◌==◌, not, nat_le, if◌then◌else◌, Option, Some, None, codes}
 use Rattle.std.specs.List.{list_any}
+use Rattle.fab_wire_base.specs.Limits.{most_body}
 use Rattle.fab_wire_base.specs.Lines.{Line, values_of}
 use Rattle.fab_wire_base.specs.Fields.{IsLengthOf, is_given}
 use Rattle.fab_wire_base.specs.Callers.{caller_of}
@@ -34,10 +35,10 @@ is_path (b ∷ rest) = (b == 47) && not (list_any (λ c. c == 63) rest)
 abbrev pub target_route : List ℕ → Option Route
 target_route target = if is_path target then route_of target else None
 
--- the size of a body: 1048576 bytes at most
+-- the size of a body, which has a limit
 abbrev pub by_size : List ℕ → Kind → Length → Asking
 by_size token k lengths.Missing = refuses no.NoLength
-by_size token k (lengths.Is size) = if nat_le size 1048576 then asks token k (Some size) else refuses no.TooLarge
+by_size token k (lengths.Is size) = if nat_le size most_body then asks token k (Some size) else refuses no.TooLarge
 by_size token k lengths.Bad = refuses no.BadHead
 
 -- the length: what takes a body wants one, and no transfer coding

@@ -5,6 +5,7 @@ use Rattle.httparse.specs.Spans.{IsRequestOf, IsRequestWithin, RequestOverflows}
 use Rattle.httparse.specs.Grammar.{HasNoRequest}
 use Rattle.httparse.specs.declared.spans.HeaderSpan.{HeaderSpan}
 use Rattle.fab_json.specs.Failures.{one_more}
+use Rattle.fab_wire_base.specs.Limits.{most_lines}
 use Rattle.fab_wire_base.specs.Heads.{HasNoHead}
 use Rattle.fab_wire_base.specs.declared.head.HeadRead.{HeadRead}
 use Rattle.fab_wire_base.specs.declared.head.HeadRead.TheVariants.{Head, BadHead, Empty, ReadFailed}
@@ -30,4 +31,4 @@ failures_after_head ReadFailed before = one_more before
 abbrev pub IsParsed : List ℕ → List HeaderSpan → Parsed → Type 0
 IsParsed got headers (Whole spans) = IsRequestOf got headers spans × IsRequestWithin got headers spans
 IsParsed got headers Partial = HasNoRequest got
-IsParsed got headers Never = RequestOverflows 2731 got
+IsParsed got headers Never = RequestOverflows most_lines got

@@ -3,6 +3,7 @@
 ghost use Rattle.std.specs.Prelude.{ℕ, ◌≡◌, ◌≤◌, List, length, IfSome};
 ghost use Rattle.httparse.specs.Spans.{IsRequestOf, IsRequestWithin};
 ghost use Rattle.fab_json.specs.Counting.{inner_of, failures_of};
+ghost use Rattle.fab_wire_base.specs.Limits.{most_head};
 ghost use Rattle.fab_wire_base.specs.Hearing.{IsHeard, IsHeardOf, IsHeardBy, IsMeant, failures_after_heard};
 
 use crate::bodies::{Body, take_body};
@@ -106,7 +107,7 @@ fn hear_request<A: Allocator + Copy, C: Callers, R: Read>(
 ) -> Heard<A>
     requires within { IsRequestWithin got.now headers.now spans }
     requires head { IsRequestOf got.now headers.now spans }
-    requires short { length got.now ≤ 8192 }
+    requires short { length got.now ≤ most_head }
     ensures spelled { IfSome (R.remaining (inner_of reader.old))
         (λ more. IsHeardOf (C.knows_token callers.now) got.now more result) }
     ensures count { failures_of reader.new

@@ -3,6 +3,18 @@
 ghost use Rattle.fab_wire_base.specs.Matching.{FoundMatches};
 ghost use Rattle.fab_wire_base.specs.Captures.{FirstCaptures, SecondCaptures};
 ghost use Rattle.fab_wire_base.specs.Spelling.{SpellsOne, SpellsSome};
+ghost use Rattle.fab_wire_base.specs.Limits.{most_head, most_lines, most_body};
+ghost use Rattle.std.specs.Prelude.{◌≡◌};
+
+use crate::head::{MOST_HEAD, MOST_LINES};
+use crate::requests::MOST_BODY;
+
+/// The constants are the limits that the definitions name.
+pub fn constants_are_the_limits()
+    ensures head { MOST_HEAD ≡ most_head }
+    ensures lines { MOST_LINES ≡ most_lines }
+    ensures body { MOST_BODY ≡ most_body }
+{}
 
 /// A path whose route is found matches the pattern of the route.
 pub fn found_path_matches()
