@@ -9,45 +9,55 @@ use fab_reach::{Config, Delta, PathBook, PlainBook, View};
 use std::alloc::Global;
 use std::test::Fail;
 
-/// A step, what it gains and loses, and the paths of the first and of the second host then.
-#[derive(Clone, Copy)]
-struct Turn {
-    act: Act,
-    gained: Ways,
-    lost: Ways,
-    first: Ways,
-    second: Ways,
-}
-
-/// The turn.
-const fn turn(act: Act, gained: Ways, lost: Ways, first: Ways, second: Ways) -> Turn {
-    Turn {
-        act,
-        gained,
-        lost,
-        first,
-        second,
-    }
-}
+/// A step; what it gains and what it loses; the paths of the first and of the second host then.
+type Turn = (Act, [Ways; 2], [Ways; 2]);
 
 /// From no path on.
 const TURNS: [Turn; 8] = [
-    turn(Act::First, Ways::One, Ways::None, Ways::One, Ways::None),
-    turn(Act::Second, Ways::Second, Ways::None, Ways::One, Ways::Second),
-    turn(Act::Copied, Ways::None, Ways::None, Ways::One, Ways::Second),
-    turn(Act::Hide(G1), Ways::None, Ways::One, Ways::None, Ways::Second),
-    turn(Act::Expose(G1), Ways::One, Ways::None, Ways::One, Ways::Second),
-    turn(Act::Permit, Ways::None, Ways::None, Ways::One, Ways::Second),
-    turn(Act::Map(G1, 5, V1), Ways::UnitFive, Ways::None, Ways::TwoUnits, Ways::Second),
-    turn(Act::Unmap(G1, 0), Ways::None, Ways::One, Ways::UnitFive, Ways::Second),
+    (Act::First, [Ways::One, Ways::None], [Ways::One, Ways::None]),
+    (
+        Act::Second,
+        [Ways::Second, Ways::None],
+        [Ways::One, Ways::Second],
+    ),
+    (
+        Act::Copied,
+        [Ways::None, Ways::None],
+        [Ways::One, Ways::Second],
+    ),
+    (
+        Act::Hide(G1),
+        [Ways::None, Ways::One],
+        [Ways::None, Ways::Second],
+    ),
+    (
+        Act::Expose(G1),
+        [Ways::One, Ways::None],
+        [Ways::One, Ways::Second],
+    ),
+    (
+        Act::Permit,
+        [Ways::None, Ways::None],
+        [Ways::One, Ways::Second],
+    ),
+    (
+        Act::Map(G1, 5, V1),
+        [Ways::UnitFive, Ways::None],
+        [Ways::TwoUnits, Ways::Second],
+    ),
+    (
+        Act::Unmap(G1, 0),
+        [Ways::None, Ways::One],
+        [Ways::UnitFive, Ways::Second],
+    ),
 ];
 
 /// Whether the lists of a step are those of the turn.
-fn is_delta(delta: &Delta<Global>, turn: Turn) -> Result<bool, Fail> {
-    if !are(&delta.gained, turn.gained)? {
+fn is_delta(delta: &Delta<Global>, changed: [Ways; 2]) -> Result<bool, Fail> {
+    if !are(&delta.gained, changed[0])? {
         return Ok(false);
     }
-    are(&delta.lost, turn.lost)
+    are(&delta.lost, changed[1])
 }
 
 /// Whether a book has these paths of a host.
@@ -57,11 +67,11 @@ fn has<B: PathBook<Global>>(book: &B, host: usize, ways: Ways) -> Result<bool, F
 }
 
 /// Whether a book has these paths of the two hosts, and none of a host that is not there.
-fn has_all<B: PathBook<Global>>(book: &B, first: Ways, second: Ways) -> Result<bool, Fail> {
-    if !has(book, DB1, first)? {
+fn has_all<B: PathBook<Global>>(book: &B, hosts: [Ways; 2]) -> Result<bool, Fail> {
+    if !has(book, DB1, hosts[0])? {
         return Ok(false);
     }
-    if !has(book, DB2, second)? {
+    if !has(book, DB2, hosts[1])? {
         return Ok(false);
     }
     has(book, DB9, Ways::None)
@@ -73,8 +83,8 @@ fn is_led<B: PathBook<Global>>(
     alloc: Global,
     before: &View<'_, Global>,
     after: &View<'_, Global>,
-    old: Turn,
-    new: Turn,
+    old: [Ways; 2],
+    turn: Turn,
 ) -> Result<bool, Fail> {
     if !before.is_serving() {
         return Ok(false);
@@ -84,32 +94,32 @@ fn is_led<B: PathBook<Global>>(
     }
     let mut book = B::open(alloc, before)?;
     let ready = book.prepare(before, after)?;
-    if !is_delta(book.delta(&ready), new)? {
+    if !is_delta(book.delta(&ready), turn.1)? {
         return Ok(false);
     }
-    if !has_all(&book, old.first, old.second)? {
+    if !has_all(&book, old)? {
         return Ok(false);
     }
     let delta = book.advance(before, after)?;
-    if !is_delta(&delta, new)? {
+    if !is_delta(&delta, turn.1)? {
         return Ok(false);
     }
-    has_all(&book, new.first, new.second)
+    has_all(&book, turn.2)
 }
 
 /// Whether the turns of a table are right, from an empty configuration on.
 fn are_led<B: PathBook<Global>>(alloc: Global, turns: &[Turn]) -> Result<bool, Fail> {
     let inventory = stock(alloc)?;
     let mut config = empty(alloc);
-    let mut old = turn(Act::Copied, Ways::None, Ways::None, Ways::None, Ways::None);
-    for new in turns {
+    let mut old = [Ways::None, Ways::None];
+    for turn in turns {
         let before = config.copy()?;
-        change(&mut config, &inventory, new.act)?;
+        change(&mut config, &inventory, turn.0)?;
         let views = (View::of(&inventory, &before), View::of(&inventory, &config));
-        if !is_led::<B>(alloc, &views.0, &views.1, old, *new)? {
+        if !is_led::<B>(alloc, &views.0, &views.1, old, *turn)? {
             return Ok(false);
         }
-        old = *new;
+        old = turn.2;
     }
     Ok(true)
 }
@@ -121,32 +131,72 @@ fn plain_book_is_led(rt: HostRuntime) -> Result<(), Fail> {
 }
 
 /// The configuration after the first so many turns.
-fn after(alloc: Global, inventory: &Inventory<Global>, count: usize) -> Result<Config<Global>, Fail> {
+fn after(
+    alloc: Global,
+    inventory: &Inventory<Global>,
+    count: usize,
+) -> Result<Config<Global>, Fail> {
     let mut config = empty(alloc);
     for turn in TURNS.iter().take(count) {
-        change(&mut config, inventory, turn.act)?;
+        change(&mut config, inventory, turn.0)?;
     }
     Ok(config)
+}
+
+/// Whether a book that is opened at the first world is led through the others, and has these paths
+/// then.
+fn is_led_by<B: PathBook<Global>>(
+    alloc: Global,
+    first: &View<'_, Global>,
+    rest: &[View<'_, Global>],
+    hosts: [Ways; 2],
+) -> Result<bool, Fail> {
+    if !first.is_serving() {
+        return Ok(false);
+    }
+    if !are_serving(rest) {
+        return Ok(false);
+    }
+    let mut book = B::open(alloc, first)?;
+    if advance_all(&mut book, first, rest).is_err() {
+        return Ok(false);
+    }
+    has_all(&book, hosts)
+}
+
+/// Whether a book is led through these configurations beside one inventory.
+fn is_led_from<B: PathBook<Global>>(
+    alloc: Global,
+    inventory: &Inventory<Global>,
+    first: &Config<Global>,
+    rest: &[Config<Global>],
+) -> Result<bool, Fail> {
+    let mut views = Vec::new(alloc);
+    for config in rest {
+        views.push(View::of(inventory, config))?;
+    }
+    let hosts = [Ways::UnitFive, Ways::Second];
+    is_led_by::<B>(alloc, &View::of(inventory, first), views.as_slice(), hosts)
+}
+
+/// The configurations after some turns of the table.
+fn configs(
+    alloc: Global,
+    inventory: &Inventory<Global>,
+    counts: &[usize],
+) -> Result<Vec<Config<Global>, Global>, Fail> {
+    let mut configs = Vec::new(alloc);
+    for count in counts {
+        configs.push(after(alloc, inventory, *count)?)?;
+    }
+    Ok(configs)
 }
 
 /// Whether a book is led through all worlds of the table, in one call.
 fn is_led_through<B: PathBook<Global>>(alloc: Global) -> Result<bool, Fail> {
     let inventory = stock(alloc)?;
-    let (none, one) = (empty(alloc), after(alloc, &inventory, 1)?);
-    let (four, all) = (after(alloc, &inventory, 4)?, after(alloc, &inventory, 8)?);
-    let first = View::of(&inventory, &none);
-    let rest = [View::of(&inventory, &one), View::of(&inventory, &four), View::of(&inventory, &all)];
-    if !first.is_serving() {
-        return Ok(false);
-    }
-    if !are_serving(&rest) {
-        return Ok(false);
-    }
-    let mut book = B::open(alloc, &first)?;
-    if advance_all(&mut book, &first, &rest).is_err() {
-        return Ok(false);
-    }
-    has_all(&book, Ways::UnitFive, Ways::Second)
+    let rest = configs(alloc, &inventory, &[1, 4, 8])?;
+    is_led_from::<B>(alloc, &inventory, &empty(alloc), rest.as_slice())
 }
 
 #[test]

@@ -93,24 +93,30 @@ pub fn place(domain: u8, slot: u16) -> Result<Place, Fail> {
     Ok(Place::new(domain, slot))
 }
 
-/// The port of this number.
-pub fn port(number: usize) -> Result<Wwn, Fail> {
+/// The port of this number, with its node and its place.
+fn known(number: usize) -> Result<(u64, u64, u8, u16), Fail> {
     match PORTS.get(number) {
-        Some(row) => wwn(row.0),
+        Some(port) => Ok(*port),
         None => Err(Fail::from("port")),
     }
 }
 
+/// The port of this number.
+pub fn port(number: usize) -> Result<Wwn, Fail> {
+    wwn(known(number)?.0)
+}
+
+/// The row of a port in a port list.
+fn listed(port: (u64, u64, u8, u16)) -> Result<PortRow, Fail> {
+    let name = wwn(port.0)?;
+    let node = wwn(port.1)?;
+    let place = place(port.2, port.3)?;
+    Ok(PortRow { name, node, place })
+}
+
 /// The row of this number in a port list.
 pub fn row(number: usize) -> Result<PortRow, Fail> {
-    let Some(row) = PORTS.get(number) else {
-        return Err(Fail::from("port"));
-    };
-    Ok(PortRow {
-        name: wwn(row.0)?,
-        node: wwn(row.1)?,
-        place: place(row.2, row.3)?,
-    })
+    listed(known(number)?)
 }
 
 /// A fabric lists the first so many ports.
