@@ -8,7 +8,7 @@ use Rattle.std.specs.Map.{set_value}
 use Rattle.std.proofs.lemmas.Map.Steps.{set_value_same}
 use Rattle.fab_names.specs.Orders.{name_cmp}
 use Rattle.fab_names.proofs.OrderLaws.{name_total, name_exact}
-use Rattle.fab_maps.proofs.SeenMaps.{get_entries, seen_insert}
+use Rattle.fab_maps.proofs.SeenMaps.{get_entries, seen_insert, seen_remove}
 use Rattle.fab_inventory.specs.declared.port.Known.{Known}
 use Rattle.fab_inventory.specs.declared.port.Port.{Port}
 use Rattle.fab_inventory.specs.Ports.{KnownPorts, port_at, port_of}
@@ -49,6 +49,18 @@ pub kept : (hosts : BTreeMap (List ℕ) HostGroupRows) (m n : BTreeMap (List ℕ
     → n.entries ≡ set_value (is_at (name_cmp k)) m.entries w → seen hosts n ≡ v
 kept hosts m n k g w v view at is entries =
     (λ i. record { host_groups = map.from_entries hosts.entries; groups = map.from_entries ((entries ∙ set_value_same (is_at (name_cmp k)) m.entries w (at ∙ ap Some (sym is))) i) }) ∙ view
+
+-- a host group that is taken out
+pub hosts_dropped : (hosts new : BTreeMap (List ℕ) HostGroupRows) (groups : BTreeMap (List ℕ) StorageGroupRows) (k : List ℕ) (v : MappingRows) → seen hosts groups ≡ v
+    → ((q : List ℕ) → tree.get name_cmp new q ≡ cond (is_at (name_cmp k) q) None (tree.get name_cmp hosts q)) → seen new groups ≡ record v { host_groups = map.remove v.host_groups k }
+hosts_dropped hosts new groups k v view updates =
+    (λ i. record { host_groups = seen_remove name_total name_exact hosts new k updates i; groups = map.from_entries groups.entries }) ∙ ap (λ (x : MappingRows). record x { host_groups = map.remove x.host_groups k }) view
+
+-- a storage group that is taken out
+pub group_dropped : (hosts : BTreeMap (List ℕ) HostGroupRows) (groups new : BTreeMap (List ℕ) StorageGroupRows) (k : List ℕ) (v : MappingRows) → seen hosts groups ≡ v
+    → ((q : List ℕ) → tree.get name_cmp new q ≡ cond (is_at (name_cmp k) q) None (tree.get name_cmp groups q)) → seen hosts new ≡ record v { groups = map.remove v.groups k }
+group_dropped hosts groups new k v view updates =
+    (λ i. record { host_groups = map.from_entries hosts.entries; groups = seen_remove name_total name_exact groups new k updates i }) ∙ ap (λ (x : MappingRows). record x { groups = map.remove x.groups k }) view
 
 -- ---- what a call on the group answers, the call on the mapping answers
 pub on_ok : {X E : Type 0} {P Q : Type 0} (r : Result X E) → OnOk r P → (P → Q) → OnOk r Q

@@ -1,12 +1,15 @@
 -- Each step keeps a mapping sound, and lets one that fits an inventory fit.
-use Rattle.std.proofs.Common.{ℕ, ◌≡◌, ◌<◌, ◌≤◌, List, [], length, Option, None, Some, is_some, IsSome, Bool, true, false, ◌⊎◌, inl, inr, All, refl, sym, ap, ◌∙◌, subst, arith}
+use Rattle.std.proofs.Common.{ℕ, ◌≡◌, ◌<◌, ◌≤◌, List, [], length, Option, None, Some, is_some, IsSome, Bool, true, false, cond, ◌⊎◌, inl, inr, All, refl, sym, ap, ◌∙◌, subst, arith}
 use mathlib.Core.Bool.{true≢false}
 use Rattle.std.specs.Ordering.{nat_cmp}
 use Rattle.std.specs.Cmp.{nat_cmp_total}
+use Rattle.std.specs.BTreeMap as tree
+use Rattle.std.specs.BTreeMap.{BTreeMap, is_at}
 use Rattle.std.specs.FinMap as map
 use Rattle.std.specs.FinSet as set
 use Rattle.std.proofs.lemmas.List.Elements.{All-contains}
 use Rattle.fab_maps.proofs.Changed.{member_put, member_gone, entry_put, entry_gone, still_there, there_without}
+use Rattle.fab_maps.proofs.SeenMaps.{same_look_ups}
 use Rattle.fab_maps.proofs.SeenSets.{listed_decides}
 use Rattle.fab_maps.proofs.Sizes.{set_put, set_gone, map_put, map_gone, some_listed, at_most_listed}
 use Rattle.fab_names.specs.Orders.{name_cmp}
@@ -19,6 +22,7 @@ use Rattle.fab_mapping_base.specs.Fitting.{IsPortOf, IsVolumeOn, HasHosts, Group
 use Rattle.fab_mapping_base.specs.Soundness.{IsSoundHostGroup, IsSoundGroup}
 use Rattle.fab_mapping.specs.Mappings.{MappingRows, no_groups, CanPutHostGroup, CanMakeGroup, IsUnservedIn, ChangesGroup, GroupHas}
 use Rattle.fab_mapping.specs.Soundness.{IsSound, Fits, Keeps, KeepsAll}
+use Rattle.fab_mapping.proofs.GroupChanges.{seen, hosts_dropped, group_dropped}
 
 -- a host group that is put
 put_hosts : (tenant : List ℕ) (hosts : List (List ℕ)) (most : ℕ) → 0 < length hosts → length hosts ≤ most → (0 < set.len (host_group_of tenant hosts).hosts) × (set.len (host_group_of tenant hosts).hosts ≤ most)
@@ -154,6 +158,12 @@ drop_host_group_keeps v name unused inventory = record {
   fits = λ f. record { host_groups = entry_gone name_total v.host_groups name (λ _. HasHosts inventory) f.host_groups; groups = f.groups };
 }
 
+-- the same of what the code holds
+pub hosts_dropped_keeps : (hosts new : BTreeMap (List ℕ) HostGroupRows) (groups : BTreeMap (List ℕ) StorageGroupRows) (k : List ℕ) (v : MappingRows) → seen hosts groups ≡ v
+    → ((q : List ℕ) → tree.get name_cmp new q ≡ cond (is_at (name_cmp k) q) None (tree.get name_cmp hosts q)) → IsUnservedIn (tree.get name_cmp groups) k → KeepsAll v (seen new groups)
+hosts_dropped_keeps hosts new groups k v view updates unused =
+    subst (KeepsAll v) (sym (hosts_dropped hosts new groups k v view updates)) (drop_host_group_keeps v k (subst (λ at. IsUnservedIn at k) (same_look_ups name_total groups v.groups (ap (λ (x : MappingRows). x.groups) view)) unused))
+
 -- a new storage group has nothing
 nothing : {X : Type 0} (x : X) → ¬ (None ≡ Some x)
 nothing x e = absurd cc
@@ -197,6 +207,11 @@ drop_group_keeps v name inventory = record {
   };
   fits = λ f. record { host_groups = f.host_groups; groups = entry_gone name_total v.groups name (λ _. GroupFits inventory) f.groups };
 }
+
+-- the same of what the code holds
+pub group_dropped_keeps : (hosts : BTreeMap (List ℕ) HostGroupRows) (groups new : BTreeMap (List ℕ) StorageGroupRows) (k : List ℕ) (v : MappingRows) → seen hosts groups ≡ v
+    → ((q : List ℕ) → tree.get name_cmp new q ≡ cond (is_at (name_cmp k) q) None (tree.get name_cmp groups q)) → KeepsAll v (seen hosts new)
+group_dropped_keeps hosts groups new k v view updates = subst (KeepsAll v) (sym (group_dropped hosts groups new k v view updates)) (drop_group_keeps v k)
 
 -- nothing is sound, and fits any inventory
 pub none_is_sound : IsSound no_groups

@@ -231,6 +231,7 @@ impl<A: Allocator + Copy> Mapping<A> {
     /// # Errors
     /// `Unknown` where there is no such host group, or `InUse` with the least storage group by name
     /// that has it. Nothing is then changed.
+    #[tactic(auto, using(crate::proofs::GroupChanges::hosts_dropped, crate::proofs::Keeping::hosts_dropped_keeps))]
     pub fn drop_host_group(&mut self, name: &Name) -> Result<(), MappingFault>
         ensures known { OnOk result (map.contains_key self.old.host_groups name.now ≡ true) }
         ensures unused { OnOk result (IsUnservedIn (map.get self.old.groups) name.now) }
@@ -286,6 +287,7 @@ impl<A: Allocator + Copy> Mapping<A> {
     ///
     /// # Errors
     /// `Unknown` where there is no such storage group. Nothing is then changed.
+    #[tactic(auto, using(crate::proofs::GroupChanges::group_dropped, crate::proofs::Keeping::group_dropped_keeps))]
     pub fn drop_group(&mut self, name: &Name) -> Result<(), MappingFault>
         ensures known { OnOk result (map.contains_key self.old.groups name.now ≡ true) }
         ensures ok { OnOk result (self.new ≡ record self.old { groups = map.remove self.old.groups name.now }) }

@@ -17,6 +17,7 @@ use Rattle.std.specs.List.Sorted.{IsStrictlySortedBy}
 use Rattle.fab_maps.specs.Firsts.{IsFirstWith}
 use Rattle.fab_maps.specs.Adding.{Adds, Among}
 use Rattle.fab_maps.specs.MapsOfSets.{in_tree}
+use Rattle.fab_maps.proofs.Leasts.{least_as}
 use Rattle.fab_names.specs.Orders.{name_cmp}
 use Rattle.fab_names.proofs.OrderLaws.{name_total, name_exact}
 use Rattle.fab_mapping_base.specs.declared.nexus.Nexus.{Nexus}
@@ -24,7 +25,7 @@ use Rattle.fab_mapping_base.specs.Groups.{HostGroupRows, StorageGroupRows}
 use Rattle.fab_mapping_base.specs.Nexuses.{Claim, nexus_cmp}
 use Rattle.fab_mapping_base.specs.Clashes.{HostGroups, StorageGroups, IsExposed, Maps, ClashesIn, IsLeastClashIn, HasNoClashIn}
 use Rattle.fab_mapping_base.specs.ClashSearch.{Index, Service, lists, IsShared, IsUnlike, MeetsTwo, IsLeastOf, MeetsAt, IsKnown, AreFine, ServesHost, ServesAt, MeetsIn}
-use Rattle.fab_mapping_base.proofs.Least.{least_as, nexus_upto, host_below}
+use Rattle.fab_mapping_base.proofs.NexusOrder.{nexus_upto, host_below}
 use Rattle.fab_mapping_base.proofs.Walked.{least_has, none_has, key_looked_up}
 
 -- the least target and the least unit make the least nexus
@@ -41,7 +42,7 @@ same_group e = cc
 
 -- the storage groups at two places
 pub least_at : (gs : List StorageGroupRows) (host : List ℕ) (i j : ℕ) (a b : StorageGroupRows) (o : Option Nexus) → slice_get gs i ≡ Some a → slice_get gs j ≡ Some b → IsLeastOf (MeetsTwo host a b) o → IsLeastOf (MeetsAt gs host i j) o
-least_at gs host i j a b o first second = least_as (MeetsTwo host a b) (MeetsAt gs host i j) o (λ n h. (a, b, first, second, h))
+least_at gs host i j a b o first second = least_as nexus_cmp (MeetsTwo host a b) (MeetsAt gs host i j) o (λ n h. (a, b, first, second, h))
     (λ n w. subst (λ x. MeetsTwo host x b n) (same_group (sym w.2 ∙ first)) (subst (λ y. MeetsTwo host w.0 y n) (same_group (sym w.3 ∙ second)) w.4))
 
 -- no storage group at a place

@@ -1,6 +1,5 @@
 pub mod GroupParts
 pub mod NexusOrder
-pub mod Least
 pub mod Walked
 pub mod Serving
 pub mod ClashSearch

@@ -1,11 +1,11 @@
 -- Relations of the private loops that search for a clash.
 use Rattle.std.specs.Prelude.{ℕ, ◌≡◌, ◌≢◌, ◌<◌, ◌+◌, ◌*◌, List, slice_get, Option, None, Some, Bool, true}
-use Rattle.std.specs.Ordering.{nat_cmp, ord_min}
+use Rattle.std.specs.Ordering.{nat_cmp}
 use Rattle.std.specs.BTreeMap.{BTreeMap}
 use Rattle.std.specs.BTreeSet.{BTreeSet}
 use Rattle.std.specs.FinMap as map
 use Rattle.std.specs.FinSet as set
-use Rattle.fab_maps.specs.Firsts.{IsFirstWith}
+use Rattle.fab_maps.specs.Firsts.{IsFirstOf}
 use Rattle.fab_maps.specs.MapsOfSets.{tree_has}
 use Rattle.fab_names.specs.Orders.{name_cmp}
 use Rattle.fab_mapping_base.specs.declared.limits.TheConstants.{MOST_STORAGE_GROUPS}
@@ -38,14 +38,7 @@ pub record MeetsTwo (at : List ℕ) (a b : StorageGroupRows) (n : Nexus) : Type 
 
 -- the least nexus with P, or none has it
 abbrev pub IsLeastOf : (Nexus → Type 0) → Option Nexus → Type 0
-IsLeastOf P None = (n : Nexus) → ¬ P n
-IsLeastOf P (Some n) = IsFirstWith nexus_cmp P n
-
--- the lesser of two
-abbrev pub lesser : Option Nexus → Option Nexus → Option Nexus
-lesser None o = o
-lesser (Some a) None = Some a
-lesser (Some a) (Some b) = Some (ord_min nexus_cmp a b)
+IsLeastOf = IsFirstOf nexus_cmp
 
 -- ---- storage groups by their places in a list
 

@@ -10,11 +10,12 @@ ghost use Rattle.fab_maps.specs.Firsts.{IsFirstWith};
 ghost use Rattle.fab_maps.specs.Adding.{Among};
 ghost use Rattle.fab_names.specs.Orders.{name_cmp};
 ghost use Rattle.fab_mapping_base.specs.Clashes.{Maps, IsLeastClashIn, HasNoClashIn};
-ghost use Rattle.fab_mapping_base.specs.ClashSearch.{IsShared, IsUnlike, MeetsTwo, IsLeastOf, lesser, MeetsAt, AreFine, MeetsIn};
+ghost use Rattle.fab_mapping_base.specs.ClashSearch.{IsShared, IsUnlike, MeetsTwo, IsLeastOf, MeetsAt, AreFine, MeetsIn};
 
 use crate::known_pairs::KnownPairs;
 use crate::served::{exposed_of, served_hosts};
 use crate::{HostGroup, Nexus, StorageGroup};
+use fab_maps::lesser;
 use fab_names::{Name, Wwn};
 use std::alloc::{AllocError, Allocator};
 use std::collections::{BTreeMap, BTreeSet};
@@ -58,26 +59,6 @@ fn clash_of<A: Allocator + Copy>(
         return None;
     };
     Some(Nexus { host, target, unit })
-}
-
-/// The lesser of a nexus and another, if there is another.
-fn lesser_of(nexus: Nexus, other: Option<Nexus>) -> Nexus
-    ensures { Some result ≡ lesser (Some nexus) other }
-{
-    match other {
-        Some(other) => nexus.min(other),
-        None => nexus,
-    }
-}
-
-/// The lesser of two nexuses, or the one that there is.
-fn lesser(a: Option<Nexus>, b: Option<Nexus>) -> Option<Nexus>
-    ensures { result ≡ lesser a b }
-{
-    match a {
-        Some(nexus) => Some(lesser_of(nexus, b)),
-        None => b,
-    }
 }
 
 /// The storage group at a place.

@@ -10,3 +10,4 @@ pub mod Adding
 pub mod Filters
 pub mod Sizes
 pub mod Changed
+pub mod Leasts

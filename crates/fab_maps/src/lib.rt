@@ -4,8 +4,10 @@
 //! It knows nothing of storage networks: keys are of any type with an order.
 #![tactic(auto)]
 
+mod least;
 mod listed;
 mod room;
 
+pub use least::lesser;
 pub use listed::set_of;
 pub use room::is_full;

@@ -1,11 +1,9 @@
 use Rattle.std.proofs.Common.{None, is_some, refl, sym, ap, ◌∙◌, subst}
 use Rattle.std.specs.FinMap as map
-use Rattle.fab_names.proofs.OrderLaws.{name_total, name_exact}
-use Rattle.fab_maps.proofs.SeenMaps.{get_entries, seen_remove}
+use Rattle.fab_names.proofs.OrderLaws.{name_total}
+use Rattle.fab_maps.proofs.SeenMaps.{get_entries}
 use Rattle.fab_mapping.specs.Mappings.{MappingRows}
 use Rattle.fab_mapping.proofs.GroupChanges.{group_seen}
-use Rattle.fab_mapping.specs.Soundness.{KeepsAll}
-use Rattle.fab_mapping.proofs.Keeping.{drop_group_keeps}
 use Rattle.fab_mapping.proofs.mapping.Mapping.drop_group.Goals as goal
 use Rattle.fab_maps.proofs.Tests.{none_from_test as nothing}
 
@@ -14,9 +12,3 @@ returns-then-not-contains_key-clause-err g c = (refl, group_seen c.self.inside.g
 
 pub returns-clause-known : goal.returns-clause-known
 returns-clause-known g c = ap (λ (v : MappingRows). map.contains_key v.groups c.args.name.now) (sym c.self.view_is) ∙ ap is_some (get_entries name_total c.self.inside.groups.entries c.args.name.now) ∙ sym c.contains_key.ensures ∙ c.if-not-contains_key.false
-
-pub returns-clause-ok : goal.returns-clause-ok
-returns-clause-ok g c = (λ i. record { host_groups = map.from_entries c.self.inside.host_groups.entries; groups = seen_remove name_total name_exact c.self.inside.groups c.remove.new.self c.args.name.now c.remove.ensures.updates.0 i }) ∙ ap (λ (v : MappingRows). record v { groups = map.remove v.groups c.args.name.now }) c.self.view_is
-
-pub returns-clause-keeps : goal.returns-clause-keeps
-returns-clause-keeps g c = subst (KeepsAll c.args.self.now) (sym (returns-clause-ok g c)) (drop_group_keeps c.args.self.now c.args.name.now)

@@ -1,10 +1,8 @@
 use Rattle.std.proofs.Common.{is_some, refl, sym, ap, ◌∙◌, subst}
 use Rattle.std.specs.FinMap as map
-use Rattle.fab_names.proofs.OrderLaws.{name_total, name_exact}
-use Rattle.fab_maps.proofs.SeenMaps.{get_entries, seen_remove, same_look_ups}
+use Rattle.fab_names.proofs.OrderLaws.{name_total}
+use Rattle.fab_maps.proofs.SeenMaps.{get_entries, same_look_ups}
 use Rattle.fab_mapping.specs.Mappings.{MappingRows, IsUnservedIn, IsLeastServing}
-use Rattle.fab_mapping.specs.Soundness.{KeepsAll}
-use Rattle.fab_mapping.proofs.Keeping.{drop_host_group_keeps}
 use Rattle.fab_mapping.proofs.mapping.Mapping.drop_host_group.Goals as goal
 
 pub returns-then-not-contains_key-clause-err : goal.returns-then-not-contains_key-clause-err
@@ -18,9 +16,3 @@ returns-clause-known g c = ap (λ (v : MappingRows). map.contains_key v.host_gro
 
 pub returns-clause-unused : goal.returns-clause-unused
 returns-clause-unused g c = subst (λ f. IsUnservedIn f c.args.name.now) (same_look_ups name_total c.self.inside.groups c.args.self.now.groups (ap (λ (v : MappingRows). v.groups) c.self.view_is)) c.in_default.ensures
-
-pub returns-clause-ok : goal.returns-clause-ok
-returns-clause-ok g c = (λ i. record { host_groups = seen_remove name_total name_exact c.self.inside.host_groups c.remove.new.self c.args.name.now c.remove.ensures.updates.0 i; groups = map.from_entries c.self.inside.groups.entries }) ∙ ap (λ (v : MappingRows). record v { host_groups = map.remove v.host_groups c.args.name.now }) c.self.view_is
-
-pub returns-clause-keeps : goal.returns-clause-keeps
-returns-clause-keeps g c = subst (KeepsAll c.args.self.now) (sym (returns-clause-ok g c)) (drop_host_group_keeps c.args.self.now c.args.name.now (returns-clause-unused g c))
