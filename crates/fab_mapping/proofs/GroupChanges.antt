@@ -2,7 +2,7 @@
 use Rattle.std.proofs.Common.{ℕ, ◌≡◌, ◌≤◌, List, Option, None, Some, is_some, Result, Ok, Err, OnOk, OnErr, IfErr, cond, true, refl, sym, ap, ◌∙◌, subst}
 use Rattle.std.specs.Option.{option_map, option_and_then}
 use Rattle.std.specs.BTreeMap as tree
-use Rattle.std.specs.BTreeMap.{BTreeMap, is_at}
+use Rattle.std.specs.BTreeMap.{BTreeMap, is_at, UpdatesBy}
 use Rattle.std.specs.FinMap as map
 use Rattle.std.specs.Map.{set_value}
 use Rattle.std.proofs.lemmas.Map.Steps.{set_value_same}
@@ -52,15 +52,15 @@ kept hosts m n k g w v view at is entries =
 
 -- a host group that is taken out
 pub hosts_dropped : (hosts new : BTreeMap (List ℕ) HostGroupRows) (groups : BTreeMap (List ℕ) StorageGroupRows) (k : List ℕ) (v : MappingRows) → seen hosts groups ≡ v
-    → ((q : List ℕ) → tree.get name_cmp new q ≡ cond (is_at (name_cmp k) q) None (tree.get name_cmp hosts q)) → seen new groups ≡ record v { host_groups = map.remove v.host_groups k }
+    → UpdatesBy name_cmp (name_cmp k) hosts new None → seen new groups ≡ record v { host_groups = map.remove v.host_groups k }
 hosts_dropped hosts new groups k v view updates =
-    (λ i. record { host_groups = seen_remove name_total name_exact hosts new k updates i; groups = map.from_entries groups.entries }) ∙ ap (λ (x : MappingRows). record x { host_groups = map.remove x.host_groups k }) view
+    (λ i. record { host_groups = seen_remove name_total name_exact hosts new k updates.0 i; groups = map.from_entries groups.entries }) ∙ ap (λ (x : MappingRows). record x { host_groups = map.remove x.host_groups k }) view
 
 -- a storage group that is taken out
 pub group_dropped : (hosts : BTreeMap (List ℕ) HostGroupRows) (groups new : BTreeMap (List ℕ) StorageGroupRows) (k : List ℕ) (v : MappingRows) → seen hosts groups ≡ v
-    → ((q : List ℕ) → tree.get name_cmp new q ≡ cond (is_at (name_cmp k) q) None (tree.get name_cmp groups q)) → seen hosts new ≡ record v { groups = map.remove v.groups k }
+    → UpdatesBy name_cmp (name_cmp k) groups new None → seen hosts new ≡ record v { groups = map.remove v.groups k }
 group_dropped hosts groups new k v view updates =
-    (λ i. record { host_groups = map.from_entries hosts.entries; groups = seen_remove name_total name_exact groups new k updates i }) ∙ ap (λ (x : MappingRows). record x { groups = map.remove x.groups k }) view
+    (λ i. record { host_groups = map.from_entries hosts.entries; groups = seen_remove name_total name_exact groups new k updates.0 i }) ∙ ap (λ (x : MappingRows). record x { groups = map.remove x.groups k }) view
 
 -- ---- what a call on the group answers, the call on the mapping answers
 pub on_ok : {X E : Type 0} {P Q : Type 0} (r : Result X E) → OnOk r P → (P → Q) → OnOk r Q

@@ -1,10 +1,10 @@
 -- Each step keeps a mapping sound, and lets one that fits an inventory fit.
-use Rattle.std.proofs.Common.{ℕ, ◌≡◌, ◌<◌, ◌≤◌, List, [], length, Option, None, Some, is_some, IsSome, Bool, true, false, cond, ◌⊎◌, inl, inr, All, refl, sym, ap, ◌∙◌, subst, arith}
+use Rattle.std.proofs.Common.{ℕ, ◌≡◌, ◌<◌, ◌≤◌, List, [], length, Option, None, Some, is_some, IsSome, Bool, true, false, ◌⊎◌, inl, inr, All, refl, sym, ap, ◌∙◌, subst, arith}
 use mathlib.Core.Bool.{true≢false}
 use Rattle.std.specs.Ordering.{nat_cmp}
 use Rattle.std.specs.Cmp.{nat_cmp_total}
 use Rattle.std.specs.BTreeMap as tree
-use Rattle.std.specs.BTreeMap.{BTreeMap, is_at}
+use Rattle.std.specs.BTreeMap.{BTreeMap, UpdatesBy}
 use Rattle.std.specs.FinMap as map
 use Rattle.std.specs.FinSet as set
 use Rattle.std.proofs.lemmas.List.Elements.{All-contains}
@@ -160,7 +160,7 @@ drop_host_group_keeps v name unused inventory = record {
 
 -- the same of what the code holds
 pub hosts_dropped_keeps : (hosts new : BTreeMap (List ℕ) HostGroupRows) (groups : BTreeMap (List ℕ) StorageGroupRows) (k : List ℕ) (v : MappingRows) → seen hosts groups ≡ v
-    → ((q : List ℕ) → tree.get name_cmp new q ≡ cond (is_at (name_cmp k) q) None (tree.get name_cmp hosts q)) → IsUnservedIn (tree.get name_cmp groups) k → KeepsAll v (seen new groups)
+    → UpdatesBy name_cmp (name_cmp k) hosts new None → IsUnservedIn (tree.get name_cmp groups) k → (inventory : InventoryRows) → Keeps inventory v (seen new groups)
 hosts_dropped_keeps hosts new groups k v view updates unused =
     subst (KeepsAll v) (sym (hosts_dropped hosts new groups k v view updates)) (drop_host_group_keeps v k (subst (λ at. IsUnservedIn at k) (same_look_ups name_total groups v.groups (ap (λ (x : MappingRows). x.groups) view)) unused))
 
@@ -210,7 +210,7 @@ drop_group_keeps v name inventory = record {
 
 -- the same of what the code holds
 pub group_dropped_keeps : (hosts : BTreeMap (List ℕ) HostGroupRows) (groups new : BTreeMap (List ℕ) StorageGroupRows) (k : List ℕ) (v : MappingRows) → seen hosts groups ≡ v
-    → ((q : List ℕ) → tree.get name_cmp new q ≡ cond (is_at (name_cmp k) q) None (tree.get name_cmp groups q)) → KeepsAll v (seen hosts new)
+    → UpdatesBy name_cmp (name_cmp k) groups new None → (inventory : InventoryRows) → Keeps inventory v (seen hosts new)
 group_dropped_keeps hosts groups new k v view updates = subst (KeepsAll v) (sym (group_dropped hosts groups new k v view updates)) (drop_group_keeps v k)
 
 -- nothing is sound, and fits any inventory
