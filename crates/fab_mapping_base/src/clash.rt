@@ -6,16 +6,16 @@ ghost use Rattle.std.specs.List.{slice_get};
 ghost use Rattle.std.specs.Ordering.{nat_cmp};
 ghost use Rattle.std.specs.BTreeMap.{get};
 ghost use Rattle.std.specs.BTreeSet.{contains};
-ghost use Rattle.fab_maps.specs.Firsts.{IsFirstWith};
+ghost use Rattle.fab_maps.specs.Firsts.{IsFirstWith, lesser};
 ghost use Rattle.fab_maps.specs.Adding.{Among};
 ghost use Rattle.fab_names.specs.Orders.{name_cmp};
+ghost use Rattle.fab_mapping_base.specs.Nexuses.{nexus_cmp};
 ghost use Rattle.fab_mapping_base.specs.Clashes.{Maps, IsLeastClashIn, HasNoClashIn};
 ghost use Rattle.fab_mapping_base.specs.ClashSearch.{IsShared, IsUnlike, MeetsTwo, IsLeastOf, MeetsAt, AreFine, MeetsIn};
 
 use crate::known_pairs::KnownPairs;
 use crate::served::{exposed_of, served_hosts};
 use crate::{HostGroup, Nexus, StorageGroup};
-use fab_maps::lesser;
 use fab_names::{Name, Wwn};
 use std::alloc::{AllocError, Allocator};
 use std::collections::{BTreeMap, BTreeSet};
@@ -59,6 +59,13 @@ fn clash_of<A: Allocator + Copy>(
         return None;
     };
     Some(Nexus { host, target, unit })
+}
+
+/// The lesser of two nexuses, or the one that there is.
+fn lesser(a: Option<Nexus>, b: Option<Nexus>) -> Option<Nexus>
+    ensures { result ≡ lesser nexus_cmp a b }
+{
+    fab_maps::lesser(a, b)
 }
 
 /// The storage group at a place.
