@@ -1,3 +1,4 @@
 pub mod GroupChanges
 pub mod Passed
 pub mod Keeping
+pub mod Lacking

@@ -3,3 +3,4 @@ pub use Rattle.fab_mapping_base.specs.Nexuses
 pub use Rattle.fab_mapping_base.specs.Clashes
 pub mod Mappings
 pub mod Soundness
+pub mod Gone

@@ -9,14 +9,16 @@ ghost use Rattle.fab_mapping_base.specs.Groups.{HoldsHost, HasTarget, IsOfArray,
 ghost use Rattle.fab_mapping_base.specs.Fitting.{IsPortOf, IsVolumeOn};
 ghost use Rattle.fab_mapping.specs.Mappings.{no_groups, IsLeastClash, HasNoClash, CanPutHostGroup, PutHostGroupFails, IsUnservedIn, IsLeastServing, DropHostGroupFails, CanMakeGroup, NewGroupFails, NamesNoGroup, ChangesGroup, GroupHas, AddHostsFails, RemoveHostsFails, AddTargetFails, RemoveTargetFails, MapFails, UnmapFails};
 ghost use Rattle.fab_inventory.specs.Inventories.{InventoryRows};
+ghost use Rattle.fab_mapping.specs.Gone.{IsFirstGone};
 ghost use Rattle.fab_mapping.specs.Soundness.{IsSound, Fits, Keeps, KeepsAll};
 
+use crate::gone::first_gone;
 use crate::search::{
     first_of_array, first_serving, first_with_host, first_with_target, first_with_volume,
 };
 use crate::sound::{are_sound, groups_fit, have_hosts};
 use crate::{
-    HostGroup, LAST_UNIT, MOST_HOST_GROUPS, MOST_HOSTS, MOST_STORAGE_GROUPS, MappingFault,
+    Gone, HostGroup, LAST_UNIT, MOST_HOST_GROUPS, MOST_HOSTS, MOST_STORAGE_GROUPS, MappingFault,
     MappingLimit, Nexus, StorageGroup,
 };
 use fab_inventory::Inventory;
@@ -179,6 +181,16 @@ impl<A: Allocator + Copy> Mapping<A> {
             return false;
         }
         groups_fit(inventory, &self.groups)
+    }
+
+    /// The first of what the mapping names and the inventory has not, if there is any: a host of a
+    /// host group that is no host, an array of a storage group that is no array, a target that the
+    /// group's array does not hold, a mapped volume that is not on it; of the first of these kinds
+    /// the least name or port. It takes no memory.
+    pub fn first_gone(&self, inventory: &Inventory<A>) -> Option<Gone>
+        ensures { MatchOption result (Fits inventory.now self.now) (IsFirstGone inventory.now self.now) }
+    {
+        first_gone(inventory, &self.host_groups, &self.groups)
     }
 
     /// The least nexus at which exposed storage groups name two volumes, if there is one. The same

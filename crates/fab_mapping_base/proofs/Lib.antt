@@ -5,3 +5,4 @@ pub mod Serving
 pub mod ClashSearch
 pub mod Passed
 pub mod Sounding
+pub mod Lacking

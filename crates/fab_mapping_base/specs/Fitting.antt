@@ -5,7 +5,7 @@ use Rattle.std.specs.FinSet as set
 use Rattle.fab_inventory.specs.declared.holder.Volume.{Volume}
 use Rattle.fab_inventory.specs.Holders.{holder_in}
 use Rattle.fab_inventory.specs.Inventories.{InventoryRows, IsHost, IsArray}
-use Rattle.fab_mapping_base.specs.Groups.{HostGroupRows, StorageGroupRows}
+use Rattle.fab_mapping_base.specs.Groups.{HostGroupRows, StorageGroupRows, MapsVolume}
 
 -- the port is known, and the array holds it
 abbrev pub IsPortOf : InventoryRows → List ℕ → ℕ → Type 0
@@ -36,3 +36,21 @@ pub record GroupFits (inventory : InventoryRows) (g : StorageGroupRows) : Type 0
   pub on_array : IsArray inventory.holders g.array
   pub targets : HasTargets inventory g.array g
   pub volumes : HasVolumes inventory g.array g
+
+-- ---- what is gone
+
+-- the host group has the host, and no host has this name
+abbrev pub LacksHost : InventoryRows → HostGroupRows → List ℕ → Type 0
+LacksHost inventory g host = (set.contains g.hosts host ≡ true) × ¬ IsHost inventory.holders host
+
+-- the storage group is of the array, and no array has this name
+abbrev pub LacksArray : InventoryRows → StorageGroupRows → List ℕ → Type 0
+LacksArray inventory g array = (array ≡ g.array) × ¬ IsArray inventory.holders array
+
+-- the storage group has the target, and its array does not hold it
+abbrev pub LacksTarget : InventoryRows → StorageGroupRows → ℕ → Type 0
+LacksTarget inventory g q = (set.contains g.targets q ≡ true) × ¬ IsPortOf inventory g.array q
+
+-- the storage group maps the volume, and it is not on the group's array
+abbrev pub LacksVolume : InventoryRows → StorageGroupRows → List ℕ → Type 0
+LacksVolume inventory g volume = MapsVolume volume g × ¬ IsVolumeOn inventory g.array volume

@@ -6,6 +6,7 @@
 
 mod clash;
 mod fault;
+mod gone;
 mod host_group;
 mod known_pairs;
 mod limits;
@@ -17,6 +18,7 @@ mod storage_group;
 
 pub use clash::least_clash;
 pub use fault::{MappingFault, MappingLimit};
+pub use gone::{Gone, gone_array, gone_host, gone_target, gone_volume};
 pub use host_group::HostGroup;
 pub use limits::{
     LAST_UNIT, MOST_GROUPS_SERVED, MOST_HOST_GROUPS, MOST_HOSTS, MOST_STORAGE_GROUPS, MOST_TARGETS,

@@ -1,0 +1,10 @@
+use Rattle.std.proofs.Common.{◌≡◌, ℕ, List, ◌++◌}
+use Rattle.std.specs.Ordering.{nat_cmp}
+use Rattle.fab_maps.specs.Firsts.{IsFirstOf}
+use Rattle.fab_maps.proofs.Adding.{Before}
+use Rattle.fab_mapping_base.specs.Groups.{StorageGroupRows}
+use Rattle.fab_mapping_base.specs.Fitting.{LacksTarget}
+use Rattle.fab_mapping.proofs.gone.least_target.Given as goal
+
+abbrev pub invariant-loop-name : goal.invariant-loop-name
+invariant-loop-name g l = (before : List (List ℕ × StorageGroupRows)) × (l.groups.entries ≡ before ++ l._name-iterator) × IsFirstOf nat_cmp (Before (λ (e : List ℕ × StorageGroupRows). LacksTarget l.inventory e.1) before) l.least
