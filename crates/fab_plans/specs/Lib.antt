@@ -1,0 +1,7 @@
+pub mod Checks
+pub mod ZoningSteps
+pub mod MappingSteps
+pub mod Steps
+pub mod Soundness
+pub mod Outcomes
+pub mod Telling

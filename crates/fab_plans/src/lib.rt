@@ -1,0 +1,11 @@
+//! Plans from their trial on: what the steps of a plan make of a configuration, and what becomes of
+//! a plan that is staged.
+#![tactic(auto)]
+
+mod fault;
+mod mapping_steps;
+mod outcome;
+mod zoning_steps;
+
+pub use fault::{Item, Refusal, StepLimit, TrialFault};
+pub use outcome::trial;

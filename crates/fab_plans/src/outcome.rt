@@ -1,0 +1,98 @@
+//! The trial of steps on a configuration.
+ghost use Rattle.std.specs.Prelude.{OnOk, IfOk, IfErr};
+ghost use Rattle.fab_steps.specs.Plans.{IsStep};
+ghost use Rattle.fab_plans.specs.Steps.{StepDone, FailsIn, fabric_of};
+ghost use Rattle.fab_plans.specs.Soundness.{IsSound};
+ghost use Rattle.fab_plans.specs.Outcomes.{AllDone, IsOutcome, IsTrialFault};
+ghost use Rattle.fab_plans.specs.Telling.{IsFaultOf};
+
+use crate::fault::StepFault;
+use crate::mapping_steps::take_mapping_step;
+use crate::zoning_steps::{fabric, take_zoning_step};
+use crate::{Refusal, TrialFault};
+use fab_inventory::Inventory;
+use fab_names::Fabric;
+use fab_reach::Config;
+use fab_steps::{Action, Step};
+use std::alloc::Allocator;
+
+/// Does a step on a configuration.
+///
+/// # Errors
+/// `Refused` with the first refusal of the step, or `Memory`.
+fn take_step<A: Allocator + Copy>(
+    config: &mut Config<A>,
+    inventory: &Inventory<A>,
+    step: &Step<A>,
+) -> Result<(), StepFault>
+    ensures ok { OnOk result (StepDone inventory.now step.now config.old config.new) }
+    ensures sound { OnOk result (IsSound inventory.now config.old → IsSound inventory.now config.new) }
+    ensures err { IfErr result (IsFaultOf (FailsIn (fabric_of step.now) inventory.now config.old step.now)) }
+{
+    match step.action() {
+        Action::Zoning(action) => match fabric(action) {
+            Fabric::A => take_zoning_step(&mut config.a, action),
+            Fabric::B => take_zoning_step(&mut config.b, action),
+        },
+        Action::Mapping(action) => take_mapping_step(&mut config.mapping, inventory, action),
+    }
+}
+
+/// Does steps on a configuration, one after the other.
+///
+/// # Errors
+/// `Refused` with the number of the first step that is refused, and its first refusal, or `Memory`.
+/// The configuration is then what the steps before it made.
+fn take_steps<A: Allocator + Copy>(
+    config: &mut Config<A>,
+    inventory: &Inventory<A>,
+    steps: &[Step<A>],
+) -> Result<(), TrialFault>
+    ensures ok { OnOk result (AllDone inventory.now steps.now config.old config.new) }
+    ensures sound { OnOk result (IsSound inventory.now config.old → IsSound inventory.now config.new) }
+    ensures err { IfErr result (IsTrialFault inventory.now steps.now config.old) }
+{
+    for (place, step) in steps.iter().enumerate() {
+        match take_step(config, inventory, step) {
+            Ok(()) => {}
+            Err(StepFault::Refused(refusal)) => {
+                let step = place + 1;
+                return Err(TrialFault::Refused { step, refusal });
+            }
+            Err(StepFault::Memory) => return Err(TrialFault::Memory),
+        }
+    }
+    Ok(())
+}
+
+/// What steps make of a configuration beside an inventory: a new configuration, after all steps in
+/// their order. The given one stays as it is. The limits on paths and on changes are no part of it.
+///
+/// # Errors
+/// `Refused` with the number of the first step that is refused, from 1, and its first refusal, in
+/// the order of a step's checks; or with 0 and the least clash, where after all steps a host would
+/// meet two volumes at one target and unit; `Memory`.
+pub fn trial<A: Allocator + Copy>(
+    config: &Config<A>,
+    inventory: &Inventory<A>,
+    steps: &[Step<A>],
+) -> Result<Config<A>, TrialFault>
+    ensures ok { IfOk result (IsOutcome inventory.now steps.now config.now) }
+    ensures sound { IfOk result (λ after. IsSound inventory.now config.now → IsSound inventory.now after) }
+    ensures refused { IfErr result (IsTrialFault inventory.now steps.now config.now) }
+{
+    let Ok(mut after) = config.copy() else {
+        return Err(TrialFault::Memory);
+    };
+    if let Err(fault) = take_steps(&mut after, inventory, steps) {
+        return Err(fault);
+    }
+    match after.mapping().clash() {
+        Ok(None) => Ok(after),
+        Ok(Some(nexus)) => Err(TrialFault::Refused {
+            step: 0,
+            refusal: Refusal::Clash(nexus),
+        }),
+        Err(_) => Err(TrialFault::Memory),
+    }
+}
