@@ -1,15 +1,12 @@
 -- Each step keeps a zoning sound.
-use Rattle.std.proofs.Common.{ℕ, zero, suc, ◌≡◌, ◌<◌, ◌≤◌, ◌+◌, ◌-◌, List, [], ◌∷◌, length, Option, None, Some, is_some, IsSome, Bool, true, false, not, cond, min, nat_eq, ◌&&◌, ◌||◌, ◌⊎◌, inl, inr, All, Contains, refl, sym, ap, ◌∙◌, subst, arith}
+use Rattle.std.proofs.Common.{ℕ, zero, suc, ◌≡◌, ◌<◌, ◌≤◌, ◌+◌, List, [], length, Option, None, Some, is_some, true, false, min, nat_eq, inl, inr, All, refl, sym, ap, ◌∙◌, subst, arith}
 use mathlib.Core.Bool.{true≢false}
 use Rattle.std.specs.declared.cmp.Ordering.{Ordering}
-use Rattle.std.specs.Ordering.{is_eq, eq_by_cmp}
-use Rattle.std.specs.Cmp.{IsTotalOrder, Equal-is, tied_itself}
-use Rattle.std.specs.List.{list_any}
+use Rattle.std.specs.Cmp.{IsTotalOrder}
 use Rattle.std.specs.FinMap as map
 use Rattle.std.specs.FinSet as set
 use Rattle.std.proofs.lemmas.Bool.Decides.{nat_tests}
 use Rattle.std.proofs.lemmas.List.Elements.{All-contains}
-use Rattle.std.proofs.lemmas.Map.Views.{Contains-from_any, tells_apart}
 use Rattle.fab_names.specs.declared.fabric.Fabric.{Fabric}
 use Rattle.fab_names.specs.declared.member.Member.{Member}
 use Rattle.fab_names.specs.declared.member.Member.TheVariants as member
@@ -17,8 +14,9 @@ use Rattle.fab_names.specs.Orders.{name_cmp, member_cmp}
 use Rattle.fab_names.proofs.OrderLaws.{name_total, name_exact, member_total, member_exact}
 use Rattle.std.specs.BTreeSet.{BTreeSet}
 use Rattle.fab_maps.specs.MapsOfSets.{has, in_set, seen_sets}
-use Rattle.fab_maps.specs.Room.{HasRoom}
-use Rattle.fab_maps.proofs.Tests.{or_true, or_left, or_right}
+use Rattle.fab_maps.proofs.SeenSets.{listed_decides}
+use Rattle.fab_maps.proofs.Sizes.{map_put, map_gone, holds_some, some_listed, at_most_listed, some_member}
+use Rattle.fab_maps.proofs.Changed.{entry_put, entry_gone, still_there, there_without, has_put, has_gone}
 use Rattle.fab_zoning.specs.Limits.{most_members, most_rows}
 use Rattle.fab_zoning.specs.Rows.{Row, Rows, row_cmp, IsPlain}
 use Rattle.fab_zoning.specs.declared.flag.DefaultFlag.TheVariants.{Deny}
@@ -28,117 +26,34 @@ use Rattle.fab_zoning.specs.Resolved.{IsResolved, AreResolved}
 use Rattle.fab_zoning.specs.Soundness.{AreListings, AreSoundDefinitions, IsSoundActive, IsSound}
 use Rattle.fab_zoning.proofs.RowSets.{row_total, row_exact}
 
--- ---- sizes of finite sets
+-- a set that may be listed: it has something, and is not too large
+abbrev IsListed : {K : Type 0} {R : K → K → Ordering} → List ℕ → set.FinSet R → Type 0
+IsListed n s = (0 < set.len s) × (set.len s ≤ most_members)
+
+-- ---- one set more under a name, or one less
 module _ {K : Type 0} {R : K → K → Ordering} (o : IsTotalOrder R) where
-  some_of_length : (xs : List K) → 0 < length xs → (x : K) × (list_any (eq_by_cmp R x) xs ≡ true)
-  some_of_length [] h = absurd (omega arith)
-  some_of_length (x ∷ xs) h = (x, or_left (eq_by_cmp R x x) (list_any (eq_by_cmp R x) xs) (ap is_eq (tied_itself o x)))
+  listed_put : (m : NamedSets R) (k : List ℕ) (xs : List K) → IsListing (length xs) → AreListings m → AreListings (map.insert m k (set.from_list xs))
+  listed_put m k xs l = entry_put name_total m k name_exact IsListed (set.from_list xs) (some_listed o xs l.0, let few = at_most_listed o xs in let most = l.1 in omega arith)
 
-  -- a set with a member has something
-  pub holds_some : (s : set.FinSet R) (x : K) → set.contains s x ≡ true → 0 < set.len s
-  holds_some s x h = by (set.len s) refl
-    where
-      by : (n : ℕ) → set.len s ≡ n → 0 < set.len s
-      by zero e = absurd (true≢false (sym h ∙ ap (λ t. set.contains t x) (set.empty_of_len s e) ∙ set.contains-empty R x))
-      by (suc n) e = omega arith
-
-  -- a listed set is no longer than the list
-  pub at_most_listed : (xs : List K) → set.len (set.from_list {R = R} xs) ≤ length xs
-  at_most_listed [] = let e = set.len-empty R in omega arith
-  at_most_listed (x ∷ xs) =
-      let e = set.len-insert o (set.from_list {R = R} xs) x in
-      let rest = at_most_listed xs in
-      by (set.contains (set.from_list {R = R} xs) x) e rest
-    where
-      by : (b : Bool) → set.len (set.insert (set.from_list {R = R} xs) x) ≡ cond b (set.len (set.from_list {R = R} xs)) (set.len (set.from_list {R = R} xs) + 1) → set.len (set.from_list {R = R} xs) ≤ length xs
-          → set.len (set.insert (set.from_list {R = R} xs) x) ≤ suc (length xs)
-      by true e rest = omega arith
-      by false e rest = omega arith
-
-  pub some_listed : (xs : List K) → 0 < length xs → 0 < set.len (set.from_list {R = R} xs)
-  some_listed xs h = let w = some_of_length xs h in holds_some (set.from_list xs) w.0 (set.contains-from_list o xs w.0 ∙ w.1)
-
-  -- one set more under a name, or one less
-  pub listed_put : (m : NamedSets R) (k : List ℕ) (xs : List K) → IsListing (length xs) → AreListings m → AreListings (map.insert m k (set.from_list xs))
-  listed_put m k xs l h n s at = by (eq_by_cmp name_cmp n k) (sym (map.get-insert name_total m k (set.from_list {R = R} xs) n) ∙ at)
-    where
-      by : (b : Bool) → cond b (Some (set.from_list {R = R} xs)) (map.get m n) ≡ Some s → (0 < set.len s) × (set.len s ≤ most_members)
-      by true e = let same : set.from_list {R = R} xs ≡ s = cc in subst (λ (t : set.FinSet R). (0 < set.len t) × (set.len t ≤ most_members)) same (some_listed xs l.0, let few = at_most_listed xs in let most = l.1 in omega arith)
-      by false e = h n s e
-
-  pub listed_dropped : (m : NamedSets R) (k : List ℕ) → AreListings m → AreListings (map.remove m k)
-  listed_dropped m k h n s at = by (eq_by_cmp name_cmp n k) (sym (map.get-remove name_total m k n) ∙ at)
-    where
-      by : (b : Bool) → cond b None (map.get m n) ≡ Some s → (0 < set.len s) × (set.len s ≤ most_members)
-      by true e = absurd cc
-      by false e = h n s e
-
-  pub few_put : (m : NamedSets R) (k : List ℕ) (s : set.FinSet R) (most : ℕ) → HasRoom m k most → map.len m ≤ most → map.len (map.insert m k s) ≤ most
-  few_put m k s most room h = by (map.contains_key m k) refl (map.len-insert name_total m k s)
-    where
-      by : (b : Bool) → map.contains_key m k ≡ b → map.len (map.insert m k s) ≡ cond b (map.len m) (map.len m + 1) → map.len (map.insert m k s) ≤ most
-      by true is e = omega arith
-      by false is e = elim room [ inl there ↦ absurd (true≢false (sym there ∙ is)) | inr few ↦ omega arith ]
-
-  pub few_dropped : (m : NamedSets R) (k : List ℕ) (most : ℕ) → map.len m ≤ most → map.len (map.remove m k) ≤ most
-  few_dropped m k most h = by (map.contains_key m k) (map.len-remove name_total m k)
-    where
-      by : (b : Bool) → map.len (map.remove m k) ≡ cond b (map.len m - 1) (map.len m) → map.len (map.remove m k) ≤ most
-      by true e = omega arith
-      by false e = omega arith
-
-  pub still_there : (m : NamedSets R) (k n : List ℕ) (s : set.FinSet R) → map.contains_key m n ≡ true → map.contains_key (map.insert m k s) n ≡ true
-  still_there m k n s h = ap is_some (map.get-insert name_total m k s n) ∙ by (eq_by_cmp name_cmp n k)
-    where
-      by : (b : Bool) → is_some (cond b (Some s) (map.get m n)) ≡ true
-      by true = refl
-      by false = h
-
-  pub has_dropped : (m : NamedSets R) (k n : List ℕ) (x : K) → has (map.remove m k) n x ≡ true → has m n x ≡ true
-  has_dropped m k n x h = by (eq_by_cmp name_cmp n k) (sym (ap (λ (a : Option (set.FinSet R)). in_set a x) (map.get-remove name_total m k n)) ∙ h)
-    where
-      by : (b : Bool) → in_set (cond b None (map.get m n)) x ≡ true → has m n x ≡ true
-      by true e = absurd (true≢false (sym e))
-      by false e = e
-
-  -- what was there, but for the one that was dropped
-  pub there_without : (m : NamedSets R) (k n : List ℕ) → ¬ (n ≡ k) → map.contains_key m n ≡ true → map.contains_key (map.remove m k) n ≡ true
-  there_without m k n apart h = ap is_some (map.get-remove name_total m k n) ∙ by (eq_by_cmp name_cmp n k) refl
-    where
-      by : (b : Bool) → eq_by_cmp name_cmp n k ≡ b → is_some (cond b None (map.get m n)) ≡ true
-      by true is = absurd (apart (name_exact n k ((Equal-is (name_cmp n k)).0 is)))
-      by false is = h
+  listed_dropped : (m : NamedSets R) (k : List ℕ) → AreListings m → AreListings (map.remove m k)
+  listed_dropped m k = entry_gone name_total m k IsListed
 
   module _ (exact : set.IsAntisymmetric R) where
-    -- a set with something has a member
-    some_member : (s : set.FinSet R) → 0 < set.len s → (x : K) × (set.contains s x ≡ true)
-    some_member s h = by (set.items s) refl
-      where
-        by : (xs : List K) → set.items s ≡ xs → (x : K) × (set.contains s x ≡ true)
-        by [] e =
-            let none : s ≡ set.empty = set.same_set o exact s set.empty (λ q. set.contains-items s q ∙ ap (list_any (eq_by_cmp R q)) e ∙ sym (set.contains-empty R q)) in
-            absurd (let z = ap set.len none ∙ set.len-empty R in omega (arith, h, z))
-        by (x ∷ xs) e = (x, set.contains-items s x ∙ ap (list_any (eq_by_cmp R x)) e ∙ or_left (eq_by_cmp R x x) (list_any (eq_by_cmp R x) xs) (ap is_eq (tied_itself o x)))
-
-    -- the set of a name that is there
-    pub set_at : (m : NamedSets R) (n : List ℕ) → map.contains_key m n ≡ true → AreListings m → (x : K) × (has m n x ≡ true)
+    -- the set of a name that is there has a member
+    set_at : (m : NamedSets R) (n : List ℕ) → map.contains_key m n ≡ true → AreListings m → (x : K) × (has m n x ≡ true)
     set_at m n there h = by (map.get m n) refl there
       where
         by : (a : Option (set.FinSet R)) → map.get m n ≡ a → is_some a ≡ true → (x : K) × (has m n x ≡ true)
         by None is e = absurd (true≢false (sym e))
-        by (Some s) is e = let w = some_member s (h n s is).0 in (w.0, ap (λ (a : Option (set.FinSet R)). in_set a w.0) is ∙ w.1)
+        by (Some s) is e = let w = some_member o exact s (h n s is).0 in (w.0, ap (λ (a : Option (set.FinSet R)). in_set a w.0) is ∙ w.1)
 
-    listed_member : (xs : List K) (x : K) → set.contains (set.from_list {R = R} xs) x ≡ true → Contains xs x
-    listed_member xs x h = Contains-from_any (tells_apart exact) x xs (sym (set.contains-from_list o xs x) ∙ h)
+    -- what each listed item has, each member of their set has
+    each_listed : (P : K → Type 0) (xs : List K) → All P xs → (x : K) → set.contains (set.from_list {R = R} xs) x ≡ true → P x
+    each_listed P xs all x h = All-contains P xs x all ((listed_decides o exact xs x).0 h)
 
-    -- what each listed item and each former member has, each member has
-    pub has_put : (P : K → Type 0) (m : NamedSets R) (k : List ℕ) (xs : List K) → All P xs → (n : List ℕ) (x : K) → has (map.insert m k (set.from_list xs)) n x ≡ true → (has m n x ≡ true → P x) → P x
-    has_put P m k xs all n x h before =
-        by (eq_by_cmp name_cmp n k) (sym (ap (λ (a : Option (set.FinSet R)). in_set a x) (map.get-insert name_total m k (set.from_list {R = R} xs) n)) ∙ h)
-      where
-        by : (b : Bool) → in_set (cond b (Some (set.from_list {R = R} xs)) (map.get m n)) x ≡ true → P x
-        by true e = All-contains P xs x all (listed_member xs x e)
-        by false e = before e
+    -- and with what each former member has, each member
+    each_put : (P : K → Type 0) (m : NamedSets R) (k : List ℕ) (xs : List K) → All P xs → (n : List ℕ) (x : K) → has (map.insert m k (set.from_list xs)) n x ≡ true → (has m n x ≡ true → P x) → P x
+    each_put P m k xs all n x h before = elim (has_put name_total m k (set.from_list xs) n x h) [ inl e ↦ each_listed P xs all x e | inr e ↦ before e ]
 
 -- ---- the steps
 -- nothing is active
@@ -188,7 +103,7 @@ pub listed_active : (name : List ℕ) (rows : List Row) → 0 < length rows → 
 listed_active name rows some few plain = record {
   has_rows = λ _. some_listed row_total rows some;
   has_name = λ _. refl;
-  plain_rows = λ r h. All-contains (λ (q : Row). IsPlain q.1) rows r plain (listed_member row_total row_exact rows r h);
+  plain_rows = λ r h. each_listed row_total row_exact (λ (q : Row). IsPlain q.1) rows plain r h;
   few_rows = let e = at_most_listed row_total rows in omega arith;
 }
 
@@ -204,13 +119,13 @@ module _ (v : FabricZoning) (sound : IsSound v) where
   pub put_alias_keeps : (name : List ℕ) (members : List Member) → All IsPlain members → CanPutAlias v name members → IsSound (record v { aliases = map.insert v.aliases name (set.from_list members) })
   put_alias_keeps name members plain can = record {
     definitions = record {
-      plain_aliases = λ n m is. has_put member_total member_exact IsPlain v.aliases name members plain n m is (d.plain_aliases n m);
+      plain_aliases = λ n m is. each_put member_total member_exact IsPlain v.aliases name members plain n m is (d.plain_aliases n m);
       listed_aliases = listed_put member_total v.aliases name members can.listing d.listed_aliases;
       listed_zones = d.listed_zones;
       listed_sets = d.listed_sets;
-      known_aliases = λ z a is. still_there member_total v.aliases name a (set.from_list members) (d.known_aliases z a is);
+      known_aliases = λ z a is. still_there name_total v.aliases name (set.from_list members) a (d.known_aliases z a is);
       known_zones = d.known_zones;
-      few_aliases = few_put member_total v.aliases name (set.from_list members) _ can.room d.few_aliases;
+      few_aliases = map_put name_total v.aliases name (set.from_list members) _ can.room d.few_aliases;
       few_zones = d.few_zones;
       few_sets = d.few_sets;
     };
@@ -220,14 +135,14 @@ module _ (v : FabricZoning) (sound : IsSound v) where
   pub drop_alias_keeps : (name : List ℕ) → CanDropAlias v name → IsSound (record v { aliases = map.remove v.aliases name })
   drop_alias_keeps name can = record {
     definitions = record {
-      plain_aliases = λ n m is. d.plain_aliases n m (has_dropped member_total v.aliases name n m is);
+      plain_aliases = λ n m is. d.plain_aliases n m (has_gone name_total v.aliases name n m is);
       listed_aliases = listed_dropped member_total v.aliases name d.listed_aliases;
       listed_zones = d.listed_zones;
       listed_sets = d.listed_sets;
       known_aliases = λ z a is.
-          there_without member_total v.aliases name a (λ same. true≢false (sym is ∙ ap (λ (b : List ℕ). has v.zones z (member.Alias b)) same ∙ can.unused z)) (d.known_aliases z a is);
+          there_without name_total v.aliases name name_exact a (λ same. true≢false (sym is ∙ ap (λ (b : List ℕ). has v.zones z (member.Alias b)) same ∙ can.unused z)) (d.known_aliases z a is);
       known_zones = d.known_zones;
-      few_aliases = few_dropped member_total v.aliases name _ d.few_aliases;
+      few_aliases = map_gone name_total v.aliases name _ d.few_aliases;
       few_zones = d.few_zones;
       few_sets = d.few_sets;
     };
@@ -241,10 +156,10 @@ module _ (v : FabricZoning) (sound : IsSound v) where
       listed_aliases = d.listed_aliases;
       listed_zones = listed_put member_total v.zones name members can.listing d.listed_zones;
       listed_sets = d.listed_sets;
-      known_aliases = λ z a is. has_put member_total member_exact (HasAlias v) v.zones name members can.known z (member.Alias a) is (λ before b same. subst (λ c. map.contains_key v.aliases c ≡ true) (one_alias a b same) (d.known_aliases z a before)) a refl;
-      known_zones = λ n z is. still_there member_total v.zones name z (set.from_list members) (d.known_zones n z is);
+      known_aliases = λ z a is. each_put member_total member_exact (HasAlias v) v.zones name members can.known z (member.Alias a) is (λ before b same. subst (λ c. map.contains_key v.aliases c ≡ true) (one_alias a b same) (d.known_aliases z a before)) a refl;
+      known_zones = λ n z is. still_there name_total v.zones name (set.from_list members) z (d.known_zones n z is);
       few_aliases = d.few_aliases;
-      few_zones = few_put member_total v.zones name (set.from_list members) _ can.room d.few_zones;
+      few_zones = map_put name_total v.zones name (set.from_list members) _ can.room d.few_zones;
       few_sets = d.few_sets;
     };
     active = sound.active;
@@ -260,10 +175,10 @@ module _ (v : FabricZoning) (sound : IsSound v) where
       listed_aliases = d.listed_aliases;
       listed_zones = listed_dropped member_total v.zones name d.listed_zones;
       listed_sets = d.listed_sets;
-      known_aliases = λ z a is. d.known_aliases z a (has_dropped member_total v.zones name z (member.Alias a) is);
-      known_zones = λ n z is. there_without member_total v.zones name z (λ same. true≢false (sym is ∙ ap (λ (b : List ℕ). has v.sets n b) same ∙ can.unused n)) (d.known_zones n z is);
+      known_aliases = λ z a is. d.known_aliases z a (has_gone name_total v.zones name z (member.Alias a) is);
+      known_zones = λ n z is. there_without name_total v.zones name name_exact z (λ same. true≢false (sym is ∙ ap (λ (b : List ℕ). has v.sets n b) same ∙ can.unused n)) (d.known_zones n z is);
       few_aliases = d.few_aliases;
-      few_zones = few_dropped member_total v.zones name _ d.few_zones;
+      few_zones = map_gone name_total v.zones name _ d.few_zones;
       few_sets = d.few_sets;
     };
     active = sound.active;
@@ -277,10 +192,10 @@ module _ (v : FabricZoning) (sound : IsSound v) where
       listed_zones = d.listed_zones;
       listed_sets = listed_put name_total v.sets name zones can.listing d.listed_sets;
       known_aliases = d.known_aliases;
-      known_zones = λ n z is. has_put name_total name_exact (HasZone v) v.sets name zones can.known n z is (d.known_zones n z);
+      known_zones = λ n z is. each_put name_total name_exact (HasZone v) v.sets name zones can.known n z is (d.known_zones n z);
       few_aliases = d.few_aliases;
       few_zones = d.few_zones;
-      few_sets = few_put name_total v.sets name (set.from_list zones) _ can.room d.few_sets;
+      few_sets = map_put name_total v.sets name (set.from_list zones) _ can.room d.few_sets;
     };
     active = sound.active;
   }
@@ -293,10 +208,10 @@ module _ (v : FabricZoning) (sound : IsSound v) where
       listed_zones = d.listed_zones;
       listed_sets = listed_dropped name_total v.sets name d.listed_sets;
       known_aliases = d.known_aliases;
-      known_zones = λ n z is. d.known_zones n z (has_dropped name_total v.sets name n z is);
+      known_zones = λ n z is. d.known_zones n z (has_gone name_total v.sets name n z is);
       few_aliases = d.few_aliases;
       few_zones = d.few_zones;
-      few_sets = few_dropped name_total v.sets name _ d.few_sets;
+      few_sets = map_gone name_total v.sets name _ d.few_sets;
     };
     active = sound.active;
   }

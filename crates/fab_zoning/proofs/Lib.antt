@@ -1,6 +1,7 @@
 pub mod Changes
 pub mod RowSets
 pub mod Adding
+pub mod Listing
 pub mod Resolving
 pub mod PortZoneLemmas
 pub mod Reasons

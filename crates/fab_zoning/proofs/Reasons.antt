@@ -1,6 +1,7 @@
 -- Which zones have a port, and why two ports are joined or are not.
 use Rattle.std.proofs.Common.{ℕ, ◌≡◌, ◌≢◌, List, Option, Some, None, Bool, true, false, ◌||◌, inl, inr, refl, sym, ap, ◌∙◌}
 use mathlib.Core.Bool.{true≢false}
+use Rattle.std.specs.Option.{option_map}
 use Rattle.std.specs.FinSet as set
 use Rattle.fab_names.specs.Places.{Position}
 use Rattle.fab_names.specs.declared.fabric.Fabric.{Fabric}
@@ -16,7 +17,7 @@ use Rattle.fab_maps.proofs.Tests.{or_true, or_right, or_left}
 
 -- a port has three members: its two names, and its place where it is logged in
 module _ (rows : Rows) (p : Port) (z : List ℕ) (a b c : Bool) (by_port : set.contains rows (z, member.Port p.name) ≡ a) (by_node : set.contains rows (z, member.Node p.node) ≡ b) where
-  abbrev pub ByPlace : Option (Fabric × Position) → Type 0
+  abbrev ByPlace : Option (Fabric × Position) → Type 0
   ByPlace None = c ≡ false
   ByPlace (Some at) = set.contains rows (z, member.Place at.1) ≡ c
 
@@ -24,7 +25,7 @@ module _ (rows : Rows) (p : Port) (z : List ℕ) (a b c : Bool) (by_port : set.c
   held_there None at none is = absurd (true≢false (sym is ∙ none))
   held_there (Some w) at there is = (member.Place w.1, there ∙ is, (w.0, at))
 
-  pub held : (o : Option (Fabric × Position)) → p.at ≡ o → ByPlace o → (a || (b || c)) ≡ true → Holds rows p z
+  held : (o : Option (Fabric × Position)) → p.at ≡ o → ByPlace o → (a || (b || c)) ≡ true → Holds rows p z
   held o at there e = elim (or_true a (b || c) e) [
     | inl is ↦ (member.Port p.name, by_port ∙ is, refl)
     | inr more ↦ elim (or_true b c more) [ inl is ↦ (member.Node p.node, by_node ∙ is, refl) | inr is ↦ held_there o at there is ]
@@ -41,8 +42,22 @@ module _ (rows : Rows) (p : Port) (z : List ℕ) (a b c : Bool) (by_port : set.c
   by_member o at same (member.Alias n) there is = absurd is
 
   -- the three tests find exactly the zones that have the port
-  pub held_exactly : (o : Option (Fabric × Position)) → p.at ≡ o → ByPlace o → ((a || (b || c)) ≡ true → Holds rows p z) × (Holds rows p z → (a || (b || c)) ≡ true)
-  held_exactly o at same = (held o at same, λ h. by_member o at same h.0 h.1 h.2)
+  exactly : (o : Option (Fabric × Position)) → p.at ≡ o → ByPlace o → ((a || (b || c)) ≡ true → Holds rows p z) × (Holds rows p z → (a || (b || c)) ≡ true)
+  exactly o at same = (held o at same, λ h. by_member o at same h.0 h.1 h.2)
+
+  -- the third member is given, if there is one
+  abbrev pub ByThird : Option Member → Type 0
+  ByThird None = c ≡ false
+  ByThird (Some m) = set.contains rows (z, m) ≡ c
+
+  third_is_place : (o : Option (Fabric × Position)) (third : Option Member) → third ≡ option_map (λ at. member.Place at.1) o → ByThird third → ByPlace o
+  third_is_place None None e h = h
+  third_is_place None (Some m) e h = absurd cc
+  third_is_place (Some at) None e h = absurd cc
+  third_is_place (Some at) (Some m) e h = let same : member.Place at.1 ≡ m = cc in ap (λ x. set.contains rows (z, x)) same ∙ h
+
+  pub held_exactly : (third : Option Member) → third ≡ option_map (λ at. member.Place at.1) p.at → ByThird third → ((a || (b || c)) ≡ true → Holds rows p z) × (Holds rows p z → (a || (b || c)) ≡ true)
+  held_exactly third is h = exactly p.at refl (third_is_place p.at third is h)
 
 is_false : (b : Bool) → ¬ (b ≡ true) → b ≡ false
 is_false true h = absurd (h refl)

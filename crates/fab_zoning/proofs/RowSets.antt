@@ -191,7 +191,7 @@ more_rows m (z ∷ zs) ys sorted none =
     zone_above z [] h = refl
     zone_above z (y ∷ zs) h = ap (λ r. is_eq r || list_any (eq_by_cmp name_cmp z) zs) h.0 ∙ zone_above z zs h.1
 
-listed_push : (before : List (Member × BTreeSet (List ℕ))) (e : Member × BTreeSet (List ℕ)) → listed_rows (before ++ e ∷ []) ≡ listed_rows before ++ map {B = Row} (λ y. (y, e.0)) e.1.keys
+pub listed_push : (before : List (Member × BTreeSet (List ℕ))) (e : Member × BTreeSet (List ℕ)) → listed_rows (before ++ e ∷ []) ≡ listed_rows before ++ map {B = Row} (λ y. (y, e.0)) e.1.keys
 listed_push [] e = append-nil (map {B = Row} (λ y. (y, e.0)) e.1.keys)
 listed_push (x ∷ before) e = ap (λ ys. map {B = Row} (λ y. (y, x.0)) x.1.keys ++ ys) (listed_push before e) ∙ sym (append_assoc (map {B = Row} (λ y. (y, x.0)) x.1.keys) (listed_rows before) (map {B = Row} (λ y. (y, e.0)) e.1.keys))
 

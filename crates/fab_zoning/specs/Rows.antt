@@ -1,9 +1,9 @@
 -- The rows of an active zone set: a zone, and a member of it that is no alias.
-use Rattle.std.specs.Prelude.{ℕ, ◌≢◌, List}
+use Rattle.std.specs.Prelude.{ℕ, ◌≡◌, ◌≢◌, List, true}
 use Rattle.std.specs.declared.cmp.Ordering.{Ordering}
 use Rattle.std.specs.Ordering.{then_cmp, on}
 use Rattle.std.specs.Coded.{Coded, coded×}
-use Rattle.std.specs.FinSet.{FinSet}
+use Rattle.std.specs.FinSet.{FinSet, contains}
 use Rattle.fab_names.specs.declared.member.Member.{Member}
 use Rattle.fab_names.specs.declared.member.Member.TheVariants as member
 use Rattle.fab_names.specs.Orders.{name_cmp, member_cmp}
@@ -23,6 +23,10 @@ row_code = coded× name_code member_code
 -- a finite set of rows
 abbrev pub Rows : Type 0
 Rows = FinSet row_cmp
+
+-- the row is one of these
+abbrev pub IsRowOf : Rows → Row → Type 0
+IsRowOf rows r = contains rows r ≡ true
 
 -- the member is no alias
 abbrev pub IsPlain : Member → Type 0

@@ -2,12 +2,15 @@
 //! lets communicate (FC-GS, Fabric Zone Server).
 #![tactic(auto)]
 
+mod by_zone;
 mod fault;
 mod flag;
 pub mod laws;
 mod named;
 mod port_zones;
 mod resolve;
+#[cfg(test)]
+mod row_tests;
 mod rows;
 mod sound;
 #[cfg(test)]

@@ -71,6 +71,7 @@ fn first_in<'a, A: Allocator>(
 }
 
 /// The lesser name, or the one that there is.
+#[tactic(auto, using(crate::proofs::PortZoneLemmas::lesser_stays))]
 fn lesser<'a>(one: Option<&'a Name>, other: Option<&'a Name>) -> Option<&'a Name>
     ensures { IsLesser (option_copied one.entry) (option_copied other.entry) (option_copied result) }
 {

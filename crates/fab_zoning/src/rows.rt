@@ -4,14 +4,18 @@ ghost use Rattle.std.specs.FinSet as set;
 ghost use Rattle.std.specs.Map.{keys_of};
 ghost use Rattle.std.specs.List.Sorted.{IsStrictlySortedBy};
 ghost use Rattle.std.specs.BTreeMap.{IsOrdered, IsUnchanged};
+ghost use Rattle.std.specs.Option.{option_map};
+ghost use Rattle.fab_names.specs.declared.member.Member.TheVariants.{Place};
 ghost use Rattle.fab_names.specs.Orders.{member_cmp};
 ghost use Rattle.fab_zoning.specs.Limits.{most_rows};
-ghost use Rattle.fab_zoning.specs.Rows.{Row, IsPlain};
+ghost use Rattle.fab_maps.specs.Lists.{IsListOf};
+ghost use Rattle.fab_zoning.specs.Rows.{Row, row_cmp, IsRowOf, IsPlain};
 ghost use Rattle.fab_zoning.specs.Views.{seen_rows};
 ghost use Rattle.fab_zoning.specs.PortZones.{in_zones};
 ghost use Rattle.fab_zoning.specs.Joins.{Holds};
 
 use crate::MOST_ROWS;
+use crate::by_zone::rows_by_zone;
 use crate::port_zones::PortZones;
 use fab_inventory::Port;
 use fab_names::{Member, Name};
@@ -70,6 +74,16 @@ fn add_zone<A: Allocator + Copy>(
             zones_by_member.insert(member, zones)?;
             Ok(true)
         }
+    }
+}
+
+/// The member that stands for the port by its place, where the port is logged in.
+fn place_of(port: &Port) -> Option<Member>
+    ensures { result ≡ option_map (λ at. Place at.1) port.now.at }
+{
+    match port.at {
+        Some((_, place)) => Some(Member::Place(place)),
+        None => None,
     }
 }
 
@@ -150,6 +164,16 @@ impl<A: Allocator + Copy> ActiveRows<A> {
         self.zones_by_member.iter()
     }
 
+    /// The rows, by zone and then by member.
+    ///
+    /// # Errors
+    /// `AllocError` where there is no memory.
+    pub fn by_zone(&self) -> Result<BTreeSet<(Name, Member), A>, AllocError>
+        ensures { IfOk result (λ rows. IsListOf row_cmp (IsRowOf self.now) rows.keys) }
+    {
+        rows_by_zone(self.alloc, &self.zones_by_member)
+    }
+
     /// Whether no row has an alias.
     pub fn are_plain(&self) -> bool
         ensures { IsTrue result ↔ ((r : Row) → set.contains self.now r ≡ true → IsPlain r.1) }
@@ -189,8 +213,8 @@ impl<A: Allocator + Copy> ActiveRows<A> {
         PortZones {
             by_port: self.zones_by_member.get(&Member::Port(port.name)),
             by_node: self.zones_by_member.get(&Member::Node(port.node)),
-            by_place: match port.at {
-                Some((_, place)) => self.zones_by_member.get(&Member::Place(place)),
+            by_place: match place_of(port) {
+                Some(member) => self.zones_by_member.get(&member),
                 None => None,
             },
         }

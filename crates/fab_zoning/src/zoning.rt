@@ -9,7 +9,8 @@ ghost use Rattle.fab_names.specs.declared.member.Member.TheVariants.{Alias};
 ghost use Rattle.fab_names.specs.Orders.{name_cmp, member_cmp};
 ghost use Rattle.fab_maps.specs.MapsOfSets.{seen_set, seen_sets, HasNoUser, IsFirstUser};
 ghost use Rattle.fab_zoning.specs.Limits.{most_rows};
-ghost use Rattle.fab_zoning.specs.Rows.{IsPlain};
+ghost use Rattle.fab_maps.specs.Lists.{IsListOf};
+ghost use Rattle.fab_zoning.specs.Rows.{row_cmp, IsRowOf, IsPlain};
 ghost use Rattle.fab_zoning.specs.Soundness.{AreSoundDefinitions, IsSoundActive, IsSound};
 ghost use Rattle.fab_zoning.specs.Zonings.{new_zoning};
 ghost use Rattle.fab_zoning.specs.Parts.{zoning_of};
@@ -19,13 +20,15 @@ ghost use Rattle.fab_zoning.specs.Joins.{IsLoggedInAt, Holds, Joined, Explains};
 ghost use Rattle.fab_zoning.specs.Resolved.{AreResolved};
 ghost use Rattle.fab_zoning.specs.Steps.{IsListing, IsListingFault, CanPutAlias, IsPutAliasFault, CanPutZone, IsPutZoneFault, CanPutSet, IsPutSetFault, CanDropAlias, IsDropAliasFault, CanDropZone, IsDropZoneFault, IsDropSetFault, IsActivateFault};
 
-use crate::named::{first_unknown, first_unknown_alias, first_user, is_full};
+use crate::named::{
+    first_unknown, first_unknown_alias, first_user, is_full, knows, members_of, names_of, put,
+    take_out,
+};
 use crate::resolve::resolved;
 use crate::rows::ActiveRows;
 use crate::sound::{are_sound, is_active_sound};
 use crate::{DefaultFlag, PortZones, Why, ZoningFault, ZoningLimit};
 use fab_inventory::Port;
-use fab_maps::set_of;
 use fab_names::{Fabric, Member, Name};
 use std::alloc::{AllocError, Allocator};
 use std::collections::btree_map::Iter;
@@ -229,8 +232,8 @@ impl<A: Allocator + Copy> Zoning<A> {
         if is_full(&self.aliases, &name, MOST_ALIASES) {
             return Err(ZoningFault::Limit(ZoningLimit::Aliases));
         }
-        let members = set_of(self.alloc, members)?;
-        self.aliases.insert(name, members)?;
+        let members = members_of(self.alloc, members)?;
+        put(&mut self.aliases, name, members)?;
         Ok(())
     }
 
@@ -246,13 +249,13 @@ impl<A: Allocator + Copy> Zoning<A> {
         ensures refused { IfErr result (IsDropAliasFault self.old name.now) }
         ensures err { OnErr result (self.new ≡ self.old) }
     {
-        if !self.aliases.contains_key(name) {
+        if !knows(&self.aliases, name) {
             return Err(ZoningFault::Unknown(*name));
         }
         if let Some(zone) = first_user(&self.zones, &Member::Alias(*name)) {
             return Err(ZoningFault::InUse(*name, *zone));
         }
-        self.aliases.remove(name);
+        take_out(&mut self.aliases, name);
         Ok(())
     }
 
@@ -278,8 +281,8 @@ impl<A: Allocator + Copy> Zoning<A> {
         if is_full(&self.zones, &name, MOST_ZONES) {
             return Err(ZoningFault::Limit(ZoningLimit::Zones));
         }
-        let members = set_of(self.alloc, members)?;
-        self.zones.insert(name, members)?;
+        let members = members_of(self.alloc, members)?;
+        put(&mut self.zones, name, members)?;
         Ok(())
     }
 
@@ -295,13 +298,13 @@ impl<A: Allocator + Copy> Zoning<A> {
         ensures refused { IfErr result (IsDropZoneFault self.old name.now) }
         ensures err { OnErr result (self.new ≡ self.old) }
     {
-        if !self.zones.contains_key(name) {
+        if !knows(&self.zones, name) {
             return Err(ZoningFault::Unknown(*name));
         }
         if let Some(zone_set) = first_user(&self.sets, name) {
             return Err(ZoningFault::InUse(*name, *zone_set));
         }
-        self.zones.remove(name);
+        take_out(&mut self.zones, name);
         Ok(())
     }
 
@@ -327,8 +330,8 @@ impl<A: Allocator + Copy> Zoning<A> {
         if is_full(&self.sets, &name, MOST_SETS) {
             return Err(ZoningFault::Limit(ZoningLimit::Sets));
         }
-        let zones = set_of(self.alloc, zones)?;
-        self.sets.insert(name, zones)?;
+        let zones = names_of(self.alloc, zones)?;
+        put(&mut self.sets, name, zones)?;
         Ok(())
     }
 
@@ -343,10 +346,10 @@ impl<A: Allocator + Copy> Zoning<A> {
         ensures refused { IfErr result (IsDropSetFault self.old name.now) }
         ensures err { OnErr result (self.new ≡ self.old) }
     {
-        if !self.sets.contains_key(name) {
+        if !knows(&self.sets, name) {
             return Err(ZoningFault::Unknown(*name));
         }
-        self.sets.remove(name);
+        take_out(&mut self.sets, name);
         Ok(())
     }
 
@@ -537,6 +540,17 @@ impl<A: Allocator + Copy> Zoning<A> {
         ensures ordered { IsStrictlySortedBy member_cmp (keys_of result) }
     {
         self.rows.zones_by_member()
+    }
+
+    /// The active rows, by zone and then by member. The time grows in step with the rows and the
+    /// logarithm of their number.
+    ///
+    /// # Errors
+    /// `AllocError` where there is no memory.
+    pub fn active_rows(&self) -> Result<BTreeSet<(Name, Member), A>, AllocError>
+        ensures { IfOk result (λ rows. IsListOf row_cmp (IsRowOf self.now.rows) rows.keys) }
+    {
+        self.rows.by_zone()
     }
 
     /// An equal zoning.

@@ -27,11 +27,11 @@ returns g c z =
     let t = c.self.inside.zones_by_member in
     let by_port = found_at rows t c.self.view_is c.self.invariant.0 z (member.Port p.name) c.get.result c.get.ensures.value in
     let by_node = found_at rows t c.self.view_is c.self.invariant.0 z (member.Node p.node) c.get-2.result c.get-2.ensures.value in
-    elim c.match-port.branch [
+    elim c.match-place_of.branch [
       | in-Some w ↦
-          held_exactly rows p z (in_tree name_cmp (option_copied c.get.result) z) (in_tree name_cmp (option_copied c.get-2.result) z) (in_tree name_cmp (option_copied c.match-port.result) z) by_port by_node (Some (w.in-Some.field-0-0, w.in-Some.place)) w.in-Some.is
-          (found_at rows t c.self.view_is c.self.invariant.0 z (member.Place w.in-Some.place) w.get-in-Some.result w.get-in-Some.ensures.value ∙ ap (λ (o : Option (Bor (BTreeSet (List ℕ)))). in_tree name_cmp (option_copied o) z) (sym w.result-is))
+          held_exactly rows p z (in_tree name_cmp (option_copied c.get.result) z) (in_tree name_cmp (option_copied c.get-2.result) z) (in_tree name_cmp (option_copied c.match-place_of.result) z) by_port by_node (Some w.in-Some.member) (sym w.in-Some.is ∙ c.place_of.ensures)
+          (found_at rows t c.self.view_is c.self.invariant.0 z w.in-Some.member w.get-in-Some.result w.get-in-Some.ensures.value ∙ ap (λ (o : Option (Bor (BTreeSet (List ℕ)))). in_tree name_cmp (option_copied o) z) (sym w.result-is))
       | in-None w ↦
-          held_exactly rows p z (in_tree name_cmp (option_copied c.get.result) z) (in_tree name_cmp (option_copied c.get-2.result) z) (in_tree name_cmp (option_copied c.match-port.result) z) by_port by_node None w.in-None.is
+          held_exactly rows p z (in_tree name_cmp (option_copied c.get.result) z) (in_tree name_cmp (option_copied c.get-2.result) z) (in_tree name_cmp (option_copied c.match-place_of.result) z) by_port by_node None (sym w.in-None.is ∙ c.place_of.ensures)
           (ap (λ (o : Option (Bor (BTreeSet (List ℕ)))). in_tree name_cmp (option_copied o) z) w.result-is)
     ]

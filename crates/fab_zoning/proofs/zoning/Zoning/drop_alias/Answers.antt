@@ -1,37 +1,11 @@
-use Rattle.std.proofs.Common.{refl, sym, ap, ◌∙◌, subst}
-use Rattle.std.specs.FinMap as map
-use Rattle.fab_names.specs.Orders.{member_cmp}
-use Rattle.fab_names.proofs.OrderLaws.{name_total, name_exact}
-use Rattle.fab_names.specs.declared.member.Member.TheVariants.{Alias}
-use Rattle.fab_maps.specs.MapsOfSets.{HasNoUser, IsFirstUser}
-use Rattle.fab_zoning.specs.Zonings.{FabricZoning}
-use Rattle.fab_maps.proofs.MapsOfSets.{knows_seen, seen_remove}
-use Rattle.fab_zoning.proofs.Changes.{aliases_dropped}
+use Rattle.std.proofs.Common.{sym, subst, rules}
+use Rattle.fab_zoning.specs.Steps.{CanDropAlias}
 use Rattle.fab_zoning.specs.Soundness.{IsSound}
+use Rattle.fab_zoning.proofs.Changes.{with_aliases_dropped}
 use Rattle.fab_zoning.proofs.Keeping.{drop_alias_keeps}
 use Rattle.fab_zoning.proofs.zoning.Zoning.drop_alias.Goals as goal
 
-pub returns-then-not-contains_key-clause-refused : goal.returns-then-not-contains_key-clause-refused
-returns-then-not-contains_key-clause-refused g c = (
-  refl,
-  ap (λ (v : FabricZoning). map.contains_key v.aliases c.args.name.now) (sym c.self.view_is) ∙ knows_seen member_cmp name_total c.self.inside.aliases c.args.name.now ∙ sym c.contains_key.ensures ∙ c.if-not-contains_key.true,
-)
-
-pub returns-clause-ok : goal.returns-clause-ok
-returns-clause-ok g c = aliases_dropped _ _ c.self.view_is c.args.name.now _ (seen_remove member_cmp name_total name_exact c.self.inside.aliases c.remove.new.self c.args.name.now c.remove.ensures.updates.0)
-
-pub returns-in-Some-clause-refused : goal.returns-in-Some-clause-refused
-returns-in-Some-clause-refused g c = (
-  refl,
-  ap (λ (v : FabricZoning). map.contains_key v.aliases c.args.name.now) (sym c.self.view_is) ∙ knows_seen member_cmp name_total c.self.inside.aliases c.args.name.now ∙ sym c.contains_key.ensures ∙ c.if-not-contains_key.false,
-  subst (λ (v : FabricZoning). IsFirstUser v.zones (Alias c.args.name.now) c.in-Some.zone.now) c.self.view_is c.in-Some.ensures,
-)
-
-pub returns-clause-accepted : goal.returns-clause-accepted
-returns-clause-accepted g c = record {
-  known = ap (λ (v : FabricZoning). map.contains_key v.aliases c.args.name.now) (sym c.self.view_is) ∙ knows_seen member_cmp name_total c.self.inside.aliases c.args.name.now ∙ sym c.contains_key.ensures ∙ c.if-not-contains_key.false;
-  unused = subst (λ (v : FabricZoning). HasNoUser v.zones (Alias c.args.name.now)) c.self.view_is c.in_default.ensures;
-}
-
 pub returns-clause-sound : goal.returns-clause-sound
-returns-clause-sound g c sound = subst IsSound (sym (returns-clause-ok g c)) (drop_alias_keeps c.args.self.now sound c.args.name.now (returns-clause-accepted g c))
+returns-clause-sound g c sound =
+    let can : CanDropAlias c.args.self.now c.args.name.now = record { known = search rules; unused = search rules } in
+    subst IsSound (sym (with_aliases_dropped _ _ c.self.view_is c.args.name.now _ c.take_out.ensures)) (drop_alias_keeps c.args.self.now sound c.args.name.now can)
