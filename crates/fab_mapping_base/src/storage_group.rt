@@ -50,6 +50,13 @@ impl<A: Allocator + Copy> Model for StorageGroup<A> {
     } };
 }
 
+/// Whether the two are one volume.
+fn is_same(volume: &Name, other: &Name) -> bool
+    ensures { IsTrue result ↔ (volume.now ≡ other.now) }
+{
+    *volume == *other
+}
+
 impl<A: Allocator + Copy> StorageGroup<A> {
     /// A storage group on an array, hidden and empty.
     pub fn new(alloc: A, tenant: Name, array: Name) -> Self
@@ -264,7 +271,7 @@ impl<A: Allocator + Copy> StorageGroup<A> {
         ensures unchanged { OnErr result (self.new ≡ self.old) }
     {
         if let Some(there) = self.units.get(&unit) {
-            if *there == volume {
+            if is_same(there, &volume) {
                 return Ok(());
             }
             return Err(MappingFault::UnitTaken(unit));

@@ -1,6 +1,8 @@
-//! Which mappings are sound, and which fit an inventory.
-use crate::stock::{Row, stock, world};
+//! Which mappings are sound, which fit an inventory, and what is gone from it.
+use crate::stock::{Row, port, stock, world};
 use fab_inventory::Inventory;
+use fab_mapping::Gone;
+use fab_names::Name;
 use std::alloc::Global;
 use std::test::Fail;
 
@@ -33,5 +35,98 @@ fn sound_and_fitting(rt: HostRuntime) -> Result<(), Fail> {
     for (row, sound, fits) in JUDGED {
         assert_eq!(rt; judged(rt.alloc(), &inventory, row)?, [sound, fits, false]);
     }
+    Ok(())
+}
+
+/// What is gone, if anything is.
+#[derive(Clone, Copy)]
+enum Lost {
+    Nothing,
+    Host(&'static str),
+    Array(&'static str),
+    Target(u64),
+    Volume(&'static str),
+}
+
+/// A good storage group.
+const GOOD: Row = ("g1", "arr1", "hosts1", 1, 0, "v1");
+
+/// Worlds of two storage groups, and the first that the stock has not.
+const GONE: [([Row; 2], Lost); 7] = [
+    ([GOOD, ("g2", "arr2", "hosts2", 40, 0, "w1")], Lost::Nothing),
+    (
+        [GOOD, ("g2", "db2", "hosts2", 99, 0, "v9")],
+        Lost::Array("db2"),
+    ),
+    (
+        [
+            ("g1", "arr9", "hosts1", 1, 0, "v1"),
+            ("g2", "arr8", "hosts1", 1, 0, "v1"),
+        ],
+        Lost::Array("arr8"),
+    ),
+    (
+        [
+            ("g1", "arr1", "hosts1", 1, 0, "v9"),
+            ("g2", "arr1", "hosts1", 40, 0, "v1"),
+        ],
+        Lost::Target(40),
+    ),
+    (
+        [
+            ("g1", "arr1", "hosts1", 99, 0, "v9"),
+            ("g2", "arr2", "hosts1", 1, 0, "w1"),
+        ],
+        Lost::Target(1),
+    ),
+    (
+        [GOOD, ("g2", "arr1", "hosts1", 1, 0, "w1")],
+        Lost::Volume("w1"),
+    ),
+    (
+        [
+            ("g1", "arr1", "hosts1", 1, 0, "w1"),
+            ("g2", "arr2", "hosts1", 40, 0, "v2"),
+        ],
+        Lost::Volume("v2"),
+    ),
+];
+
+/// What is wanted to be gone.
+fn gone_of(lost: Lost) -> Result<Option<Gone>, Fail> {
+    let gone = match lost {
+        Lost::Nothing => return Ok(None),
+        Lost::Host(name) => Gone::Host(Name::read(name)?),
+        Lost::Array(name) => Gone::Array(Name::read(name)?),
+        Lost::Target(number) => Gone::Target(port(number)),
+        Lost::Volume(name) => Gone::Volume(Name::read(name)?),
+    };
+    Ok(Some(gone))
+}
+
+/// Whether this is the first of the rows that is gone.
+fn is_gone(
+    alloc: Global,
+    inventory: &Inventory<Global>,
+    rows: &[Row],
+    lost: Lost,
+) -> Result<bool, Fail> {
+    let wanted = gone_of(lost)?;
+    Ok(world(alloc, rows)?.first_gone(inventory) == wanted)
+}
+
+#[test]
+fn the_first_that_is_gone(rt: HostRuntime) -> Result<(), Fail> {
+    let inventory = stock(rt.alloc())?;
+    for (rows, lost) in GONE {
+        assert!(rt; is_gone(rt.alloc(), &inventory, &rows, lost)?);
+    }
+    Ok(())
+}
+
+#[test]
+fn hosts_are_gone_first(rt: HostRuntime) -> Result<(), Fail> {
+    let nothing = Inventory::new(rt.alloc());
+    assert!(rt; is_gone(rt.alloc(), &nothing, &[GOOD], Lost::Host("db1"))?);
     Ok(())
 }

@@ -1,6 +1,5 @@
 use Rattle.std.proofs.Common.{◌≡◌, ◌<◌, ◌≤◌, ℕ, List, Option, Some, None, is_some, inl, inr, refl, sym, ap, ◌∙◌, subst, arith}
 use Rattle.std.specs.Cmp.{nat_cmp_total}
-use Rattle.std.specs.Cmp.Lexicographic.{bytes_decides}
 use Rattle.std.specs.FinSet as set
 use mathlib.Core.Bool.{true≢false}
 use Rattle.fab_maps.proofs.SeenMaps.{looked_up, get_entries, len_entries, seen_insert}
@@ -10,28 +9,28 @@ use Rattle.fab_mapping_base.specs.Groups.{StorageGroupRows, HasRoomForUnit, MapR
 use Rattle.fab_mapping_base.proofs.GroupParts.{unit_put, unit_again}
 use Rattle.fab_mapping_base.proofs.storage_group.StorageGroup.map.Goals as goal
 
-pub returns-then-eq-clause-free : goal.returns-then-eq-clause-free
-returns-then-eq-clause-free g c other at =
+pub returns-then-is_same-clause-free : goal.returns-then-is_same-clause-free
+returns-then-is_same-clause-free g c other at =
     let there = looked_up nat_cmp_total c.self.inside.units.entries c.args.self.now.units c.args.unit (Some c.in-Some.there.now) (ap (λ (v : StorageGroupRows). v.units) c.self.view_is) c.in-Some.ensures.value in
-    one (sym at ∙ there) ∙ (bytes_decides _ _).0 (sym c.eq.ensures ∙ c.if-eq.true)
+    one (sym at ∙ there) ∙ c.is_same.ensures.0 c.if-is_same.true
   where
     one : {a b : List ℕ} → Some a ≡ Some b → a ≡ b
     one e = cc
 
-pub returns-then-eq-clause-room : goal.returns-then-eq-clause-room
-returns-then-eq-clause-room g c =
+pub returns-then-is_same-clause-room : goal.returns-then-is_same-clause-room
+returns-then-is_same-clause-room g c =
     let there = looked_up nat_cmp_total c.self.inside.units.entries c.args.self.now.units c.args.unit (Some c.in-Some.there.now) (ap (λ (v : StorageGroupRows). v.units) c.self.view_is) c.in-Some.ensures.value in
     inl (ap is_some there)
 
-pub returns-then-eq-clause-ok : goal.returns-then-eq-clause-ok
-returns-then-eq-clause-ok g c =
+pub returns-then-is_same-clause-ok : goal.returns-then-is_same-clause-ok
+returns-then-is_same-clause-ok g c =
     let there = looked_up nat_cmp_total c.self.inside.units.entries c.args.self.now.units c.args.unit (Some c.in-Some.there.now) (ap (λ (v : StorageGroupRows). v.units) c.self.view_is) c.in-Some.ensures.value in
-    unit_again c.args.self.now c.args.unit c.args.volume (there ∙ ap Some ((bytes_decides _ _).0 (sym c.eq.ensures ∙ c.if-eq.true)))
+    unit_again c.args.self.now c.args.unit c.args.volume (there ∙ ap Some (c.is_same.ensures.0 c.if-is_same.true))
 
 pub returns-in-Some-clause-err : goal.returns-in-Some-clause-err
 returns-in-Some-clause-err g c =
     let there = looked_up nat_cmp_total c.self.inside.units.entries c.args.self.now.units c.args.unit (Some c.in-Some.there.now) (ap (λ (v : StorageGroupRows). v.units) c.self.view_is) c.in-Some.ensures.value in
-    (refl, (c.in-Some.there.now, there, λ same. true≢false (sym ((bytes_decides _ _).1 same) ∙ sym c.eq.ensures ∙ c.if-eq.false)))
+    (refl, (c.in-Some.there.now, there, λ same. true≢false (sym (c.is_same.ensures.1 same) ∙ c.if-is_same.false)))
 
 pub returns-then-len-ge-MOST_UNITS-clause-err : goal.returns-then-len-ge-MOST_UNITS-clause-err
 returns-then-len-ge-MOST_UNITS-clause-err g c =
