@@ -22,7 +22,7 @@ use crate::{
     MappingLimit, Nexus, StorageGroup,
 };
 use fab_inventory::Inventory;
-use fab_mapping_base::{first_no_host, is_array, is_held_by, least_clash};
+use fab_mapping_base::{first_no_host, is_array, is_held_by, is_unit, least_clash};
 use fab_maps::is_full;
 use fab_names::{Name, Wwn};
 use std::alloc::{AllocError, Allocator};
@@ -439,7 +439,7 @@ impl<A: Allocator + Copy> Mapping<A> {
         ensures err { IfErr result (MapFails self.old inventory.now name.now unit volume.now) }
         ensures unchanged { OnErr result (self.new ≡ self.old) }
     {
-        if unit > LAST_UNIT {
+        if !is_unit(unit) {
             return Err(MappingFault::Limit(MappingLimit::UnitNumber));
         }
         let Some(group) = self.groups.get_mut(name) else {

@@ -22,7 +22,7 @@ pub use gone::{Gone, gone_array, gone_host, gone_target, gone_volume};
 pub use host_group::HostGroup;
 pub use limits::{
     LAST_UNIT, MOST_GROUPS_SERVED, MOST_HOST_GROUPS, MOST_HOSTS, MOST_STORAGE_GROUPS, MOST_TARGETS,
-    MOST_UNITS,
+    MOST_UNITS, is_unit,
 };
 pub use look_ups::{first_no_host, is_array, is_held_by};
 pub use nexus::Nexus;

@@ -1,4 +1,5 @@
 //! How much of everything a mapping may hold.
+ghost use Rattle.std.specs.Prelude.{◌≤◌, ◌↔◌, IsTrue};
 
 /// How many hosts may be listed for a host group.
 pub const MOST_HOSTS: usize = 255;
@@ -21,3 +22,10 @@ pub const MOST_UNITS: usize = 256;
 /// The greatest logical unit number: the last of 14 bits (the flat space addresses of SCSI
 /// Architecture Model 5).
 pub const LAST_UNIT: u16 = 16383;
+
+/// Whether it is a logical unit number, 0 to 16383.
+pub fn is_unit(number: u16) -> bool
+    ensures { IsTrue result ↔ (number ≤ LAST_UNIT) }
+{
+    number <= LAST_UNIT
+}

@@ -52,42 +52,36 @@ enum Lost {
 const GOOD: Row = ("g1", "arr1", "hosts1", 1, 0, "v1");
 
 /// Worlds of two storage groups, and the first that the stock has not.
-const GONE: [([Row; 2], Lost); 7] = [
-    ([GOOD, ("g2", "arr2", "hosts2", 40, 0, "w1")], Lost::Nothing),
+const GONE: [(Row, Row, Lost); 7] = [
+    (GOOD, ("g2", "arr2", "hosts2", 40, 0, "w1"), Lost::Nothing),
     (
-        [GOOD, ("g2", "db2", "hosts2", 99, 0, "v9")],
+        GOOD,
+        ("g2", "db2", "hosts2", 99, 0, "v9"),
         Lost::Array("db2"),
     ),
     (
-        [
-            ("g1", "arr9", "hosts1", 1, 0, "v1"),
-            ("g2", "arr8", "hosts1", 1, 0, "v1"),
-        ],
+        ("g1", "arr9", "hosts1", 1, 0, "v1"),
+        ("g2", "arr8", "hosts1", 1, 0, "v1"),
         Lost::Array("arr8"),
     ),
     (
-        [
-            ("g1", "arr1", "hosts1", 1, 0, "v9"),
-            ("g2", "arr1", "hosts1", 40, 0, "v1"),
-        ],
+        ("g1", "arr1", "hosts1", 1, 0, "v9"),
+        ("g2", "arr1", "hosts1", 40, 0, "v1"),
         Lost::Target(40),
     ),
     (
-        [
-            ("g1", "arr1", "hosts1", 99, 0, "v9"),
-            ("g2", "arr2", "hosts1", 1, 0, "w1"),
-        ],
+        ("g1", "arr1", "hosts1", 99, 0, "v9"),
+        ("g2", "arr2", "hosts1", 1, 0, "w1"),
         Lost::Target(1),
     ),
     (
-        [GOOD, ("g2", "arr1", "hosts1", 1, 0, "w1")],
+        GOOD,
+        ("g2", "arr1", "hosts1", 1, 0, "w1"),
         Lost::Volume("w1"),
     ),
     (
-        [
-            ("g1", "arr1", "hosts1", 1, 0, "w1"),
-            ("g2", "arr2", "hosts1", 40, 0, "v2"),
-        ],
+        ("g1", "arr1", "hosts1", 1, 0, "w1"),
+        ("g2", "arr2", "hosts1", 40, 0, "v2"),
         Lost::Volume("v2"),
     ),
 ];
@@ -104,22 +98,23 @@ fn gone_of(lost: Lost) -> Result<Option<Gone>, Fail> {
     Ok(Some(gone))
 }
 
-/// Whether this is the first of the rows that is gone.
+/// Whether this is the first of the two storage groups that is gone.
 fn is_gone(
     alloc: Global,
     inventory: &Inventory<Global>,
-    rows: &[Row],
+    row: Row,
+    other: Row,
     lost: Lost,
 ) -> Result<bool, Fail> {
     let wanted = gone_of(lost)?;
-    Ok(world(alloc, rows)?.first_gone(inventory) == wanted)
+    Ok(world(alloc, &[row, other])?.first_gone(inventory) == wanted)
 }
 
 #[test]
 fn the_first_that_is_gone(rt: HostRuntime) -> Result<(), Fail> {
     let inventory = stock(rt.alloc())?;
-    for (rows, lost) in GONE {
-        assert!(rt; is_gone(rt.alloc(), &inventory, &rows, lost)?);
+    for (row, other, lost) in GONE {
+        assert!(rt; is_gone(rt.alloc(), &inventory, row, other, lost)?);
     }
     Ok(())
 }
@@ -127,6 +122,6 @@ fn the_first_that_is_gone(rt: HostRuntime) -> Result<(), Fail> {
 #[test]
 fn hosts_are_gone_first(rt: HostRuntime) -> Result<(), Fail> {
     let nothing = Inventory::new(rt.alloc());
-    assert!(rt; is_gone(rt.alloc(), &nothing, &[GOOD], Lost::Host("db1"))?);
+    assert!(rt; is_gone(rt.alloc(), &nothing, GOOD, GOOD, Lost::Host("db1"))?);
     Ok(())
 }
