@@ -1,8 +1,7 @@
-use Rattle.std.proofs.Common.{ℕ, ◌≡◌, ◌≤◌, ◌+◌, List, ◌∷◌, [], ◌++◌, min, sym, ap, subst, arith}
+use Rattle.std.proofs.Common.{ℕ, List, ◌∷◌, [], ◌++◌, sym, ap, arith}
 use Rattle.std.specs.FinSet as set
 use Rattle.std.specs.BTreeSet.{BTreeSet}
 use Rattle.fab_names.specs.declared.member.Member.{Member}
-use Rattle.fab_zoning.specs.Limits.{most_rows}
 use Rattle.fab_zoning.specs.Rows.{row_cmp}
 use Rattle.fab_zoning.specs.Views.{seen_rows}
 use Rattle.fab_maps.proofs.Walks.{walked, walk_end}

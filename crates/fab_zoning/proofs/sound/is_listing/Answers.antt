@@ -1,6 +1,4 @@
-use Rattle.std.proofs.Common.{◌≡◌, ℕ, ◌&&◌, nat_le, nat_lt, Bool, true, false, sym, ap, ◌∙◌, arith}
-use Rattle.std.specs.FinSet as set
-use Rattle.std.proofs.lemmas.Bool.Decides.{nat_tests}
+use Rattle.std.proofs.Common.{◌&&◌, nat_le, nat_lt, sym, ap, ◌∙◌, arith}
 use Rattle.fab_zoning.specs.Limits.{most_members}
 use Rattle.fab_maps.proofs.SeenSets.{len_seen}
 use Rattle.fab_zoning.proofs.Sounding.{size_some, size_none}
