@@ -1,11 +1,11 @@
 -- The ports of a holder: all of them, in order, and how many.
-use Rattle.std.proofs.Common.{ℕ, ◌≡◌, ◌<◌, ◌≤◌, ◌+◌, ◌&&◌, List, [], ◌∷◌, ◌++◌, length, Contains, Option, None, Some, Bool, true, false, cond, not, nat_eq, refl, sym, ap, ◌∙◌, subst, arith, suc}
+use Rattle.std.proofs.Common.{ℕ, ◌≡◌, ◌≤◌, ◌+◌, List, [], ◌∷◌, ◌++◌, length, Contains, Option, None, Some, Bool, true, false, cond, not, nat_eq, refl, sym, ap, ◌∙◌, arith}
 use mathlib.Core.Bool.{true≢false}
 use Rattle.std.specs.List.{list_any}
 use Rattle.std.specs.List.Sorted.{IsStrictlySortedBy}
 use Rattle.std.specs.Map.{lookup, keys_of}
 use Rattle.std.specs.Option.{option_and_then}
-use Rattle.std.specs.Ordering.{nat_cmp, eq_by_cmp}
+use Rattle.std.specs.Ordering.{nat_cmp}
 use Rattle.std.specs.BTreeMap.{is_at}
 use Rattle.std.specs.Cmp.{nat_cmp_total, eq_by_cmp_equiv}
 use Rattle.std.specs.Cmp.Lexicographic.{bytes_decides}
@@ -19,9 +19,9 @@ use Rattle.std.proofs.lemmas.List.{length-append}
 use Rattle.fab_maps.specs.Lists.{IsListOf}
 use Rattle.fab_maps.proofs.Filters.{keys_where, keys_listed, keys_more, keys_fewer, list_as}
 use Rattle.fab_maps.proofs.SeenMaps.{get_entries}
-use Rattle.fab_maps.proofs.Tests.{both, left, right, is_false}
+use Rattle.fab_maps.proofs.Tests.{both, left, right}
 use Rattle.fab_inventory.specs.declared.port.Known.{Known}
-use Rattle.fab_inventory.specs.Holders.{holder_is, is_leaving, Leaves, Holds, holder_in}
+use Rattle.fab_inventory.specs.Holders.{holder_is, is_leaving, Leaves, Holds}
 use Rattle.fab_inventory.specs.Inventories.{HoldsFew}
 
 -- whoever holds it passes the test, and who passes holds it

@@ -1,9 +1,9 @@
 -- Ports, holders and volumes as the code tests them, and as they are sound.
-use Rattle.std.proofs.Common.{ℕ, ◌≡◌, ◌≢◌, ◌<◌, ◌≤◌, ◌+◌, ◌&&◌, inl, inr, List, [], ◌∷◌, ◌++◌, length, Option, None, Some, is_some, Bool, true, false, cond, nat_le, refl, sym, ap, ◌∙◌, subst, arith}
+use Rattle.std.proofs.Common.{ℕ, ◌≡◌, ◌≢◌, ◌≤◌, ◌+◌, inl, inr, List, [], ◌∷◌, ◌++◌, length, Option, None, Some, is_some, Bool, true, false, cond, nat_le, refl, sym, ap, ◌∙◌, subst, arith}
 use mathlib.Core.Bool.{true≢false}
 use Rattle.std.specs.List.{list_all}
 use Rattle.std.specs.List.Sorted.{IsStrictlySortedBy}
-use Rattle.std.specs.Map.{lookup, keys_of}
+use Rattle.std.specs.Map.{keys_of}
 use Rattle.std.specs.Option.{option_map, option_and_then}
 use Rattle.std.specs.Ordering.{nat_cmp}
 use Rattle.std.specs.BTreeMap as tree
@@ -24,7 +24,7 @@ use Rattle.fab_inventory.specs.declared.holder.HolderKind.TheVariants as kind
 use Rattle.fab_inventory.specs.Limits.{most_bytes}
 use Rattle.fab_inventory.specs.Holders.{holder_in, holder_is, same_name}
 use Rattle.fab_inventory.specs.Inventories.{InventoryRows, IsSound, HoldsFew, IsArray, IsCapacity, kind_of}
-use Rattle.fab_inventory.specs.Restores.{rows_of, ArePortsSound, AreHoldersSound, AreVolumesSound}
+use Rattle.fab_inventory.specs.Restores.{ArePortsSound, AreHoldersSound, AreVolumesSound}
 use Rattle.fab_inventory.specs.RestoreTests.{passes, has_known_holder, is_array_kind, is_placed, count_of, CountsPort, HasFew, HasMost}
 use Rattle.fab_inventory.proofs.NameTests.{tie_tells}
 use Rattle.fab_inventory.proofs.Holdings.{held, held_more, held_fewer, few_from_held, held_from_few}

@@ -1,9 +1,9 @@
 //! The steps of an import, over maps and records.
 ghost use Rattle.std.specs.Prelude.{◌≡◌, ℕ, OnOk, IfOk, IfErr};
-ghost use Rattle.std.specs.Option.{option_map};
+ghost use Rattle.std.specs.Option.{option_map, option_copied};
 ghost use Rattle.std.specs.Ordering.{nat_cmp};
 ghost use Rattle.std.specs.BTreeMap.{get};
-ghost use Rattle.fab_inventory.specs.Imports.{Agrees, CheckFails, logged_out, ListsIn};
+ghost use Rattle.fab_inventory.specs.Imports.{Agrees, CheckFails, logged_in, logged_out, ListsIn};
 
 use crate::{InventoryFault, Known, PortRow};
 use fab_names::{Fabric, Wwn};
@@ -57,6 +57,21 @@ pub fn all_logged_out<A: Allocator + Clone>(
     Ok(next)
 }
 
+/// What is known of a listed port: it is logged in at the fabric, with the holder that it had.
+fn logged_in(fabric: Fabric, row: &PortRow, had: Option<&Known>) -> Known
+    ensures { result ≡ logged_in fabric row.now (option_copied had.entry) }
+{
+    let holder = match had {
+        Some(known) => known.holder,
+        None => None,
+    };
+    Known {
+        node: row.node,
+        at: Some((fabric, row.place)),
+        holder,
+    }
+}
+
 /// Logs the listed ports in at the fabric, each with the holder that it had.
 pub fn log_in<A: Allocator + Clone>(
     next: &mut BTreeMap<Wwn, Known, A>,
@@ -68,15 +83,7 @@ pub fn log_in<A: Allocator + Clone>(
     ensures { OnOk result (ListsIn fabric rows.now (get nat_cmp ports.now) (get nat_cmp next.old) (get nat_cmp next.new)) }
 {
     for row in rows {
-        let holder = match ports.get(&row.name) {
-            Some(known) => known.holder,
-            None => None,
-        };
-        let known = Known {
-            node: row.node,
-            at: Some((fabric, row.place)),
-            holder,
-        };
+        let known = logged_in(fabric, row, ports.get(&row.name));
         next.insert(row.name, known)?;
     }
     Ok(())

@@ -1,12 +1,9 @@
-use Rattle.std.proofs.Common.{◌≡◌, ◌≤◌, ℕ, List, Bool, true, Result, Ok, Err, IfOk, IsTrue, ◌↔◌, sym, ◌∙◌, arith}
+use Rattle.std.proofs.Common.{◌≤◌, Bool, Result, Ok, Err, IfOk, IsTrue, ◌↔◌, sym, ◌∙◌, arith}
 use mathlib.Core.Bool.{true≢false}
 use Rattle.std.specs.FinMap as map
 use Rattle.std.specs.Ordering.{nat_cmp}
 use Rattle.std.specs.Cmp.{nat_cmp_total}
-use Rattle.fab_names.specs.Orders.{name_cmp}
 use Rattle.fab_maps.proofs.SeenMaps.{len_entries}
-use Rattle.fab_inventory.specs.Inventories.{HoldsFew}
-use Rattle.fab_inventory.specs.Restores.{ArePortsSound}
 use Rattle.fab_inventory.proofs.Restoring.{known_from_sound, sound_from_known}
 use Rattle.fab_inventory.proofs.restore.are_ports_sound.Goals as goal
 

@@ -1,4 +1,4 @@
-use Rattle.std.proofs.Common.{◌≡◌, ◌≤◌, true, sym, ◌∙◌, arith}
+use Rattle.std.proofs.Common.{sym, ◌∙◌, arith}
 use mathlib.Core.Bool.{true≢false}
 use Rattle.fab_names.proofs.OrderLaws.{name_total}
 use Rattle.fab_maps.proofs.SeenMaps.{len_entries}

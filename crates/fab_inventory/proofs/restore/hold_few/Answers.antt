@@ -1,4 +1,4 @@
-use Rattle.std.proofs.Common.{◌≡◌, ℕ, List, ◌∷◌, [], ◌++◌, Bool, true, false, refl, ap, sym, ◌∙◌, rules, arith}
+use Rattle.std.proofs.Common.{◌≡◌, ℕ, ◌∷◌, [], ◌++◌, Bool, true, false, refl, ap, sym, rules, arith}
 use mathlib.Core.Bool.{true≢false}
 use Rattle.std.specs.Bool.{OnTrue, OnFalse}
 use Rattle.std.specs.BTreeMap.{get, is_at}
