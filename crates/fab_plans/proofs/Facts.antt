@@ -1,5 +1,5 @@
 -- Facts on lists, sets and maps.
-use Rattle.std.proofs.Common.{◌≡◌, ◌≢◌, ◌<◌, ◌≤◌, ℕ, Result, Ok, Err, IfErr, OnOk, List, Option, None, Some, Bool, true, false, All, slice_get, sym, subst, ◌∙◌, arith, inl, inr}
+use Rattle.std.proofs.Common.{◌≡◌, ℕ, Result, Ok, Err, IfErr, OnOk, List, Option, None, Some, Bool, true, false, All, slice_get, sym, subst, ◌∙◌, arith, inl, inr}
 use mathlib.Core.Bool.{true≢false}
 use Rattle.std.specs.declared.cmp.Ordering.{Ordering}
 use Rattle.std.specs.FinMap as map

@@ -1,15 +1,11 @@
 -- Each step of mapping: nothing refuses it where the mapping accepts it, and what the mapping answers
 -- is its first refusal.
-use Rattle.std.proofs.Common.{ℕ, ◌≡◌, ◌≢◌, ◌<◌, ◌≤◌, ◌⊎◌, inl, inr, List, length, All, Option, None, Some, is_some, Bool, true, false, refl, sym, ap, ◌∙◌, subst, arith}
-use mathlib.Core.Bool.{true≢false}
+use Rattle.std.proofs.Common.{ℕ, ◌≡◌, ◌≤◌, inl, inr, List, length, Option, None, Some, is_some, true, false, refl, sym, ap, ◌∙◌, subst, arith}
 use Rattle.std.specs.FinMap as map
-use Rattle.std.specs.FinSet as set
 use Rattle.std.specs.Option.{option_and_then}
-use Rattle.fab_inventory.specs.Inventories.{InventoryRows, IsHost, IsArray}
-use Rattle.fab_inventory.specs.Holders.{holder_in}
+use Rattle.fab_inventory.specs.Inventories.{InventoryRows, IsHost}
 use Rattle.fab_inventory.specs.declared.port.Known.{Known}
 use Rattle.fab_inventory.specs.declared.holder.Volume.{Volume}
-use Rattle.fab_maps.specs.Room.{IsFull, IsFullSet}
 use Rattle.fab_mapping_base.specs.declared.fault.MappingFault.{MappingFault}
 use Rattle.fab_mapping_base.specs.declared.fault.MappingFault.TheVariants as fault
 use Rattle.fab_mapping_base.specs.declared.fault.MappingLimit.TheVariants as limit
@@ -17,7 +13,7 @@ use Rattle.fab_mapping_base.specs.declared.limits.TheConstants.{MOST_HOST_GROUPS
 use Rattle.fab_mapping_base.specs.Groups.{StorageGroupRows}
 use Rattle.fab_mapping.specs.Mappings as base
 use Rattle.fab_mapping.specs.Mappings.{MappingRows, GroupHas, ChangesGroup, IsPortOf, IsVolumeOn}
-use Rattle.fab_steps.specs.Steps.{PlanStep, host_group_put, host_group_drop, group_new, group_drop, group_host, group_unhost, group_target, group_untarget, group_map, group_unmap, group_expose, group_hide}
+use Rattle.fab_steps.specs.Steps.{PlanStep, host_group_put, host_group_drop, group_host, group_unhost, group_target, group_untarget, group_map, group_unmap}
 use Rattle.fab_plans.specs.Checks.{PassesAll, IsFirstRefusal}
 use Rattle.fab_plans.specs.MappingSteps.{MappingFails, HasOtherVolume}
 use Rattle.fab_plans.specs.Telling.{IsFaultOf, TellsMapping}
@@ -25,7 +21,7 @@ use Rattle.fab_plans.specs.declared.fault.Item.TheVariants as item
 use Rattle.fab_plans.specs.declared.fault.Refusal.{Refusal}
 use Rattle.fab_plans.specs.declared.fault.Refusal.TheVariants as refusal
 use Rattle.fab_plans.proofs.FirstChecks.{passes_all, first_own, first_other, first_array, first_unit, first_user, first_room}
-use Rattle.fab_plans.proofs.Facts.{not_both, none_without, room_or_full, set_room_or_full, one_value, some_or_none}
+use Rattle.fab_plans.proofs.Facts.{not_both, none_without, room_or_full, one_value, some_or_none}
 
 -- a check that no step has
 none : (r : Refusal) → ⊥ → ⊥

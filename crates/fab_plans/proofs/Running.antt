@@ -1,14 +1,15 @@
 -- Steps one after the other.
-use Rattle.std.proofs.Common.{◌≡◌, ◌<◌, ◌≤◌, ◌+◌, ℕ, List, [], ◌∷◌, ◌++◌, length, take, get_or, Some, refl, sym, ap, ◌∙◌, subst, inl}
+use Rattle.std.proofs.Common.{◌≡◌, ◌<◌, ◌+◌, ℕ, List, [], ◌∷◌, ◌++◌, length, take, get_or, Some, refl, sym, ap, ◌∙◌, subst, inl}
 use Rattle.std.proofs.lemmas.List.{take_more}
 use Rattle.std.proofs.lemmas.Option.{slice_get-get_or}
 use Rattle.fab_inventory.specs.Inventories.{InventoryRows}
 use Rattle.fab_reach.specs.Records.{ConfigRows}
 use Rattle.fab_steps.specs.Steps.{PlanStep}
-use Rattle.fab_plans.specs.Steps.{StepDone, StepRefused}
-use Rattle.fab_plans.specs.Outcomes.{AllDone, IsRefusedAt, IsTrialFault}
-use Rattle.fab_plans.specs.declared.fault.Refusal.{Refusal}
-use Rattle.fab_plans.specs.declared.fault.TrialFault.TheVariants.{Refused}
+use Rattle.fab_plans.specs.Steps.{StepDone, FailsIn, fabric_of}
+use Rattle.fab_plans.specs.Outcomes.{AllDone, IsTrialFault}
+use Rattle.fab_plans.specs.Telling.{IsFaultOf, fault_at}
+use Rattle.fab_plans.specs.declared.fault.StepFault.{StepFault}
+use Rattle.fab_plans.specs.declared.fault.StepFault.TheVariants.{Refused, Memory}
 
 module _ (v : InventoryRows) where
   -- one step more
@@ -20,8 +21,8 @@ module _ (v : InventoryRows) where
     pub one_done : (c d e : ConfigRows) → AllDone v (take i steps) c d → StepDone v s d e → AllDone v (take (i + 1) steps) c e
     one_done c d e all h = subst (λ ss. AllDone v ss c e) (sym (take_more steps i s below ∙ ap (λ x. take i steps ++ x ∷ []) (sym is))) (done_more (take i steps) s c d e all h)
 
-    pub one_refused : (c d : ConfigRows) (r : Refusal) → AllDone v (take i steps) c d → StepRefused v d s r → IsTrialFault v steps c (Refused (i + 1) r)
-    one_refused c d r all h = inl (record {
+    pub one_failed : (c d : ConfigRows) (e : StepFault) → AllDone v (take i steps) c d → IsFaultOf (FailsIn (fabric_of s) v d s) e → IsTrialFault v steps c (fault_at i e)
+    one_failed c d (Refused r) all h = inl (record {
       at = i;
       number_is = refl;
       step = s;
@@ -30,3 +31,4 @@ module _ (v : InventoryRows) where
       done = all;
       refused = h;
     })
+    one_failed c d Memory all h = tt

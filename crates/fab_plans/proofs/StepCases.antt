@@ -1,5 +1,5 @@
 -- A step on a part of a configuration is one on the configuration.
-use Rattle.std.proofs.Common.{◌≡◌, List, None, Some, Result, OnOk, IfErr, refl, sym, ap, ◌∙◌, subst}
+use Rattle.std.proofs.Common.{◌≡◌, None, Some, Result, OnOk, IfErr, refl, sym, ap, ◌∙◌, subst}
 use Rattle.fab_names.specs.declared.fabric.Fabric.{Fabric}
 use Rattle.fab_names.specs.declared.fabric.Fabric.TheVariants.{A, B}
 use Rattle.fab_inventory.specs.Inventories.{InventoryRows}

@@ -1,6 +1,6 @@
 -- Each step of zoning: nothing refuses it where the zoning accepts it, and what the zoning answers is
 -- its first refusal.
-use Rattle.std.proofs.Common.{ℕ, ◌≡◌, ◌<◌, ◌≤◌, List, length, All, Option, None, Some, is_some, Bool, true, false, refl, sym, ap, ◌∙◌, subst, arith}
+use Rattle.std.proofs.Common.{ℕ, ◌≡◌, ◌≤◌, List, length, Option, None, Some, is_some, true, false, refl, sym, subst, arith}
 use mathlib.Core.Bool.{true≢false}
 use Rattle.std.specs.FinMap as map
 use Rattle.std.specs.FinSet as set
@@ -8,18 +8,17 @@ use Rattle.fab_names.specs.declared.fabric.Fabric.{Fabric}
 use Rattle.fab_names.specs.declared.member.Member.{Member}
 use Rattle.fab_names.specs.declared.member.Member.TheVariants as member
 use Rattle.fab_names.specs.Orders.{name_cmp}
-use Rattle.fab_maps.specs.MapsOfSets.{in_set, has}
+use Rattle.fab_maps.specs.MapsOfSets.{in_set}
 use Rattle.fab_zoning.specs.declared.fault.ZoningFault.{ZoningFault}
 use Rattle.fab_zoning.specs.declared.fault.ZoningFault.TheVariants as fault
 use Rattle.fab_zoning.specs.declared.fault.ZoningLimit.TheVariants as limit
-use Rattle.fab_zoning.specs.declared.flag.DefaultFlag.{DefaultFlag}
-use Rattle.fab_zoning.specs.Limits.{most_aliases, most_zones, most_sets, most_rows}
-use Rattle.fab_zoning.specs.Rows.{Rows, row_cmp}
+use Rattle.fab_zoning.specs.Limits.{most_zones, most_sets, most_rows}
+use Rattle.fab_zoning.specs.Rows.{Rows}
 use Rattle.fab_zoning.specs.Zonings.{FabricZoning}
 use Rattle.fab_zoning.specs.Resolved.{IsResolved, AreResolved, MoreThan}
 use Rattle.fab_zoning.specs.Steps as base
 use Rattle.fab_zoning.proofs.RowSets.{row_total, row_exact}
-use Rattle.fab_steps.specs.Steps.{PlanStep, alias_put, alias_drop, zone_put, zone_drop, set_put, set_drop, activate, deactivate, default_zone}
+use Rattle.fab_steps.specs.Steps.{alias_put, alias_drop, zone_put, zone_drop, set_put, activate}
 use Rattle.fab_plans.specs.Checks.{PassesAll, IsFirstRefusal}
 use Rattle.fab_plans.specs.ZoningSteps.{ZoningFails}
 use Rattle.fab_plans.specs.Telling.{IsFaultOf, TellsZoning}

@@ -5,3 +5,4 @@ pub mod Steps
 pub mod Soundness
 pub mod Outcomes
 pub mod Telling
+pub mod Plans

@@ -1,6 +1,6 @@
 -- How the refusals of the zoning and of the mapping are told as those of a step. Faults that no step
 -- can meet, since a line spells it, are told as nothing.
-use Rattle.std.specs.Prelude.{ℕ, List, []}
+use Rattle.std.specs.Prelude.{ℕ, ◌+◌, List, []}
 use Rattle.fab_zoning.specs.declared.fault.ZoningFault.{ZoningFault}
 use Rattle.fab_zoning.specs.declared.fault.ZoningFault.TheVariants as zoning
 use Rattle.fab_zoning.specs.declared.fault.ZoningLimit.TheVariants as zoning_limit
@@ -15,6 +15,8 @@ use Rattle.fab_plans.specs.declared.fault.Refusal.TheVariants as refusal
 use Rattle.fab_plans.specs.declared.fault.StepFault.{StepFault}
 use Rattle.fab_plans.specs.declared.fault.StepFault.TheVariants.{Refused, Memory}
 use Rattle.fab_plans.specs.declared.fault.StepLimit.TheVariants as limit
+use Rattle.fab_plans.specs.declared.fault.TrialFault.{TrialFault}
+use Rattle.fab_plans.specs.declared.fault.TrialFault.TheVariants as trial
 
 -- the first refusal of the checks, or want of memory
 abbrev pub IsFaultOf : Failures → StepFault → Type 0
@@ -70,3 +72,8 @@ TellsMapping step P (mapping.Limit mapping_limit.Parts) = P (Refused (refusal.Li
 TellsMapping step P (mapping.Limit mapping_limit.Hosts) = ⊥
 TellsMapping step P (mapping.Limit mapping_limit.UnitNumber) = ⊥
 TellsMapping step P mapping.Memory = P Memory
+
+-- the fault of a step at a place, as that of the trial: the step at 0 has the number 1
+abbrev pub fault_at : ℕ → StepFault → TrialFault
+fault_at place (Refused r) = trial.Refused (place + 1) r
+fault_at place Memory = trial.Memory

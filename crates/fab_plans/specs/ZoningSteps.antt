@@ -1,5 +1,5 @@
 -- The steps of zoning: what refuses each, and what each makes of the zoning of its fabric.
-use Rattle.std.specs.Prelude.{ℕ, ◌≡◌, List, None, Some, true, false}
+use Rattle.std.specs.Prelude.{ℕ, ◌≡◌, List, None, Some, false}
 use Rattle.std.specs.FinMap as map
 use Rattle.std.specs.FinSet as set
 use Rattle.fab_names.specs.declared.member.Member.TheVariants as member

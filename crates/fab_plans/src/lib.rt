@@ -5,7 +5,11 @@
 mod fault;
 mod mapping_steps;
 mod outcome;
+mod plan;
+mod states;
 mod zoning_steps;
 
 pub use fault::{Item, Refusal, StepLimit, TrialFault};
 pub use outcome::trial;
+pub use plan::{ApprovalFault, Plan};
+pub use states::{Active, RolledBack, Staged, Withdrawn};

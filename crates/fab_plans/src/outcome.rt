@@ -1,10 +1,9 @@
 //! The trial of steps on a configuration.
-ghost use Rattle.std.specs.Prelude.{OnOk, IfOk, IfErr};
-ghost use Rattle.fab_steps.specs.Plans.{IsStep};
+ghost use Rattle.std.specs.Prelude.{◌≡◌, ◌+◌, ◌<◌, ◌^◌, OnOk, IfOk, IfErr};
 ghost use Rattle.fab_plans.specs.Steps.{StepDone, FailsIn, fabric_of};
 ghost use Rattle.fab_plans.specs.Soundness.{IsSound};
 ghost use Rattle.fab_plans.specs.Outcomes.{AllDone, IsOutcome, IsTrialFault};
-ghost use Rattle.fab_plans.specs.Telling.{IsFaultOf};
+ghost use Rattle.fab_plans.specs.Telling.{IsFaultOf, fault_at};
 
 use crate::fault::StepFault;
 use crate::mapping_steps::take_mapping_step;
@@ -38,6 +37,20 @@ fn take_step<A: Allocator + Copy>(
     }
 }
 
+/// Why a trial stops at the step at a place, the first being at 0.
+fn numbered(place: usize, fault: StepFault) -> TrialFault
+    requires { place + 1 < 2 ^ 64 }
+    ensures { result ≡ fault_at place fault }
+{
+    match fault {
+        StepFault::Refused(refusal) => TrialFault::Refused {
+            step: place + 1,
+            refusal,
+        },
+        StepFault::Memory => TrialFault::Memory,
+    }
+}
+
 /// Does steps on a configuration, one after the other.
 ///
 /// # Errors
@@ -55,11 +68,7 @@ fn take_steps<A: Allocator + Copy>(
     for (place, step) in steps.iter().enumerate() {
         match take_step(config, inventory, step) {
             Ok(()) => {}
-            Err(StepFault::Refused(refusal)) => {
-                let step = place + 1;
-                return Err(TrialFault::Refused { step, refusal });
-            }
-            Err(StepFault::Memory) => return Err(TrialFault::Memory),
+            Err(fault) => return Err(numbered(place, fault)),
         }
     }
     Ok(())
