@@ -1,0 +1,113 @@
+//! Rows of a configuration, one type a table.
+
+use fab_names::{Fabric, Member, Name, Wwn};
+
+/// A setting of a fabric's zoning: what the zone server has beside its zones (FC-GS, active zone
+/// set and default zone).
+///
+/// Ordered by setting, then by fabric.
+#[derive(Clone, Copy, Debug, PartialEq, Eq, PartialOrd, Ord)]
+pub enum SettingRow {
+    /// The name of the fabric's active zone set, or none.
+    ActiveSet(Fabric, Option<Name>),
+    /// Whether the fabric's default zone permits its members to communicate.
+    DefaultZone(Fabric, bool),
+}
+
+/// An item of an alias, a zone or a zone set.
+///
+/// Ordered by kind as listed, then by name, then by item.
+#[derive(Clone, Copy, Debug, PartialEq, Eq, PartialOrd, Ord)]
+pub enum ZoningItem {
+    /// The alias of this name has this member.
+    Alias(Name, Member),
+    /// The zone of this name has this member.
+    Zone(Name, Member),
+    /// The zone set of this name has the zone of this name.
+    Set(Name, Name),
+}
+
+/// An item of an alias, a zone or a zone set of a fabric.
+///
+/// Ordered by fabric, then by item.
+#[derive(Clone, Copy, Debug, PartialEq, Eq, PartialOrd, Ord)]
+pub struct ZoningRow {
+    pub fabric: Fabric,
+    pub item: ZoningItem,
+}
+
+/// A member of a zone of a fabric's active zone set.
+///
+/// Ordered by fabric, zone, member.
+#[derive(Clone, Copy, Debug, PartialEq, Eq, PartialOrd, Ord)]
+pub struct ActiveRow {
+    pub fabric: Fabric,
+    pub zone: Name,
+    pub member: Member,
+}
+
+/// A host group: its name, and whose it is.
+///
+/// Ordered by name, tenant.
+#[derive(Clone, Copy, Debug, PartialEq, Eq, PartialOrd, Ord)]
+pub struct HostGroupRow {
+    pub name: Name,
+    pub tenant: Name,
+}
+
+/// A storage group (SNIA Swordfish): its name, whose it is, the array that it is on, and whether it
+/// is exposed.
+///
+/// Ordered by name, tenant, array, exposed.
+#[derive(Clone, Copy, Debug, PartialEq, Eq, PartialOrd, Ord)]
+pub struct StorageGroupRow {
+    pub name: Name,
+    pub tenant: Name,
+    pub array: Name,
+    pub exposed: bool,
+}
+
+/// A host group or a storage group.
+///
+/// Ordered by kind as listed, then by group.
+#[derive(Clone, Copy, Debug, PartialEq, Eq, PartialOrd, Ord)]
+pub enum GroupRow {
+    Host(HostGroupRow),
+    Storage(StorageGroupRow),
+}
+
+/// A part of a storage group.
+///
+/// Ordered by kind as listed, then by part.
+#[derive(Clone, Copy, Debug, PartialEq, Eq, PartialOrd, Ord)]
+pub enum StoragePart {
+    /// It serves the hosts of the host group of this name.
+    HostGroup(Name),
+    /// The port of this N_Port_Name is a target of it.
+    Target(Wwn),
+    /// At this logical unit number, 0 to 16383, it maps the volume of this name.
+    Unit(u16, Name),
+}
+
+/// A part of a host group or of a storage group.
+///
+/// Ordered by kind as listed, then by name, then by part.
+#[derive(Clone, Copy, Debug, PartialEq, Eq, PartialOrd, Ord)]
+pub enum PartRow {
+    /// The host group of this name has the host of this name.
+    Host(Name, Name),
+    /// The storage group of this name has this part.
+    Storage(Name, StoragePart),
+}
+
+/// A row of a configuration: a variant a table.
+///
+/// Ordered by table as listed, then by row.
+#[derive(Clone, Copy, Debug, PartialEq, Eq, PartialOrd, Ord)]
+pub enum ConfigRow {
+    Setting(SettingRow),
+    Zoning(ZoningRow),
+    Active(ActiveRow),
+    Group(GroupRow),
+    Part(PartRow),
+}

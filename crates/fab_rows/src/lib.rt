@@ -1,0 +1,12 @@
+//! The rows of an inventory and of a configuration as typed values: which stand, the list of all of
+//! them, and the differences of two configurations.
+#![tactic(auto)]
+
+mod config_row;
+mod inventory_row;
+
+pub use config_row::{
+    ActiveRow, ConfigRow, GroupRow, HostGroupRow, PartRow, SettingRow, StorageGroupRow,
+    StoragePart, ZoningItem, ZoningRow,
+};
+pub use inventory_row::{HolderRow, InventoryRow, VolumeRow};
