@@ -1,2 +1,5 @@
 pub mod RowOrder
 pub mod Standing
+pub mod Differences
+pub mod Telling
+pub mod Gathering

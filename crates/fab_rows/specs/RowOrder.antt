@@ -1,9 +1,10 @@
 -- The orders of rows: of a configuration by table and then by the table's columns, of an inventory
 -- by table and then by key.
-use Rattle.std.specs.Prelude.{ℕ, Option, None, Some, Bool, true, false}
+use Rattle.std.specs.Prelude.{ℕ}
 use Rattle.std.specs.declared.cmp.Ordering.{Ordering}
 use Rattle.std.specs.declared.cmp.Ordering.TheVariants.{Less, Equal, Greater}
-use Rattle.std.specs.Ordering.{nat_cmp, ordering_then}
+use Rattle.std.specs.Ordering.{nat_cmp, bool_cmp, ordering_then}
+use Rattle.std.specs.Option.{option_cmp}
 use Rattle.fab_names.specs.Orders.{name_cmp, fabric_order, member_order}
 use Rattle.fab_rows.specs.declared.config_row.SettingRow.{SettingRow}
 use Rattle.fab_rows.specs.declared.config_row.SettingRow.TheVariants.{ActiveSet, DefaultZone}
@@ -23,26 +24,13 @@ use Rattle.fab_rows.specs.declared.config_row.ConfigRow.{ConfigRow}
 use Rattle.fab_rows.specs.declared.config_row.ConfigRow.TheVariants.{Setting, Zoning, Active, Group, Part}
 use Rattle.fab_rows.specs.contracts.config_row.ConfigRowOrd.TheImpl as rows
 
--- none before any
-abbrev pub option_order : {X : Type 0} → (X → X → Ordering) → Option X → Option X → Ordering
-option_order R None None = Equal
-option_order R None (Some y) = Less
-option_order R (Some x) None = Greater
-option_order R (Some x) (Some y) = R x y
-
--- false before true
-abbrev pub bool_order : Bool → Bool → Ordering
-bool_order false false = Equal
-bool_order false true = Less
-bool_order true false = Greater
-bool_order true true = Equal
-
--- settings: the active names before the default zones, each by fabric
+-- settings: the active names before the default zones, each by fabric; none before any name, and
+-- what denies before what permits
 abbrev pub setting_order : SettingRow → SettingRow → Ordering
-setting_order (ActiveSet f m) (ActiveSet g n) = ordering_then (fabric_order f g) (option_order name_cmp m n)
+setting_order (ActiveSet f m) (ActiveSet g n) = ordering_then (fabric_order f g) (option_cmp name_cmp m n)
 setting_order (ActiveSet f m) (DefaultZone g q) = Less
 setting_order (DefaultZone f p) (ActiveSet g n) = Greater
-setting_order (DefaultZone f p) (DefaultZone g q) = ordering_then (fabric_order f g) (bool_order p q)
+setting_order (DefaultZone f p) (DefaultZone g q) = ordering_then (fabric_order f g) (bool_cmp p q)
 
 -- items: aliases, zones, zone sets, each by name and then by item
 abbrev pub item_order : ZoningItem → ZoningItem → Ordering
@@ -72,7 +60,7 @@ host_group_order a b = ordering_then (name_cmp a.name b.name) (name_cmp a.tenant
 abbrev pub storage_group_order : StorageGroupRow → StorageGroupRow → Ordering
 storage_group_order a b =
     ordering_then (name_cmp a.name b.name)
-    (ordering_then (name_cmp a.tenant b.tenant) (ordering_then (name_cmp a.array b.array) (bool_order a.exposed b.exposed)))
+    (ordering_then (name_cmp a.tenant b.tenant) (ordering_then (name_cmp a.array b.array) (bool_cmp a.exposed b.exposed)))
 
 -- groups: host groups before storage groups
 abbrev pub group_order : GroupRow → GroupRow → Ordering

@@ -10,7 +10,7 @@ use Rattle.fab_inventory.specs.Inventories.{InventoryRows}
 use Rattle.fab_maps.specs.MapsOfSets.{has}
 use Rattle.fab_maps.specs.Firsts.{HasAt}
 use Rattle.fab_zoning.specs.Zonings.{FabricZoning, permits}
-use Rattle.fab_mapping.specs.Groups.{HostGroupRows, StorageGroupRows}
+use Rattle.fab_mapping_base.specs.Groups.{HostGroupRows, StorageGroupRows}
 use Rattle.fab_mapping.specs.Mappings.{MappingRows}
 use Rattle.fab_reach.specs.Records.{ConfigRows, zoning_at}
 use Rattle.fab_rows.specs.declared.config_row.SettingRow.{SettingRow}

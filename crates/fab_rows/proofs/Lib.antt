@@ -1,0 +1,7 @@
+pub mod OrderOfRows
+pub mod SetsTold
+pub mod RowsFound
+pub mod RowsGathered
+pub mod TablesTold
+pub mod Determined
+pub mod RowLists
