@@ -1,12 +1,19 @@
 //! From rows to values: an inventory and a configuration that have exactly the given rows.
 #![tactic(auto)]
 
+mod fault;
+mod inventory;
+mod keys;
 mod kind;
+mod kinds;
 mod maps;
 mod nested;
 mod sets;
 
+pub use fault::{LoadFault, Table};
+pub use inventory::inventory_of;
 pub use kind::{Key, Kind, Value};
+pub use kinds::Head;
 pub use maps::map_of;
 pub use nested::maps_of;
 pub use sets::sets_of;
