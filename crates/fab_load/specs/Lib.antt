@@ -5,3 +5,6 @@ pub mod KindLaws
 pub mod Values
 pub mod Faults
 pub mod Inventories
+pub mod Configs
+pub mod Assembled
+pub mod Parts

@@ -21,6 +21,7 @@ pub struct Head {
 }
 
 /// Ports, by name.
+#[derive(Clone, Copy)]
 pub struct Ports;
 
 impl Kind<Port, (Wwn, Known)> for Ports {
@@ -47,6 +48,7 @@ impl Kind<Port, (Wwn, Known)> for Ports {
 }
 
 /// Hosts and arrays, by name.
+#[derive(Clone, Copy)]
 pub struct Holders;
 
 impl Kind<HolderRow, (Name, Holder)> for Holders {
@@ -72,6 +74,7 @@ impl Kind<HolderRow, (Name, Holder)> for Holders {
 }
 
 /// Volumes, by name.
+#[derive(Clone, Copy)]
 pub struct Volumes;
 
 impl Kind<VolumeRow, (Name, Volume)> for Volumes {
@@ -142,6 +145,7 @@ fn part_in(row: &ConfigRow) -> Option<PartRow>
 }
 
 /// The names of active zone sets, by fabric.
+#[derive(Clone, Copy)]
 pub struct ActiveSets;
 
 impl Kind<ConfigRow, (Fabric, Option<Name>)> for ActiveSets {
@@ -166,6 +170,7 @@ impl Kind<ConfigRow, (Fabric, Option<Name>)> for ActiveSets {
 }
 
 /// Whether default zones permit, by fabric.
+#[derive(Clone, Copy)]
 pub struct DefaultZones;
 
 impl Kind<ConfigRow, (Fabric, bool)> for DefaultZones {
@@ -190,6 +195,7 @@ impl Kind<ConfigRow, (Fabric, bool)> for DefaultZones {
 }
 
 /// The members of the aliases of a fabric.
+#[derive(Clone, Copy)]
 pub struct Aliases(pub Fabric);
 
 impl Kind<ConfigRow, (Name, Member)> for Aliases {
@@ -216,6 +222,7 @@ impl Kind<ConfigRow, (Name, Member)> for Aliases {
 }
 
 /// The members of the zones of a fabric.
+#[derive(Clone, Copy)]
 pub struct Zones(pub Fabric);
 
 impl Kind<ConfigRow, (Name, Member)> for Zones {
@@ -242,6 +249,7 @@ impl Kind<ConfigRow, (Name, Member)> for Zones {
 }
 
 /// The zones of the zone sets of a fabric.
+#[derive(Clone, Copy)]
 pub struct ZoneSets(pub Fabric);
 
 impl Kind<ConfigRow, (Name, Name)> for ZoneSets {
@@ -268,6 +276,7 @@ impl Kind<ConfigRow, (Name, Name)> for ZoneSets {
 }
 
 /// The zones of the active members of a fabric.
+#[derive(Clone, Copy)]
 pub struct ActiveRows(pub Fabric);
 
 impl Kind<ConfigRow, (Member, Name)> for ActiveRows {
@@ -295,6 +304,7 @@ impl Kind<ConfigRow, (Member, Name)> for ActiveRows {
 }
 
 /// Whose the host groups are.
+#[derive(Clone, Copy)]
 pub struct HostGroups;
 
 impl Kind<ConfigRow, (Name, Name)> for HostGroups {
@@ -319,6 +329,7 @@ impl Kind<ConfigRow, (Name, Name)> for HostGroups {
 }
 
 /// What the rows of storage groups have beside their names.
+#[derive(Clone, Copy)]
 pub struct StorageGroups;
 
 impl Kind<ConfigRow, (Name, Head)> for StorageGroups {
@@ -348,6 +359,7 @@ impl Kind<ConfigRow, (Name, Head)> for StorageGroups {
 }
 
 /// The hosts of host groups.
+#[derive(Clone, Copy)]
 pub struct Hosts;
 
 impl Kind<ConfigRow, (Name, Name)> for Hosts {
@@ -375,6 +387,7 @@ impl Kind<ConfigRow, (Name, Name)> for Hosts {
 }
 
 /// The host groups that storage groups serve.
+#[derive(Clone, Copy)]
 pub struct ServedGroups;
 
 impl Kind<ConfigRow, (Name, Name)> for ServedGroups {
@@ -405,6 +418,7 @@ impl Kind<ConfigRow, (Name, Name)> for ServedGroups {
 }
 
 /// The targets of storage groups.
+#[derive(Clone, Copy)]
 pub struct Targets;
 
 impl Kind<ConfigRow, (Name, Wwn)> for Targets {
@@ -435,6 +449,7 @@ impl Kind<ConfigRow, (Name, Wwn)> for Targets {
 }
 
 /// The volumes of storage groups, by logical unit number.
+#[derive(Clone, Copy)]
 pub struct Units;
 
 impl Kind<ConfigRow, ((Name, u16), Name)> for Units {

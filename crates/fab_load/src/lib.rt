@@ -1,15 +1,21 @@
 //! From rows to values: an inventory and a configuration that have exactly the given rows.
 #![tactic(auto)]
 
+mod config;
 mod fault;
+mod groups;
 mod inventory;
 mod keys;
 mod kind;
 mod kinds;
+mod mappings;
 mod maps;
 mod nested;
 mod sets;
+mod settings;
+mod zonings;
 
+pub use config::config_of;
 pub use fault::{LoadFault, Table};
 pub use inventory::inventory_of;
 pub use kind::{Key, Kind, Value};
