@@ -1,0 +1,4 @@
+pub mod Refused
+pub mod Texts
+pub mod Unique
+pub mod UniqueConfig
