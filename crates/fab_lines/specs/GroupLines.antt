@@ -2,7 +2,7 @@
 use Rattle.std.specs.Prelude.{◌≡◌, ◌≤◌, ℕ, ℤ, List, [], Bool, false, codes}
 use Rattle.fab_names.specs.Names.{SpellsName}
 use Rattle.fab_names.specs.WorldWideNames.{SpellsPlain}
-use Rattle.fab_mapping.specs.declared.limits.TheConstants.{LAST_UNIT}
+use Rattle.fab_mapping_base.specs.declared.limits.TheConstants.{LAST_UNIT}
 use Rattle.fab_rows.specs.declared.config_row.GroupRow.{GroupRow}
 use Rattle.fab_rows.specs.declared.config_row.GroupRow.TheVariants as group
 use Rattle.fab_rows.specs.declared.config_row.StoragePart.{StoragePart}

@@ -3,7 +3,7 @@ use Rattle.std.specs.Prelude.{◌≡◌, ◌≤◌, ℕ, ℤ, List}
 use Rattle.fab_names.specs.Names.{SpellsName}
 use Rattle.fab_names.specs.Fabrics.{SpellsFabric}
 use Rattle.fab_names.specs.WorldWideNames.{SpellsPlain}
-use Rattle.fab_mapping.specs.declared.limits.TheConstants.{LAST_UNIT}
+use Rattle.fab_mapping_base.specs.declared.limits.TheConstants.{LAST_UNIT}
 use Rattle.fab_lines.specs.declared.limits.TheConstants.{MOST_NUMBER}
 use Rattle.fab_lines.specs.declared.record_lines.ApprovalRow.{ApprovalRow}
 use Rattle.fab_lines.specs.declared.record_lines.PathRow.{PathRow}

@@ -2,7 +2,7 @@
 ghost use Rattle.std.specs.Prelude.{◌≡◌, ℕ, List, [], MatchOption, IfOk, string_bytes};
 ghost use Rattle.fab_names.specs.Names.{SpellsName};
 ghost use Rattle.fab_names.specs.WorldWideNames.{SpellsPlain};
-ghost use Rattle.fab_mapping.specs.declared.limits.TheConstants as last;
+ghost use Rattle.fab_mapping_base.specs.declared.limits.TheConstants as last;
 ghost use Rattle.fab_lines.specs.Columns.{ShowsDecimal};
 ghost use Rattle.fab_rows.specs.declared.config_row.StoragePart.{StoragePart};
 ghost use Rattle.fab_rows.specs.declared.config_row.PartRow.{PartRow};

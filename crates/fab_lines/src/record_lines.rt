@@ -5,7 +5,7 @@ ghost use Rattle.fab_lines.specs.RecordLines.{ShowsApproval, ShowsPath};
 ghost use Rattle.fab_lines.specs.declared.record_lines.ApprovalRow.{ApprovalRow};
 ghost use Rattle.fab_lines.specs.declared.record_lines.PathRow.{PathRow};
 ghost use Rattle.fab_lines.specs.declared.limits.TheConstants as limit;
-ghost use Rattle.fab_mapping.specs.declared.limits.TheConstants as unit;
+ghost use Rattle.fab_mapping_base.specs.declared.limits.TheConstants as unit;
 
 use crate::columns::{name_text, plain_text, read_count, read_fabric, read_name};
 use crate::limits::MOST_NUMBER;

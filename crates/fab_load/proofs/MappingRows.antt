@@ -21,7 +21,7 @@ use Rattle.fab_maps.specs.Firsts.{HasAt}
 use Rattle.fab_maps.specs.MapsOfSets.{in_tree, tree_has}
 use Rattle.fab_maps.proofs.SeenMaps.{get_entries}
 use Rattle.fab_maps.proofs.Tests.{both, left, right}
-use Rattle.fab_mapping.specs.Groups.{HostGroupRows, StorageGroupRows}
+use Rattle.fab_mapping_base.specs.Groups.{HostGroupRows, StorageGroupRows}
 use Rattle.fab_reach.specs.Records.{ConfigRows}
 use Rattle.fab_rows.specs.declared.config_row.ConfigRow.{ConfigRow}
 use Rattle.fab_rows.specs.declared.config_row.StoragePart.TheVariants as part

@@ -8,7 +8,7 @@ use Rattle.std.specs.FinMap as map
 use Rattle.std.specs.FinSet as set
 use Rattle.fab_names.specs.Orders.{name_cmp}
 use Rattle.fab_maps.specs.MapsOfSets.{seen_set}
-use Rattle.fab_mapping.specs.Groups.{HostGroupRows, StorageGroupRows}
+use Rattle.fab_mapping_base.specs.Groups.{HostGroupRows, StorageGroupRows}
 use Rattle.fab_load.specs.declared.kinds.Head.{Head}
 use Rattle.fab_load.specs.declared.groups.Parts.{Parts}
 

@@ -9,13 +9,13 @@ use Rattle.fab_names.specs.declared.member.Member.{Member}
 use Rattle.fab_names.specs.Orders.{name_cmp}
 use Rattle.fab_maps.specs.Firsts.{HasAt}
 use Rattle.fab_maps.specs.MapsOfSets.{MapOfSets, has}
-use Rattle.fab_mapping.specs.Groups.{HostGroupRows, StorageGroupRows}
+use Rattle.fab_mapping_base.specs.Groups.{HostGroupRows, StorageGroupRows}
 use Rattle.fab_zoning.specs.declared.flag.DefaultFlag.{DefaultFlag}
 use Rattle.fab_zoning.specs.Zonings.{FabricZoning, permits}
 use Rattle.fab_zoning.specs.Soundness as zoning
 use Rattle.fab_mapping.specs.Mappings.{MappingRows, HasNoClash}
 use Rattle.fab_mapping.specs.Soundness as mapping
-use Rattle.fab_mapping.specs.declared.limits.TheConstants.{MOST_HOST_GROUPS, MOST_STORAGE_GROUPS}
+use Rattle.fab_mapping_base.specs.declared.limits.TheConstants.{MOST_HOST_GROUPS, MOST_STORAGE_GROUPS}
 use Rattle.fab_reach.specs.Records.{ConfigRows}
 use Rattle.fab_rows.specs.declared.config_row.ConfigRow.{ConfigRow}
 use Rattle.fab_rows.specs.declared.config_row.StoragePart.TheVariants as part

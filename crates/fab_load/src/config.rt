@@ -21,10 +21,7 @@ use std::alloc::Allocator;
 /// rows of one group differ, or there are too many; `GroupParts` where a part is of no group, a group
 /// lacks a part or names a host group that is not there, a limit is passed, or a unit clash stands.
 /// `Memory` where there is none.
-pub fn config_of<A: Allocator + Copy>(
-    alloc: A,
-    rows: &[ConfigRow],
-) -> Result<Config<A>, LoadFault>
+pub fn config_of<A: Allocator + Copy>(alloc: A, rows: &[ConfigRow]) -> Result<Config<A>, LoadFault>
     ensures rows { IfOk result (AreConfigRows rows.now) }
     ensures sound { IfOk result ConfigIsSound }
     ensures damaged { IfErr result (OfTable (λ table. (c : ConfigRows) → AreConfigRows rows.now c → ¬ ConfigPartIsSound table c)) }

@@ -4,7 +4,7 @@ ghost use Rattle.std.specs.List.{list_all};
 ghost use Rattle.std.specs.BTreeMap.{get, keys};
 ghost use Rattle.std.specs.FinMap as map;
 ghost use Rattle.fab_names.specs.Orders.{name_cmp};
-ghost use Rattle.fab_mapping.specs.Groups.{HostGroupRows, StorageGroupRows};
+ghost use Rattle.fab_mapping_base.specs.Groups.{HostGroupRows, StorageGroupRows};
 ghost use Rattle.fab_mapping.specs.Mappings.{MappingRows, HasNoClash};
 ghost use Rattle.fab_mapping.specs.Soundness.{IsSound};
 ghost use Rattle.fab_reach.specs.Records.{ConfigRows};
@@ -21,19 +21,14 @@ use crate::maps::map_of;
 use crate::nested::maps_of;
 use crate::sets::sets_of;
 use crate::{LoadFault, Table};
-use fab_mapping::{
-    HostGroup, MOST_HOST_GROUPS, MOST_STORAGE_GROUPS, Mapping, StorageGroup,
-};
+use fab_mapping::{HostGroup, MOST_HOST_GROUPS, MOST_STORAGE_GROUPS, Mapping, StorageGroup};
 use fab_names::Name;
 use fab_rows::ConfigRow;
 use std::alloc::{AllocError, Allocator};
 use std::collections::BTreeMap;
 
 /// Whether each name that has something has a head.
-fn are_known<X, H, A: Allocator>(
-    parts: &BTreeMap<Name, X, A>,
-    heads: &BTreeMap<Name, H, A>,
-) -> bool
+fn are_known<X, H, A: Allocator>(parts: &BTreeMap<Name, X, A>, heads: &BTreeMap<Name, H, A>) -> bool
     ensures { result ≡ list_all (λ n. is_some (get name_cmp heads.now n)) (keys parts.now) }
 {
     parts.keys().all(|name| heads.contains_key(name))
@@ -117,10 +112,7 @@ fn parts_of<A: Allocator + Copy>(
 }
 
 /// Whether each storage group that has a part has a head.
-fn are_parts_known<A: Allocator + Copy>(
-    parts: &Parts<A>,
-    heads: &BTreeMap<Name, Head, A>,
-) -> bool
+fn are_parts_known<A: Allocator + Copy>(parts: &Parts<A>, heads: &BTreeMap<Name, Head, A>) -> bool
     ensures { result ≡ spec.are_parts_known parts.now heads.now }
 {
     if !are_known(&parts.served, heads) {

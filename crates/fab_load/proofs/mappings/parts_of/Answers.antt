@@ -3,7 +3,7 @@ use Rattle.std.specs.FinMap as map
 use Rattle.std.specs.Option.{option_and_then}
 use Rattle.fab_names.specs.Orders.{name_cmp}
 use Rattle.std.specs.Ordering.{nat_cmp}
-use Rattle.fab_mapping.specs.Groups.{StorageGroupRows}
+use Rattle.fab_mapping_base.specs.Groups.{StorageGroupRows}
 use Rattle.fab_load.specs.Kinds.{unit_row}
 use Rattle.fab_load.specs.Rows.{AreRows, HasRepeat, IsAt, HasEntries}
 use Rattle.fab_load.proofs.Saying.{no_repeat}
