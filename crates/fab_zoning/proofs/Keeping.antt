@@ -40,7 +40,7 @@ module _ {K : Type 0} {R : K → K → Ordering} (o : IsTotalOrder R) where
 
   module _ (exact : set.IsAntisymmetric R) where
     -- the set of a name that is there has a member
-    set_at : (m : NamedSets R) (n : List ℕ) → map.contains_key m n ≡ true → AreListings m → (x : K) × (has m n x ≡ true)
+    pub set_at : (m : NamedSets R) (n : List ℕ) → map.contains_key m n ≡ true → AreListings m → (x : K) × (has m n x ≡ true)
     set_at m n there h = by (map.get m n) refl there
       where
         by : (a : Option (set.FinSet R)) → map.get m n ≡ a → is_some a ≡ true → (x : K) × (has m n x ≡ true)
