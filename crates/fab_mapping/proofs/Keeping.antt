@@ -1,5 +1,5 @@
 -- Each step keeps a mapping sound, and lets one that fits an inventory fit.
-use Rattle.std.proofs.Common.{ℕ, ◌≡◌, ◌<◌, ◌≤◌, List, [], length, Option, None, Some, is_some, IsSome, Bool, true, false, ◌⊎◌, inl, inr, All, refl, sym, ap, ◌∙◌, subst, arith}
+use Rattle.std.proofs.Common.{ℕ, ◌≡◌, ◌<◌, ◌≤◌, List, [], length, Option, None, Some, is_some, IsSome, Bool, true, inl, inr, All, sym, ap, ◌∙◌, subst, arith}
 use mathlib.Core.Bool.{true≢false}
 use Rattle.std.specs.Ordering.{nat_cmp}
 use Rattle.std.specs.Cmp.{nat_cmp_total}

@@ -17,10 +17,10 @@ use Rattle.fab_inventory.specs.declared.holder.HolderKind.{HolderKind}
 use Rattle.fab_inventory.specs.declared.holder.HolderKind.TheVariants as kind
 use Rattle.fab_inventory.specs.declared.holder.Volume.{Volume}
 use Rattle.fab_inventory.specs.Holders.{holder_in}
-use Rattle.fab_inventory.specs.Inventories.{InventoryRows, HolderRows, IsHost, IsArray, kind_of}
+use Rattle.fab_inventory.specs.Inventories.{InventoryRows, kind_of}
 use Rattle.fab_mapping_base.specs.declared.gone.Gone.{Gone}
 use Rattle.fab_mapping_base.specs.Clashes.{HostGroups, StorageGroups}
-use Rattle.fab_mapping_base.specs.Fitting.{IsPortOf, IsVolumeOn, HasHosts, GroupFits, LacksHost, LacksArray, LacksTarget, LacksVolume}
+use Rattle.fab_mapping_base.specs.Fitting.{IsVolumeOn, HasHosts, GroupFits, LacksHost, LacksArray, LacksTarget, LacksVolume}
 use Rattle.fab_mapping.specs.Mappings.{MappingRows}
 use Rattle.fab_mapping.specs.Soundness.{Each, Fits}
 use Rattle.fab_mapping.specs.Gone.{IsLacking, LacksNothing, IsFirstGone}

@@ -1,5 +1,5 @@
 -- What contracts see of a mapping, and what its changes are.
-use Rattle.std.specs.Prelude.{ℕ, ◌≡◌, ◌≢◌, ◌<◌, ◌≤◌, ◌⊎◌, List, length, take, slice_get, All, None, Some, true, false, refl}
+use Rattle.std.specs.Prelude.{ℕ, ◌≡◌, ◌<◌, ◌≤◌, ◌⊎◌, List, length, All, None, Some, true, false, refl}
 use Rattle.std.specs.Ordering.{is_gt}
 use Rattle.std.specs.Coded.{Coded, code_by, coded×}
 use Rattle.std.specs.FinMap as map

@@ -1,12 +1,10 @@
 -- What the search for a clash rests on: pairs of storage groups, hosts, and the definition of a clash.
-use Rattle.std.proofs.Common.{ℕ, ◌≡◌, ◌≢◌, ◌<◌, ◌≤◌, ◌+◌, ◌*◌, List, [], ◌∷◌, ◌++◌, length, Bool, true, false, Contains, Option, None, Some, MatchOption, ◌⊎◌, inl, inr, refl, sym, ap, ◌∙◌, subst, arith}
+use Rattle.std.proofs.Common.{ℕ, ◌≡◌, List, ◌∷◌, ◌++◌, Bool, true, false, Contains, Option, None, Some, MatchOption, ◌⊎◌, inl, inr, refl, sym, ap, ◌∙◌, subst}
 use mathlib.Core.Bool.{true≢false}
 use Rattle.std.specs.declared.cmp.Ordering.{Ordering}
 use Rattle.std.specs.declared.cmp.Ordering.TheVariants.{Less, Equal, Greater}
 use Rattle.std.specs.Ordering.{is_gt, nat_cmp, eq_by_cmp}
-use Rattle.std.specs.Cmp.{Equal-is}
 use Rattle.std.specs.BTreeMap as tree
-use Rattle.std.specs.BTreeMap.{BTreeMap, is_at}
 use Rattle.std.specs.BTreeSet.{BTreeSet, contains}
 use Rattle.std.specs.FinMap as fin
 use Rattle.std.specs.FinSet as set
@@ -21,10 +19,10 @@ use Rattle.fab_maps.proofs.Leasts.{least_as}
 use Rattle.fab_names.specs.Orders.{name_cmp}
 use Rattle.fab_names.proofs.OrderLaws.{name_total, name_exact}
 use Rattle.fab_mapping_base.specs.declared.nexus.Nexus.{Nexus}
-use Rattle.fab_mapping_base.specs.Groups.{HostGroupRows, StorageGroupRows}
-use Rattle.fab_mapping_base.specs.Nexuses.{Claim, nexus_cmp}
+use Rattle.fab_mapping_base.specs.Groups.{StorageGroupRows}
+use Rattle.fab_mapping_base.specs.Nexuses.{nexus_cmp}
 use Rattle.fab_mapping_base.specs.Clashes.{HostGroups, StorageGroups, IsExposed, Maps, ClashesIn, IsLeastClashIn, HasNoClashIn}
-use Rattle.fab_mapping_base.specs.ClashSearch.{Index, Service, lists, IsShared, IsUnlike, MeetsTwo, IsLeastOf, MeetsAt, IsKnown, AreFine, ServesHost, ServesAt, MeetsIn}
+use Rattle.fab_mapping_base.specs.ClashSearch.{Index, lists, IsShared, IsUnlike, MeetsTwo, IsLeastOf, MeetsAt, IsKnown, AreFine, ServesHost, ServesAt, MeetsIn}
 use Rattle.fab_mapping_base.proofs.NexusOrder.{nexus_upto, host_below}
 use Rattle.fab_mapping_base.proofs.Walked.{least_has, none_has, key_looked_up}
 

@@ -1,5 +1,5 @@
 -- The first of what is named and is not as it should be.
-use Rattle.std.proofs.Common.{◌≡◌, List, Option, None, Some, true, false, Contains, MatchOption, refl, sym, ap, ◌∙◌, subst}
+use Rattle.std.proofs.Common.{◌≡◌, List, Option, None, Some, true, Contains, MatchOption, refl, sym, ap, ◌∙◌, subst}
 use Rattle.std.specs.declared.cmp.Ordering.{Ordering}
 use Rattle.std.specs.Ordering.{is_gt}
 use Rattle.std.specs.Cmp.{IsTotalOrder, tied_itself}

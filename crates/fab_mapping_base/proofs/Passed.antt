@@ -1,22 +1,16 @@
 -- A property of each member or of each entry, where a search through all of them answered.
-use Rattle.std.proofs.Common.{ℕ, ◌≡◌, ◌<◌, List, Contains, Bool, true, IsTrue, length, Option, None, Some, refl, sym, ap, ◌∙◌, subst}
+use Rattle.std.proofs.Common.{ℕ, ◌≡◌, ◌<◌, List, Contains, Bool, true, IsTrue, length, Some, sym, ap, ◌∙◌}
 use Rattle.std.specs.declared.cmp.Ordering.{Ordering}
 use Rattle.std.specs.Ordering.{nat_cmp}
 use Rattle.std.specs.Bool.{MatchBool}
-use Rattle.std.specs.BTreeMap as tree
-use Rattle.std.specs.BTreeMap.{BTreeMap}
 use Rattle.std.specs.Cmp.{IsTotalOrder, eq_by_cmp_equiv, nat_cmp_total}
 use Rattle.std.specs.FinMap as map
 use Rattle.std.specs.FinSet as set
 use Rattle.std.specs.List.{AllWithin, HoldsAt}
-use Rattle.std.specs.Option.{IfSome}
 use Rattle.std.proofs.lemmas.Bool.{MatchBool-at_true}
 use Rattle.std.proofs.lemmas.Iterator.Search.{true_from_All}
 use Rattle.std.proofs.lemmas.List.Elements.{All-contains, All-contains_itself, All-from_all_within, All-weaker}
 use Rattle.std.proofs.lemmas.Map.Views.{Contains-from_any, All-from_any, tells_apart}
-use Rattle.fab_maps.proofs.Passing.{values_pass}
-use Rattle.fab_names.specs.Orders.{name_cmp}
-use Rattle.fab_names.proofs.OrderLaws.{name_total}
 use Rattle.fab_maps.proofs.SeenEntries.{entry_decides}
 
 -- a search through all of a list answered whether each has P

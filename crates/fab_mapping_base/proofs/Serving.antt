@@ -14,7 +14,7 @@ use Rattle.fab_maps.specs.Adding.{Adds}
 use Rattle.std.proofs.lemmas.Option.{slice_get_within}
 use Rattle.std.proofs.lemmas.List.Elements.{Contains-push_cases, Contains-append_left, Contains-push}
 use Rattle.fab_maps.specs.MapsOfSets.{in_tree}
-use Rattle.fab_maps.proofs.Adding.{Before, adds_as, adds_none, adds_both}
+use Rattle.fab_maps.proofs.Adding.{Before, adds_as, adds_both}
 use Rattle.fab_maps.proofs.SeenSets.{listed_decides}
 use Rattle.fab_names.specs.Orders.{name_cmp}
 use Rattle.fab_names.proofs.OrderLaws.{name_total, name_exact}

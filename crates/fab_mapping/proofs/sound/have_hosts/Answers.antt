@@ -1,8 +1,7 @@
 use Rattle.std.proofs.Common.{rules}
-use Rattle.std.specs.BTreeMap.{get, values}
+use Rattle.std.specs.BTreeMap.{values}
 use Rattle.std.proofs.lemmas.Iterator.{cases_from_all}
 use Rattle.std.proofs.lemmas.Iterator.Consumers.{YieldsList-from_rest}
-use Rattle.fab_names.specs.Orders.{name_cmp}
 use Rattle.fab_mapping.specs.Soundness.{HasHosts}
 use Rattle.fab_mapping.proofs.Passed.{values_have}
 use Rattle.fab_mapping.proofs.sound.have_hosts.Goals as goal

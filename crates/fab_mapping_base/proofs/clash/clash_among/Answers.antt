@@ -1,4 +1,4 @@
-use Rattle.std.proofs.Common.{Bor, ◌≡◌, ℕ, List, [], ◌∷◌, ◌++◌, map, sym, ap, ◌∙◌, subst}
+use Rattle.std.proofs.Common.{Bor, [], ◌∷◌, ◌++◌, map, sym, subst}
 use Rattle.std.specs.Ordering.{nat_cmp}
 use Rattle.std.specs.Cmp.{nat_cmp_total}
 use Rattle.std.specs.FinSet as set
@@ -8,7 +8,7 @@ use Rattle.fab_maps.specs.Adding.{Among}
 use Rattle.fab_maps.proofs.Adding.{Before}
 use Rattle.fab_maps.proofs.Walks.{walked, walk_end}
 use Rattle.fab_mapping_base.specs.Groups.{StorageGroupRows}
-use Rattle.fab_mapping_base.specs.ClashSearch.{MeetsAt, AreFine, IsLeastOf}
+use Rattle.fab_mapping_base.specs.ClashSearch.{MeetsAt, IsLeastOf}
 use Rattle.fab_maps.proofs.Leasts.{least_none, least_more, least_all}
 use Rattle.fab_mapping_base.proofs.NexusOrder.{nexus_total}
 use Rattle.fab_mapping_base.proofs.clash.clash_among.Goals as goal

@@ -1,7 +1,7 @@
-use Rattle.std.proofs.Common.{Bor, Bool, true, false, Some, map, ◌≡◌, refl, sym, ap}
+use Rattle.std.proofs.Common.{Bor, Bool, true, false, Some, map, ◌≡◌, sym}
 use Rattle.std.specs.Bool.{OnTrue}
 use Rattle.fab_mapping_base.specs.Groups.{StorageGroupRows}
-use Rattle.fab_mapping_base.proofs.ClashSearch.{least_at, fine_more, none_at_first, none_at_second}
+use Rattle.fab_mapping_base.proofs.ClashSearch.{least_at, fine_more}
 use Rattle.fab_mapping_base.proofs.clash.clash_at.Goals as goal
 
 on_true : {P : Type 0} (b : Bool) → OnTrue b P → b ≡ true → P

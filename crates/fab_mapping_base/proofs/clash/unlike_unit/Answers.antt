@@ -1,4 +1,4 @@
-use Rattle.std.proofs.Common.{ℕ, ◌≡◌, List, ◌∷◌, [], ◌++◌, Option, Some, true, false, refl, sym, ap, ◌∙◌, subst}
+use Rattle.std.proofs.Common.{ℕ, ◌≡◌, List, ◌∷◌, [], ◌++◌, Some, true, sym, ap, ◌∙◌, subst}
 use mathlib.Core.Bool.{true≢false}
 use Rattle.std.specs.Ordering.{nat_cmp, eq_by_cmp}
 use Rattle.std.specs.Cmp.{nat_cmp_total}
@@ -11,7 +11,7 @@ use Rattle.std.specs.List.Sorted.{IsStrictlySortedBy}
 use Rattle.std.proofs.lemmas.Map.Iter.{rest_more, rest_all}
 use Rattle.fab_maps.proofs.SeenEntries.{sorted}
 use Rattle.fab_maps.proofs.Walks.{all_push, walked, walk_end}
-use Rattle.fab_mapping_base.specs.Groups.{StorageGroupRows, Units}
+use Rattle.fab_mapping_base.specs.Groups.{StorageGroupRows}
 use Rattle.fab_mapping_base.specs.ClashSearch.{IsUnlike, MapsOther}
 use Rattle.fab_mapping_base.proofs.Walked.{key_there, least_has, none_has, entry_here}
 use Rattle.fab_mapping_base.proofs.clash.unlike_unit.Goals as goal

@@ -1,4 +1,4 @@
-use Rattle.std.proofs.Common.{ℕ, [], ◌∷◌, ◌++◌, List, sym, ap, ◌∙◌, subst, MatchOption}
+use Rattle.std.proofs.Common.{ℕ, [], ◌∷◌, ◌++◌, List, sym, ◌∙◌, subst, MatchOption}
 use Rattle.std.specs.Cmp.{nat_cmp_total}
 use Rattle.std.specs.FinSet as set
 use Rattle.std.specs.Map.Iter.{deref_pair}

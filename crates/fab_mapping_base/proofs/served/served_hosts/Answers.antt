@@ -1,15 +1,13 @@
-use Rattle.std.proofs.Common.{Bor, ◌≡◌, ◌≤◌, ℕ, List, map, length, false, Some, refl, sym, ap, ◌∙◌, subst, arith}
+use Rattle.std.proofs.Common.{Bor, ◌≡◌, ◌≤◌, map, length, false, Some, refl, sym, ap, ◌∙◌, subst, arith}
 use Rattle.std.specs.BTreeMap.{get}
-use Rattle.std.specs.BTreeSet.{BTreeSet}
 use Rattle.std.specs.List.{slice_get}
 use Rattle.std.specs.Option.{option_map}
 use Rattle.std.proofs.lemmas.List.{length-map}
 use Rattle.std.proofs.lemmas.Option.{slice_get-map, slice_get_read}
-use Rattle.fab_maps.specs.Adding.{Adds}
 use Rattle.fab_names.specs.Orders.{name_cmp}
 use Rattle.fab_mapping_base.specs.Groups.{StorageGroupRows}
 use Rattle.fab_mapping_base.specs.ClashSearch.{lists}
-use Rattle.fab_mapping_base.proofs.Serving.{Below, below_start, below_more, below_all}
+use Rattle.fab_mapping_base.proofs.Serving.{below_start, below_more, below_all}
 use Rattle.fab_mapping_base.proofs.served.served_hosts.Goals as goal
 
 abbrev now : Bor StorageGroupRows → StorageGroupRows

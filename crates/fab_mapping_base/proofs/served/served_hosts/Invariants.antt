@@ -1,4 +1,4 @@
-use Rattle.std.proofs.Common.{Bor, ◌≤◌, length, map, false}
+use Rattle.std.proofs.Common.{Bor, map, false}
 use Rattle.std.specs.BTreeMap.{get}
 use Rattle.fab_maps.specs.Adding.{Adds}
 use Rattle.fab_names.specs.Orders.{name_cmp}

@@ -1,5 +1,4 @@
-use Rattle.std.proofs.Common.{None, is_some, refl, sym, ap, ◌∙◌, rules}
-use Rattle.fab_mapping.proofs.Keeping.{group_dropped_keeps}
+use Rattle.std.proofs.Common.{None, is_some, refl, sym, ap, ◌∙◌}
 use Rattle.std.specs.FinMap as map
 use Rattle.fab_names.proofs.OrderLaws.{name_total}
 use Rattle.fab_maps.proofs.SeenMaps.{get_entries}
