@@ -1,9 +1,8 @@
 -- How many characters a text of name characters has.
-use Rattle.std.proofs.Common.{ℕ, ◌≡◌, ◌≤◌, ◌<◌, List, [], ◌∷◌, zero, suc, length, get_or, true, ap, sym, ◌∙◌, subst, arith, lit<}
+use Rattle.std.proofs.Common.{ℕ, ◌≡◌, ◌<◌, List, length, true, ap, arith}
 use Rattle.std.specs.List.{list_all}
-use Rattle.std.specs.Str.{chars, IsAscii}
+use Rattle.std.specs.Str.{chars}
 use Rattle.std.proofs.lemmas.Str.{chars-IsAscii}
-use Rattle.std.proofs.lemmas.Bool.Decides.{nat_tests}
 use Rattle.fab_names.specs.Names.{is_name_char, IsNameText}
 use Rattle.fab_names.proofs.Copies.{ascii_all}
 

@@ -1,5 +1,5 @@
 -- What is printed of a number.
-use Rattle.std.proofs.Common.{ℕ, ◌≡◌, ◌<◌, ◌≤◌, ◌/◌, ◌%◌, ◌^◌, suc, zero, List, [], ◌∷◌, ◌++◌, length, get_or, codes, append_assoc, refl, sym, ap, ◌∙◌, subst, arith, lit<, inl, inr, true}
+use Rattle.std.proofs.Common.{ℕ, ◌≡◌, ◌<◌, ◌≤◌, ◌/◌, ◌%◌, ◌^◌, suc, zero, List, [], ◌∷◌, ◌++◌, length, get_or, codes, append_assoc, refl, sym, ap, ◌∙◌, subst, arith, lit<, inr, true}
 use Rattle.std.specs.List.{AllByRecursion}
 use Rattle.std.specs.Int.{w64, to_be_bytes, from_be_bytes}
 use Rattle.std.specs.Char.{is_ascii_hexdigit, digit_value}
@@ -10,8 +10,7 @@ use Rattle.std.proofs.lemmas.Bool.Decides.{nat_tests}
 use Rattle.std.specs.Fmt.{decimal}
 use Rattle.std.proofs.lemmas.Fmt.{first_decimal, length-decimal-le_succ}
 use Rattle.fab_names.specs.Names.{IsNameText}
-use Rattle.fab_names.specs.Numbers.{SpellsNumber}
-use Rattle.fab_names.specs.Places.{Position, SpellsPosition, SpellsPlace, SpellsPrintedPlace, place_text}
+use Rattle.fab_names.specs.Places.{Position, SpellsPosition, SpellsPrintedPlace, place_text}
 use Rattle.fab_names.specs.Members.{SpellsMember, member_text}
 use Rattle.fab_names.specs.declared.member.Member.{Member}
 use Rattle.fab_names.specs.declared.member.Member.TheVariants as member

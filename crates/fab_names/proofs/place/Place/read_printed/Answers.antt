@@ -1,4 +1,4 @@
-use Rattle.std.proofs.Common.{Some, None, lit<, ◌∙◌, sym, true, subst}
+use Rattle.std.proofs.Common.{Some, None, lit<, ◌∙◌, sym}
 use mathlib.Core.Bool.{true≢false}
 use Rattle.std.proofs.lemmas.Str.Pattern.{split_parts}
 use Rattle.fab_names.proofs.Readings.{no_place}
