@@ -1,33 +1,30 @@
 -- The zoning of a fabric by its rows.
-use Rattle.std.proofs.Common.{ℕ, ◌≡◌, ◌<◌, ◌⊎◌, inl, inr, ⊎_elim, List, [], ◌∷◌, Contains, Option, None, Some, Bool, true, false, ◌||◌, sym, ap, ◌∙◌, subst, refl, arith, ◌↔◌, MatchOption}
+use Rattle.std.proofs.Common.{ℕ, ◌≡◌, ◌<◌, ◌⊎◌, ⊎_elim, List, [], ◌∷◌, Option, None, Some, Bool, true, false, ◌||◌, sym, ap, ◌∙◌, subst, refl, arith, MatchOption}
 use mathlib.Core.Bool.{true≢false}
 use Rattle.std.specs.declared.cmp.Ordering.{Ordering}
 use Rattle.std.specs.BTreeMap as tree
 use Rattle.std.specs.BTreeMap.{BTreeMap}
-use Rattle.std.specs.BTreeSet.{BTreeSet, contains}
+use Rattle.std.specs.BTreeSet.{BTreeSet}
 use Rattle.std.specs.Cmp.{IsTotalOrder, tied_itself}
 use Rattle.std.specs.FinMap as map
 use Rattle.std.specs.FinSet as set
 use Rattle.std.specs.List.{list_any}
-use Rattle.std.specs.Option.{option_map}
 use Rattle.std.specs.Ordering.{is_eq, eq_by_cmp}
-use Rattle.fab_names.specs.Orders.{name_cmp, member_cmp, fabric_cmp}
+use Rattle.fab_names.specs.Orders.{name_cmp, member_cmp}
 use Rattle.fab_names.proofs.OrderLaws.{name_total, name_exact, member_total, member_exact}
 use Rattle.fab_names.specs.declared.fabric.Fabric.{Fabric}
-use Rattle.fab_names.specs.declared.fabric.Fabric.TheVariants.{A, B}
 use Rattle.fab_names.specs.declared.member.Member.{Member}
-use Rattle.fab_maps.specs.MapsOfSets.{MapOfSets, has, in_set, in_tree, tree_has, seen_set, seen_sets}
+use Rattle.fab_maps.specs.MapsOfSets.{MapOfSets, has, in_set, seen_sets}
 use Rattle.fab_maps.proofs.MapsOfSets.{get_seen, has_seen}
 use Rattle.fab_maps.proofs.Passing.{seen_some}
 use Rattle.fab_zoning.specs.declared.flag.DefaultFlag.{DefaultFlag}
-use Rattle.fab_zoning.specs.Rows.{Row, Rows, row_cmp}
+use Rattle.fab_zoning.specs.Rows.{Rows}
 use Rattle.fab_zoning.specs.Views.{seen_rows}
 use Rattle.fab_zoning.specs.Zonings.{FabricZoning, NamedSets, permits}
 use Rattle.fab_zoning.specs.Soundness.{AreListings, AreSoundDefinitions, IsSoundActive}
 use Rattle.fab_zoning.proofs.RowSets.{row_total, row_exact, contains_seen}
 use Rattle.fab_reach.specs.Records.{ConfigRows, zoning_at}
 use Rattle.fab_rows.specs.declared.config_row.ConfigRow.{ConfigRow}
-use Rattle.fab_rows.specs.Standing.{Stands}
 use Rattle.fab_load.specs.Rows.{AreRows, IsIn, HasItems, HasRepeat, StandsIn}
 use Rattle.fab_load.specs.Kinds.{Named, active_set_row, default_zone_row, alias_row, zone_row, set_row, active_row}
 use Rattle.fab_load.specs.Configs.{AreConfigRows, SettingSays, IsPair, ZoningSays, HasNoEmpty, HasNoEmptySet, HasSoundDefinitions, HasSoundActive}

@@ -1,39 +1,30 @@
 -- Host groups and storage groups by their rows.
-use Rattle.std.proofs.Common.{ℕ, ◌≡◌, ◌≤◌, ◌<◌, List, [], ◌∷◌, length, Contains, Option, None, Some, is_some, IsSome, Bool, true, false, cond, ◌&&◌, ◌||◌, refl, sym, ap, ◌∙◌, subst, arith}
+use Rattle.std.proofs.Common.{ℕ, ◌≡◌, List, [], ◌∷◌, Option, None, Some, is_some, Bool, true, false, cond, ◌||◌, refl, sym, ap, ◌∙◌, subst}
 use mathlib.Core.Bool.{true≢false}
 use Rattle.std.specs.declared.cmp.Ordering.{Ordering}
 use Rattle.std.specs.BTreeMap as tree
 use Rattle.std.specs.BTreeMap.{BTreeMap, is_at}
-use Rattle.std.specs.BTreeSet.{BTreeSet, contains}
-use Rattle.std.specs.Cmp.{IsTotalOrder, Equal-is, eq_by_cmp_equiv, nat_cmp_total}
+use Rattle.std.specs.BTreeSet.{BTreeSet}
+use Rattle.std.specs.Cmp.{IsTotalOrder, eq_by_cmp_equiv}
 use Rattle.std.specs.FinMap as map
 use Rattle.std.specs.FinSet as set
 use Rattle.std.specs.List.{list_all, list_any}
 use Rattle.std.specs.Map.{lookup, keys_of}
 use Rattle.std.specs.Option.{option_map, option_and_then}
-use Rattle.std.specs.Ordering.{nat_cmp, eq_by_cmp}
+use Rattle.std.specs.Ordering.{eq_by_cmp}
 use Rattle.std.proofs.lemmas.List.Elements.{All-contains}
 use Rattle.std.proofs.lemmas.List.Sums.{AllPass-from_list_all, list_all-from_AllPass}
 use Rattle.std.proofs.lemmas.Map.Views.{All-from_any, Contains-from_any, tells_apart}
 use Rattle.fab_names.specs.Orders.{name_cmp}
 use Rattle.fab_names.proofs.OrderLaws.{name_total, name_exact}
 use Rattle.fab_maps.specs.Firsts.{HasAt}
-use Rattle.fab_maps.specs.MapsOfSets.{in_tree, tree_has, seen_set}
+use Rattle.fab_maps.specs.MapsOfSets.{in_tree}
 use Rattle.fab_maps.proofs.SeenMaps.{get_entries}
-use Rattle.fab_mapping_base.specs.Groups.{HostGroupRows, StorageGroupRows}
-use Rattle.fab_reach.specs.Records.{ConfigRows}
 use Rattle.fab_rows.specs.declared.config_row.ConfigRow.{ConfigRow}
-use Rattle.fab_rows.specs.declared.config_row.StoragePart.TheVariants as part
-use Rattle.fab_rows.specs.Standing.{Stands, IsHostHead, IsStorageHead, HasPart}
-use Rattle.fab_load.specs.declared.kinds.Head.{Head}
-use Rattle.fab_load.specs.declared.groups.Parts.{Parts}
-use Rattle.fab_load.specs.Rows.{AreRows, IsIn, IsAt, at, HasItems, HasEntries, StandsIn}
-use Rattle.fab_load.specs.Kinds.{Named, host_group_row, storage_group_row, host_row, served_row, target_row, unit_row}
-use Rattle.fab_load.specs.Assembled.{set_at, map_at, host_group_at, storage_group_at}
-use Rattle.fab_load.specs.Parts.{HaveParts}
-use Rattle.fab_load.specs.Configs.{AreConfigRows, HostGroupsSay, StorageGroupsSay}
-use Rattle.fab_load.proofs.Saying.{rows_same, one_look_up}
-use Rattle.fab_load.proofs.FabricRows.{same_test}
+use Rattle.fab_load.specs.Rows.{AreRows, at, StandsIn}
+use Rattle.fab_load.specs.Kinds.{Named}
+use Rattle.fab_load.specs.Assembled.{set_at, map_at}
+use Rattle.fab_load.proofs.Saying.{one_look_up}
 
 -- ---- tests of all keys
 module _ {K X : Type 0} {R : K → K → Ordering} (o : IsTotalOrder R) (exact : set.IsAntisymmetric R) (test : K → Bool) where

@@ -5,3 +5,4 @@ pub mod FabricRows
 pub mod Assembling
 pub mod GroupRows
 pub mod MappingRows
+pub mod WholeRows

@@ -1,14 +1,14 @@
 -- The mapping of a configuration by its rows.
-use Rattle.std.proofs.Common.{ℕ, ◌≡◌, ◌≤◌, ◌<◌, List, [], ◌∷◌, length, Contains, cond, Option, None, Some, is_some, IsSome, Bool, true, false, ◌&&◌, refl, sym, ap, ◌∙◌, subst, arith, MatchOption}
+use Rattle.std.proofs.Common.{ℕ, ◌≡◌, ◌≤◌, List, [], ◌∷◌, length, cond, Option, None, Some, is_some, IsSome, Bool, true, refl, sym, ap, ◌∙◌, subst, arith, MatchOption}
 use mathlib.Core.Bool.{true≢false}
 use Rattle.std.specs.declared.cmp.Ordering.{Ordering}
 use Rattle.std.specs.BTreeMap as tree
-use Rattle.std.specs.BTreeMap.{BTreeMap, is_at}
-use Rattle.std.specs.BTreeSet.{BTreeSet, contains}
+use Rattle.std.specs.BTreeMap.{BTreeMap}
+use Rattle.std.specs.BTreeSet.{BTreeSet}
 use Rattle.std.specs.Cmp.{eq_by_cmp_equiv, nat_cmp_total}
 use Rattle.std.specs.FinMap as map
 use Rattle.std.specs.FinSet as set
-use Rattle.std.specs.List.{list_all, list_any}
+use Rattle.std.specs.List.{list_all}
 use Rattle.std.specs.Map.{lookup, keys_of}
 use Rattle.std.specs.Option.{option_map, option_and_then}
 use Rattle.std.specs.Ordering.{nat_cmp, eq_by_cmp}
@@ -22,18 +22,20 @@ use Rattle.fab_maps.specs.MapsOfSets.{in_tree, tree_has}
 use Rattle.fab_maps.proofs.SeenMaps.{get_entries}
 use Rattle.fab_maps.proofs.Tests.{both, left, right}
 use Rattle.fab_mapping_base.specs.Groups.{HostGroupRows, StorageGroupRows}
+use Rattle.fab_mapping_base.specs.declared.nexus.Nexus.{Nexus}
+use Rattle.fab_mapping.specs.Mappings.{MappingRows, HasNoClash, IsLeastClash}
 use Rattle.fab_reach.specs.Records.{ConfigRows}
 use Rattle.fab_rows.specs.declared.config_row.ConfigRow.{ConfigRow}
 use Rattle.fab_rows.specs.declared.config_row.StoragePart.TheVariants as part
-use Rattle.fab_rows.specs.Standing.{Stands, IsHostHead, IsStorageHead, HasPart}
+use Rattle.fab_rows.specs.Standing.{IsHostHead, IsStorageHead, HasPart}
 use Rattle.fab_load.specs.declared.kinds.Head.{Head}
 use Rattle.fab_load.specs.declared.groups.Parts.{Parts}
-use Rattle.fab_load.specs.Rows.{AreRows, IsIn, IsAt, at, HasItems, HasEntries, StandsIn}
+use Rattle.fab_load.specs.Rows.{AreRows, IsIn, IsAt, at, HasItems, StandsIn}
 use Rattle.fab_load.specs.Kinds.{Named, host_group_row, storage_group_row, host_row, served_row, target_row, unit_row}
 use Rattle.fab_load.specs.Assembled.{set_at, map_at, host_group_at, storage_group_at}
 use Rattle.fab_load.specs.Parts.{HaveParts, are_parts_known}
 use Rattle.fab_load.specs.Configs.{AreConfigRows, HostGroupsSay, StorageGroupsSay}
-use Rattle.fab_load.proofs.GroupRows.{key_passes, each_key_passes, any_found, found_in_set, found_in_map, some_one, one_test, one_found, heads_of_groups, heads_alike, made_heads, made_parts, part_of_group, part_has_head, groups_are_made}
+use Rattle.fab_load.proofs.GroupRows.{key_passes, each_key_passes, any_found, found_in_set, found_in_map, one_test, one_found, heads_of_groups, heads_alike, made_heads, made_parts, part_of_group, part_has_head, groups_are_made}
 
 -- whether a name has a head
 abbrev pub knows : {H : Type 0} → BTreeMap (List ℕ) H → List ℕ → Bool
@@ -255,3 +257,7 @@ one_mapping rows c all host_groups groups only_hosts only =
     let a = only_hosts c.mapping.host_groups (host_groups_say rows c all) in
     let b = only c.mapping.groups (storage_groups_say rows c all) in
     λ i. record { host_groups = a i; groups = b i }
+
+-- a clash that was found stands
+pub clash_stands : (m : MappingRows) (o : Option Nexus) (n : Nexus) → o ≡ Some n → MatchOption o (HasNoClash m) (IsLeastClash m) → ¬ HasNoClash m
+clash_stands m o n is h none = let least = subst (λ x. MatchOption x (HasNoClash m) (IsLeastClash m)) is h in none n least.0

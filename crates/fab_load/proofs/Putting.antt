@@ -1,5 +1,5 @@
 -- One entry more under a name.
-use Rattle.std.proofs.Common.{◌≡◌, List, [], ◌⊎◌, inl, inr, ⊎_elim, Option, None, Some, Bool, true, false, cond, refl, sym, ap, ◌∙◌, subst}
+use Rattle.std.proofs.Common.{◌≡◌, [], ◌⊎◌, inl, inr, ⊎_elim, Option, None, Some, Bool, true, false, cond, refl, sym, ap, ◌∙◌, subst}
 use mathlib.Core.Bool.{true≢false}
 use Rattle.std.specs.declared.cmp.Ordering.{Ordering}
 use Rattle.std.specs.Ordering.{is_eq, eq_by_cmp}

@@ -1,5 +1,5 @@
 -- Inventories by their rows.
-use Rattle.std.proofs.Common.{ℕ, ◌≡◌, List, Contains, Option, None, Some, Result, Ok, Err, sym, ap, ◌∙◌, subst, refl, MatchOption}
+use Rattle.std.proofs.Common.{ℕ, ◌≡◌, List, Option, None, Some, ap, ◌∙◌, subst, refl, MatchOption}
 use Rattle.std.specs.declared.cmp.Ordering.{Ordering}
 use Rattle.std.specs.BTreeMap as tree
 use Rattle.std.specs.BTreeMap.{BTreeMap}
@@ -25,9 +25,6 @@ use Rattle.fab_rows.specs.declared.inventory_row.HolderRow.{HolderRow}
 use Rattle.fab_rows.specs.declared.inventory_row.VolumeRow.{VolumeRow}
 use Rattle.fab_rows.specs.declared.inventory_row.InventoryRow.TheVariants as row
 use Rattle.fab_rows.specs.Standing.{IsKnown}
-use Rattle.fab_load.specs.declared.fault.LoadFault.{LoadFault}
-use Rattle.fab_load.specs.declared.fault.LoadFault.TheVariants.{Damaged, Memory}
-use Rattle.fab_load.specs.declared.fault.Table.{Table}
 use Rattle.fab_load.specs.declared.fault.Table.TheVariants.{Ports, Holders, Volumes}
 use Rattle.fab_load.specs.Rows.{AreRows, HasRepeat, StandsIn}
 use Rattle.fab_load.specs.Kinds.{Named, port_row, holder_row, volume_row}

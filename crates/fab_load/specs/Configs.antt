@@ -5,7 +5,6 @@ use Rattle.std.specs.FinMap as map
 use Rattle.std.specs.FinSet as set
 use Rattle.fab_names.specs.declared.fabric.Fabric.{Fabric}
 use Rattle.fab_names.specs.declared.fabric.Fabric.TheVariants.{A, B}
-use Rattle.fab_names.specs.declared.member.Member.{Member}
 use Rattle.fab_names.specs.Orders.{name_cmp}
 use Rattle.fab_maps.specs.Firsts.{HasAt}
 use Rattle.fab_maps.specs.MapsOfSets.{MapOfSets, has}
@@ -23,7 +22,7 @@ use Rattle.fab_rows.specs.Standing.{Stands, IsHostHead, IsStorageHead, HasPart}
 use Rattle.fab_load.specs.declared.fault.Table.{Table}
 use Rattle.fab_load.specs.declared.fault.Table.TheVariants.{Zoning, Active, Groups, GroupParts}
 use Rattle.fab_load.specs.Rows.{AreRows}
-use Rattle.fab_load.specs.Kinds.{Named, active_set_row, default_zone_row, alias_row, zone_row, set_row, active_row, host_group_row, storage_group_row, host_row, served_row, target_row, unit_row}
+use Rattle.fab_load.specs.Kinds.{active_set_row, default_zone_row, alias_row, zone_row, set_row, active_row, host_group_row, storage_group_row, host_row, served_row, target_row, unit_row}
 use Rattle.fab_load.specs.Inventories.{AreAll}
 
 -- the rows are those that stand in the configuration

@@ -1,5 +1,5 @@
 -- The rows of an inventory.
-use Rattle.std.specs.Prelude.{◌≡◌, ◌↔◌, List, Contains}
+use Rattle.std.specs.Prelude.{◌↔◌, List, Contains}
 use Rattle.fab_inventory.specs.declared.port.Port.{Port}
 use Rattle.fab_inventory.specs.declared.fault.RestoreFault.{RestoreFault}
 use Rattle.fab_inventory.specs.declared.fault.RestoreFault.TheVariants as restore

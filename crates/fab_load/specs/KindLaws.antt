@@ -1,5 +1,5 @@
 -- What a row says is said by one row, of each kind: laws of the trait of kinds.
-use Rattle.std.proofs.Common.{ℕ, ◌≡◌, List, Option, None, Some, Bool, refl, sym, ap, ◌∙◌}
+use Rattle.std.proofs.Common.{ℕ, ◌≡◌, List, Option, None, Some, Bool, refl, ap, ◌∙◌}
 use Rattle.std.specs.Option.{option_and_then}
 use Rattle.fab_names.specs.declared.fabric.Fabric.{Fabric}
 use Rattle.fab_names.specs.declared.fabric.Fabric.TheVariants.{A, B}
@@ -14,7 +14,6 @@ use Rattle.fab_rows.specs.declared.config_row.ZoningItem.{ZoningItem}
 use Rattle.fab_rows.specs.declared.config_row.ZoningItem.TheVariants.{Alias, Zone, Set}
 use Rattle.fab_rows.specs.declared.config_row.GroupRow.{GroupRow}
 use Rattle.fab_rows.specs.declared.config_row.GroupRow.TheVariants as group
-use Rattle.fab_rows.specs.declared.config_row.StoragePart.{StoragePart}
 use Rattle.fab_rows.specs.declared.config_row.StoragePart.TheVariants as part
 use Rattle.fab_rows.specs.declared.config_row.PartRow.{PartRow}
 use Rattle.fab_rows.specs.declared.config_row.PartRow.TheVariants as parts

@@ -15,7 +15,6 @@ use Rattle.fab_rows.specs.declared.config_row.ZoningItem.{ZoningItem}
 use Rattle.fab_rows.specs.declared.config_row.ZoningItem.TheVariants.{Alias, Zone, Set}
 use Rattle.fab_rows.specs.declared.config_row.GroupRow.{GroupRow}
 use Rattle.fab_rows.specs.declared.config_row.GroupRow.TheVariants as group
-use Rattle.fab_rows.specs.declared.config_row.StoragePart.{StoragePart}
 use Rattle.fab_rows.specs.declared.config_row.StoragePart.TheVariants as part
 use Rattle.fab_rows.specs.declared.config_row.PartRow.{PartRow}
 use Rattle.fab_rows.specs.declared.config_row.PartRow.TheVariants as parts

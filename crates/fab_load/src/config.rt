@@ -6,7 +6,7 @@ ghost use Rattle.fab_load.specs.Configs.{AreConfigRows, ConfigIsSound, ConfigPar
 
 use crate::LoadFault;
 use crate::mappings::mapping_of;
-use crate::zonings::zonings_of;
+use crate::zonings::{Zonings, zonings_of};
 use fab_reach::Config;
 use fab_rows::ConfigRow;
 use std::alloc::Allocator;
@@ -35,9 +35,6 @@ pub fn config_of<A: Allocator + Copy>(alloc: A, rows: &[ConfigRow]) -> Result<Co
         Ok(mapping) => mapping,
         Err(fault) => return Err(fault),
     };
-    Ok(Config {
-        a: zonings.a,
-        b: zonings.b,
-        mapping,
-    })
+    let Zonings { a, b } = zonings;
+    Ok(Config { a, b, mapping })
 }

@@ -1,12 +1,10 @@
 use Rattle.std.proofs.Common.{sym, ◌∙◌, subst}
 use mathlib.Core.Bool.{true≢false}
 use Rattle.std.specs.FinMap as map
-use Rattle.fab_names.specs.Orders.{name_cmp}
-use Rattle.fab_mapping_base.specs.Groups.{HostGroupRows, StorageGroupRows}
-use Rattle.fab_mapping.specs.Mappings.{MappingRows, HasNoClash}
+use Rattle.fab_mapping.specs.Mappings.{MappingRows, HasNoClash, IsLeastClash}
 use Rattle.fab_mapping.specs.Soundness.{IsSound}
 use Rattle.fab_load.specs.Configs.{HostGroupsSay, StorageGroupsSay}
-use Rattle.fab_load.proofs.MappingRows.{host_groups_say, storage_groups_say, found_groups, no_groups, one_mapping, OnlyHostGroups, OnlyGroups, NoHostGroups, NoGroups}
+use Rattle.fab_load.proofs.MappingRows.{host_groups_say, storage_groups_say, found_groups, no_groups, one_mapping, clash_stands, OnlyHostGroups, OnlyGroups, NoHostGroups, NoGroups}
 use Rattle.fab_load.proofs.mappings.mapping_of.Goals as goal
 
 pub returns-in_default-clause-damaged : goal.returns-in_default-clause-damaged
@@ -22,12 +20,12 @@ returns-then-not-is_sound-clause-damaged g c w all sound =
     let same = one_mapping c.args.rows.now w all c.in-Some.host_groups c.in-Some-2.groups hosts groups ∙ sym c.from_maps-mapping.ensures in
     true≢false (sym (c.is_sound.ensures.1 (subst IsSound same sound.0)) ∙ c.if-not-is_sound.true)
 
-pub returns-in-Some-clash-clause-damaged : goal.returns-in-Some-clash-clause-damaged
-returns-in-Some-clash-clause-damaged g c w all sound =
+pub returns-in-Some-3-clause-damaged : goal.returns-in-Some-3-clause-damaged
+returns-in-Some-3-clause-damaged g c w all sound =
     let hosts = found_groups (OnlyHostGroups c.args.rows.now) (NoHostGroups c.args.rows.now) c.in_ok-host_groups.field-0 c.in-Some.host_groups c.in-Some.is c.in_ok-host_groups.ensures.only in
     let groups = found_groups (OnlyGroups c.args.rows.now) (NoGroups c.args.rows.now) c.in_ok-groups.field-0 c.in-Some-2.groups c.in-Some-2.is c.in_ok-groups.ensures.only in
     let same = one_mapping c.args.rows.now w all c.in-Some.host_groups c.in-Some-2.groups hosts groups ∙ sym c.from_maps-mapping.ensures in
-    ?
+    clash_stands c.from_maps-mapping.result c.in_ok-_nexus.field-0 _ c.in-Some-3.is c.in_ok-_nexus.ensures (subst HasNoClash same sound.1)
 
 pub returns-clause-host_groups : goal.returns-clause-host_groups
 returns-clause-host_groups g c =
@@ -40,4 +38,4 @@ returns-clause-groups g c =
     (found_groups (λ t. StorageGroupsSay c.args.rows.now (map.from_entries t.entries)) (Unit {0}) c.in_ok-groups.field-0 c.in-Some-2.groups c.in-Some-2.is c.in_ok-groups.ensures.rows)
 
 pub returns-clause-sound : goal.returns-clause-sound
-returns-clause-sound g c = ?
+returns-clause-sound g c = (c.is_sound.ensures.0 c.if-not-is_sound.false, no_groups (IsLeastClash c.from_maps-mapping.result) (HasNoClash c.from_maps-mapping.result) c.in_ok-_nexus.field-0 c.in_default-3.is c.in_ok-_nexus.ensures)

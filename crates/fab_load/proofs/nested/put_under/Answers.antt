@@ -1,7 +1,6 @@
-use Rattle.std.proofs.Common.{◌≡◌, Bool, true, false, cond, Option, Some, None, sym, ap, ◌∙◌, subst, refl, inr, rules}
+use Rattle.std.proofs.Common.{Bool, true, false, cond, Some, ap, ◌∙◌, subst, refl, inr, rules}
 use Rattle.std.specs.Bool.{OnTrue}
-use Rattle.std.specs.Option.{option_and_then}
-use Rattle.std.specs.BTreeMap.{BTreeMap, get, is_at}
+use Rattle.std.specs.BTreeMap.{get, is_at}
 use Rattle.fab_load.specs.Rows.{StandsIn}
 use Rattle.fab_load.specs.Puts.{Puts}
 use Rattle.fab_load.proofs.Putting.{puts_under, puts_apart, puts_first_entry, some_under, FoundIn}

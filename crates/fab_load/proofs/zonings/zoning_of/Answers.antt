@@ -1,5 +1,4 @@
 use Rattle.std.proofs.Common.{sym, subst}
-use Rattle.fab_names.specs.Orders.{name_cmp, member_cmp}
 use Rattle.fab_names.proofs.OrderLaws.{name_total, name_exact, member_total, member_exact}
 use Rattle.fab_load.specs.Kinds.{alias_row, zone_row, set_row}
 use Rattle.fab_load.specs.Configs.{ZoningSays, HasNoEmptySet}

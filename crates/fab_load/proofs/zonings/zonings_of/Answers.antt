@@ -1,7 +1,7 @@
 use Rattle.std.proofs.Common.{sym, ◌∙◌}
 use mathlib.Core.Bool.{true≢false}
 use Rattle.fab_names.specs.declared.fabric.Fabric.TheVariants.{A, B}
-use Rattle.fab_load.specs.Configs.{SettingSays, AreConfigRows}
+use Rattle.fab_load.specs.Configs.{SettingSays}
 use Rattle.fab_load.proofs.FabricRows.{zoning_says, setting_says, definitions_go_over, active_goes_over, one_name, found_setting, found_none}
 use Rattle.fab_load.proofs.zonings.zonings_of.Goals as goal
 
