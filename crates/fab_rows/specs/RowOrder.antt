@@ -1,5 +1,4 @@
--- The orders of rows: of a configuration by table and then by the table's columns, of an inventory
--- by table and then by key.
+-- The order of the rows of a configuration: by table, and then by the columns of the table.
 use Rattle.std.specs.Prelude.{ℕ}
 use Rattle.std.specs.declared.cmp.Ordering.{Ordering}
 use Rattle.std.specs.declared.cmp.Ordering.TheVariants.{Less, Equal, Greater}

@@ -1,5 +1,5 @@
-//! The rows of an inventory and of a configuration as typed values: which stand, the list of all of
-//! them, and the differences of two configurations.
+//! The rows of an inventory and of a configuration as typed values, and which stand; the list of all
+//! of a configuration's, and the differences of two configurations.
 #![tactic(auto)]
 
 mod config_row;
