@@ -6,3 +6,6 @@ pub mod ZoningCases
 pub mod MappingCases
 pub mod StepCases
 pub mod Running
+pub mod OneFirst
+pub mod OneStep
+pub mod OnePlan
