@@ -12,7 +12,7 @@ use Rattle.fab_maps.specs.Firsts.{IsFirstWithout}
 use Rattle.fab_maps.specs.MapsOfSets.{MapOfSets, IsFirstUser}
 use Rattle.fab_inventory.specs.Inventories.{InventoryRows, IsHost}
 use Rattle.fab_zoning.specs.Resolved.{AreResolved}
-use Rattle.fab_zoning.specs.Rows.{Row, Rows}
+use Rattle.fab_zoning.specs.Rows.{Rows}
 use Rattle.fab_zoning.specs.Steps.{HasAlias, HasZone}
 use Rattle.fab_zoning.specs.Zonings.{FabricZoning}
 use Rattle.fab_zoning.proofs.RowSets.{row_total, row_exact}
