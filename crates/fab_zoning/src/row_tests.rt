@@ -46,9 +46,30 @@ const LISTED: [(&[Texts], &[Texts]); 4] = [
     ),
 ];
 
+fn zone_of(text: &str) -> Result<Name, Fail> {
+    Ok(Name::read(text)?)
+}
+
+fn member_of(text: &str) -> Result<Member, Fail> {
+    Ok(Member::read(text)?)
+}
+
+/// The text of a numbered name.
+fn numbered_text(alloc: Global, number: u32) -> Result<String, Fail> {
+    Ok(format!(in alloc; "n{number}")?)
+}
+
+/// The name of this number.
+pub(crate) fn numbered(alloc: Global, number: u32) -> Result<Name, Fail> {
+    let text = numbered_text(alloc, number)?;
+    zone_of(text.as_str())
+}
+
 /// The row that the texts spell.
 fn row_of(texts: Texts) -> Result<(Name, Member), Fail> {
-    Ok((Name::read(texts.0)?, Member::read(texts.1)?))
+    let zone = zone_of(texts.0)?;
+    let member = member_of(texts.1)?;
+    Ok((zone, member))
 }
 
 /// Adds a row to the zones of each member.

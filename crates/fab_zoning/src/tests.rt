@@ -2,6 +2,7 @@
 ghost use Rattle.std.specs.Prelude.{All, IfOk};
 ghost use Rattle.fab_zoning.specs.Rows.{IsPlain};
 
+use crate::row_tests::numbered;
 use crate::{DefaultFlag, Why, Zoning, ZoningFault, ZoningLimit, ZoningParts};
 use fab_inventory::Port;
 use fab_names::{Fabric, Member, Name, Place, Wwn};
@@ -457,12 +458,6 @@ enum Kind {
     Alias,
     Zone,
     Set,
-}
-
-/// The name of this number.
-fn numbered(alloc: Global, number: u32) -> Result<Name, Fail> {
-    let text = format!(in alloc; "n{number}")?;
-    Ok(Name::read(&text)?)
 }
 
 /// Puts one: of a port, of a node, of a zone that is there.
