@@ -1,0 +1,87 @@
+//! Two configurations: a new one, and the one that the first worked plan makes of it.
+
+use crate::lines::{name, port};
+use fab_mapping::{HostGroup, Mapping, StorageGroup};
+use fab_names::{Fabric, Member, Name, Wwn};
+use fab_reach::Config;
+use fab_zoning::Zoning;
+use std::alloc::Global;
+use std::collections::{BTreeMap, BTreeSet};
+use std::test::Fail;
+
+/// The initiator `i1`.
+pub const I1: u64 = 0x1000_0000_0000_0001;
+
+/// The target `t1`.
+pub const TP1: u64 = 0x5000_0000_0000_0001;
+
+/// The configuration of a new desk.
+pub fn new_config(alloc: Global) -> Config<Global> {
+    Config {
+        a: Zoning::new(alloc, Fabric::A),
+        b: Zoning::new(alloc, Fabric::B),
+        mapping: Mapping::new(alloc),
+    }
+}
+
+/// The alias, the zone and the zone set of the plan, which is active.
+fn zone(zoning: &mut Zoning<Global>) -> Result<(), Fail> {
+    let (disk, z1, s1) = (name("disk")?, name("z1")?, name("s1")?);
+    zoning.put_alias(disk, &[Member::Port(port(TP1)?)])?;
+    zoning.put_zone(z1, &[Member::Port(port(I1)?), Member::Alias(disk)])?;
+    zoning.put_set(s1, &[z1])?;
+    zoning.activate(&s1)?;
+    Ok(())
+}
+
+/// The names of one.
+fn names(alloc: Global, one: &str) -> Result<BTreeSet<Name, Global>, Fail> {
+    let mut names = BTreeSet::new(alloc);
+    names.insert(name(one)?)?;
+    Ok(names)
+}
+
+/// The target of the plan.
+fn targets(alloc: Global) -> Result<BTreeSet<Wwn, Global>, Fail> {
+    let mut targets = BTreeSet::new(alloc);
+    targets.insert(port(TP1)?)?;
+    Ok(targets)
+}
+
+/// The unit of the plan.
+fn units(alloc: Global) -> Result<BTreeMap<u16, Name, Global>, Fail> {
+    let mut units = BTreeMap::new(alloc);
+    units.insert(0, name("v1")?)?;
+    Ok(units)
+}
+
+fn host_groups(alloc: Global) -> Result<BTreeMap<Name, HostGroup<Global>, Global>, Fail> {
+    let mut groups = BTreeMap::new(alloc);
+    let group = HostGroup::from_parts(name("blue")?, names(alloc, "db1")?);
+    groups.insert(name("hosts1")?, group)?;
+    Ok(groups)
+}
+
+fn storage_group(alloc: Global, exposed: bool) -> Result<StorageGroup<Global>, Fail> {
+    let hosts = names(alloc, "hosts1")?;
+    let (targets, units) = (targets(alloc)?, units(alloc)?);
+    Ok(StorageGroup::from_parts(name("blue")?, name("arr1")?, hosts, targets, units, exposed))
+}
+
+fn groups(
+    alloc: Global,
+    exposed: bool,
+) -> Result<BTreeMap<Name, StorageGroup<Global>, Global>, Fail> {
+    let mut groups = BTreeMap::new(alloc);
+    groups.insert(name("g1")?, storage_group(alloc, exposed)?)?;
+    Ok(groups)
+}
+
+/// The configuration after the plan, its storage group exposed or hidden.
+pub fn planned(alloc: Global, exposed: bool) -> Result<Config<Global>, Fail> {
+    let mut a = Zoning::new(alloc, Fabric::A);
+    zone(&mut a)?;
+    let b = Zoning::new(alloc, Fabric::B);
+    let mapping = Mapping::from_maps(alloc, host_groups(alloc)?, groups(alloc, exposed)?);
+    Ok(Config { a, b, mapping })
+}
