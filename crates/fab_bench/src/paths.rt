@@ -36,13 +36,6 @@ pub struct Listing {
     paths: usize,
 }
 
-impl Listing {
-    /// The world.
-    pub fn into_world(self) -> (Inventory<Global>, Config<Global>) {
-        (self.inventory, self.config)
-    }
-}
-
 impl Turn for Listing {
     fn turn(&mut self) -> bool {
         match plain_paths(self.alloc, &self.inventory, &self.config) {
