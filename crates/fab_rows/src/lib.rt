@@ -1,5 +1,6 @@
 //! The rows of an inventory and of a configuration as typed values, and which stand; the list of all
-//! of a configuration's, and the differences of two configurations.
+//! of a configuration's, and the differences of two configurations; the types of the rows of plans,
+//! approvals, changes to undo, and paths.
 #![tactic(auto)]
 
 mod config_row;
@@ -8,6 +9,7 @@ mod inventory_row;
 pub mod laws;
 mod listing;
 mod makers;
+mod record_row;
 mod standing;
 
 pub use config_row::{
@@ -16,4 +18,5 @@ pub use config_row::{
 };
 pub use inventory_row::{HolderRow, InventoryRow, VolumeRow};
 pub use listing::{RowDifference, config_rows, difference, undone};
+pub use record_row::{ApprovalRow, PathRow, PlanRow, PlanState, Sign, UndoRow};
 pub use standing::has_row;

@@ -1,0 +1,67 @@
+//! Rows of the tables of plans, approvals, changes to undo, and paths.
+
+use crate::ConfigRow;
+use fab_names::Name;
+use fab_reach::Path;
+
+/// The state of a plan.
+#[derive(Clone, Copy, Debug, PartialEq, Eq)]
+pub enum PlanState {
+    /// It waits for its activation.
+    Staged,
+    /// It was activated, and its activation is in force.
+    Active,
+    /// Its activation was undone.
+    RolledBack,
+    /// It was withdrawn before it was activated.
+    Withdrawn,
+}
+
+/// A plan.
+#[derive(Clone, Copy, Debug, PartialEq, Eq)]
+pub struct PlanRow<'a> {
+    pub name: Name,
+    /// Who staged it.
+    pub author: Name,
+    /// The printed form of its steps.
+    pub text: &'a str,
+    pub state: PlanState,
+    /// Its place among the activations in force, 1 for the oldest; 0 where it is not active.
+    pub position: u64,
+}
+
+/// An approval of a plan.
+#[derive(Clone, Copy, Debug, PartialEq, Eq)]
+pub struct ApprovalRow {
+    pub plan: Name,
+    /// Who approved.
+    pub caller: Name,
+    /// The revision at which it was given.
+    pub revision: u64,
+}
+
+/// What an activation did with a row.
+#[derive(Clone, Copy, Debug, PartialEq, Eq)]
+pub enum Sign {
+    /// It took the row away.
+    Taken,
+    /// It added the row.
+    Added,
+}
+
+/// A row that the activation of an active plan took away or added.
+#[derive(Clone, Copy, Debug, PartialEq, Eq)]
+pub struct UndoRow {
+    pub plan: Name,
+    pub sign: Sign,
+    pub row: ConfigRow,
+}
+
+/// A path of a host.
+///
+/// Ordered by host, then by path.
+#[derive(Clone, Copy, Debug, PartialEq, Eq, PartialOrd, Ord)]
+pub struct PathRow {
+    pub host: Name,
+    pub path: Path,
+}
