@@ -1,4 +1,4 @@
 pub mod Refused
-pub mod Texts
 pub mod Unique
 pub mod UniqueConfig
+pub mod UniquePlan

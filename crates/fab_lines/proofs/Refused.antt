@@ -1,5 +1,5 @@
 -- Columns of one kind that show nothing of it show no row.
-use Rattle.std.proofs.Common.{ℕ, ℤ, ◌≡◌, List, [], Option, None, Some, MatchOption, codes, get_or, sym, ap, ◌∙◌, subst, arith}
+use Rattle.std.proofs.Common.{ℕ, ℤ, ◌≡◌, List, Option, None, Some, MatchOption, codes, get_or, sym, ap, ◌∙◌, subst, arith}
 use Rattle.fab_names.specs.Names.{SpellsName}
 use Rattle.fab_names.specs.Members.{SpellsPrinted}
 use Rattle.fab_names.specs.declared.member.Member.{Member}

@@ -1,13 +1,8 @@
 -- A line shows one row at most, and a row is shown by one line.
-use Rattle.std.proofs.Common.{ℕ, ℤ, pos, ◌≡◌, ◌<◌, ◌≤◌, ◌^◌, List, [], Option, None, Some, Bool, true, false, codes, get_or, refl, sym, ap, ◌∙◌, arith, lit<}
+use Rattle.std.proofs.Common.{ℕ, ℤ, pos, ◌≡◌, ◌<◌, ◌^◌, List, Option, None, Some, Bool, true, false, get_or, refl, sym, ap, ◌∙◌, arith}
 use Rattle.fab_names.specs.Names.{SpellsName}
-use Rattle.fab_names.specs.Fabrics.{SpellsFabric}
-use Rattle.fab_names.specs.Members.{SpellsPrinted}
-use Rattle.fab_names.specs.WorldWideNames.{SpellsPlain}
 use Rattle.fab_names.specs.Places.{Position}
 use Rattle.fab_names.specs.declared.fabric.Fabric.{Fabric}
-use Rattle.fab_names.specs.declared.fabric.Fabric.TheVariants.{A, B}
-use Rattle.fab_names.specs.declared.member.Member.{Member}
 use Rattle.fab_names.proofs.Unique as unique
 use Rattle.fab_names.proofs.Numerals as numerals
 use Rattle.fab_inventory.specs.declared.port.Port.{Port}
@@ -15,9 +10,9 @@ use Rattle.fab_inventory.specs.declared.holder.HolderKind.{HolderKind}
 use Rattle.fab_inventory.specs.declared.holder.HolderKind.TheVariants.{Host, Array}
 use Rattle.fab_rows.specs.declared.inventory_row.HolderRow.{HolderRow}
 use Rattle.fab_rows.specs.declared.inventory_row.VolumeRow.{VolumeRow}
-use Rattle.fab_lines.specs.Columns.{ShowsOption, ShowsNumber, ShowsDecimal, ShowsPlace, ShowsAt, kind_text, flag_number}
+use Rattle.fab_lines_base.specs.Columns.{ShowsOption, ShowsNumber, ShowsDecimal, ShowsPlace, ShowsAt, kind_text, flag_number}
 use Rattle.fab_lines.specs.InventoryLines.{PortColumns, ShowsPort, HolderColumns, ShowsHolder, VolumeColumns, ShowsVolume}
-use Rattle.fab_lines.proofs.Texts.{decimal_spells}
+use Rattle.fab_lines_base.proofs.Texts.{decimal_spells}
 
 -- ---- columns
 

@@ -1,6 +1,6 @@
 -- A line of a configuration's tables, of approvals or of paths shows one row at most, and a row is
 -- shown by one line.
-use Rattle.std.proofs.Common.{ℕ, pos, ◌≡◌, ◌<◌, ◌≤◌, ◌^◌, ◌∷◌, List, [], Option, None, Some, Bool, true, false, codes, get_or, refl, sym, ap, ◌∙◌, arith, lit<}
+use Rattle.std.proofs.Common.{ℕ, ◌≡◌, ◌∷◌, List, [], Option, None, Some, Bool, true, false, codes, get_or, refl, sym, ap, ◌∙◌, arith, lit<}
 use mathlib.Core.Bool.{true≢false}
 use Rattle.fab_names.specs.Names.{SpellsName}
 use Rattle.fab_names.specs.declared.fabric.Fabric.{Fabric}
@@ -14,14 +14,13 @@ use Rattle.fab_rows.specs.declared.config_row.ZoningRow.{ZoningRow}
 use Rattle.fab_rows.specs.declared.config_row.ActiveRow.{ActiveRow}
 use Rattle.fab_rows.specs.declared.config_row.GroupRow.{GroupRow}
 use Rattle.fab_rows.specs.declared.config_row.GroupRow.TheVariants as group
-use Rattle.fab_rows.specs.declared.config_row.StoragePart.{StoragePart}
 use Rattle.fab_rows.specs.declared.config_row.StoragePart.TheVariants as part
 use Rattle.fab_rows.specs.declared.config_row.PartRow.{PartRow}
 use Rattle.fab_rows.specs.declared.config_row.PartRow.TheVariants as parts
 use Rattle.fab_lines.specs.declared.meta_lines.MetaRow.{MetaRow}
 use Rattle.fab_lines.specs.declared.meta_lines.MetaRow.TheVariants.{Schema, Revision, Setting}
-use Rattle.fab_lines.specs.declared.record_lines.ApprovalRow.{ApprovalRow}
-use Rattle.fab_lines.specs.declared.record_lines.PathRow.{PathRow}
+use Rattle.fab_rows.specs.declared.record_row.ApprovalRow.{ApprovalRow}
+use Rattle.fab_rows.specs.declared.record_row.PathRow.{PathRow}
 use Rattle.fab_lines.specs.MetaLines.{MetaColumns, setting_key, ShowsActiveName, permit_text, ShowsSettingValue, ShowsSetting, ShowsMeta}
 use Rattle.fab_lines.specs.ZoningLines.{ZoningColumns, ShowsItem, ShowsItemAt, ShowsZoning, ActiveColumns, ShowsActive}
 use Rattle.fab_lines.specs.GroupLines.{GroupColumns, ShowsArray, ShowsGroup, PartColumns, ShowsPartItem, ShowsPartVolume, ShowsPart}

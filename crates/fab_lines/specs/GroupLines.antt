@@ -5,11 +5,10 @@ use Rattle.fab_names.specs.WorldWideNames.{SpellsPlain}
 use Rattle.fab_mapping_base.specs.declared.limits.TheConstants.{LAST_UNIT}
 use Rattle.fab_rows.specs.declared.config_row.GroupRow.{GroupRow}
 use Rattle.fab_rows.specs.declared.config_row.GroupRow.TheVariants as group
-use Rattle.fab_rows.specs.declared.config_row.StoragePart.{StoragePart}
 use Rattle.fab_rows.specs.declared.config_row.StoragePart.TheVariants as part
 use Rattle.fab_rows.specs.declared.config_row.PartRow.{PartRow}
 use Rattle.fab_rows.specs.declared.config_row.PartRow.TheVariants as parts
-use Rattle.fab_lines.specs.Columns.{ShowsDecimal, flag_number}
+use Rattle.fab_lines_base.specs.Columns.{ShowsDecimal, flag_number}
 
 -- ---- `groups`
 

@@ -6,7 +6,7 @@ use Rattle.fab_inventory.specs.declared.port.Port.{Port}
 use Rattle.fab_inventory.specs.Limits.{most_bytes}
 use Rattle.fab_rows.specs.declared.inventory_row.HolderRow.{HolderRow}
 use Rattle.fab_rows.specs.declared.inventory_row.VolumeRow.{VolumeRow}
-use Rattle.fab_lines.specs.Columns.{ShowsOption, ShowsAt, ShowsNumber, kind_text}
+use Rattle.fab_lines_base.specs.Columns.{ShowsOption, ShowsAt, ShowsNumber, kind_text}
 
 -- `ports`
 pub record PortColumns : Type 0 where

@@ -1,6 +1,6 @@
-pub mod Columns
 pub mod InventoryLines
 pub mod MetaLines
 pub mod ZoningLines
 pub mod GroupLines
 pub mod RecordLines
+pub mod PlanLines

@@ -1,14 +1,13 @@
 -- Lines of the table of settings, and the rows that they show.
 use Rattle.std.specs.Prelude.{◌≡◌, ◌≤◌, ℕ, List, [], Option, None, Some, Bool, true, false, codes}
 use Rattle.fab_names.specs.Names.{SpellsName}
-use Rattle.fab_names.specs.declared.fabric.Fabric.{Fabric}
 use Rattle.fab_names.specs.declared.fabric.Fabric.TheVariants.{A, B}
 use Rattle.fab_rows.specs.declared.config_row.SettingRow.{SettingRow}
 use Rattle.fab_rows.specs.declared.config_row.SettingRow.TheVariants.{ActiveSet, DefaultZone}
-use Rattle.fab_lines.specs.Columns.{ShowsDecimal}
+use Rattle.fab_lines_base.specs.Columns.{ShowsDecimal}
 use Rattle.fab_lines.specs.declared.meta_lines.MetaRow.{MetaRow}
 use Rattle.fab_lines.specs.declared.meta_lines.MetaRow.TheVariants.{Schema, Revision, Setting}
-use Rattle.fab_lines.specs.declared.limits.TheConstants.{MOST_NUMBER}
+use Rattle.fab_lines_base.specs.declared.limits.TheConstants.{MOST_NUMBER}
 
 -- `meta`
 pub record MetaColumns : Type 0 where

@@ -1,13 +1,13 @@
 -- Lines of the tables of approvals and of paths, and the rows that they show.
-use Rattle.std.specs.Prelude.{◌≡◌, ◌≤◌, ℕ, ℤ, List}
+use Rattle.std.specs.Prelude.{ℕ, ℤ, List}
 use Rattle.fab_names.specs.Names.{SpellsName}
 use Rattle.fab_names.specs.Fabrics.{SpellsFabric}
 use Rattle.fab_names.specs.WorldWideNames.{SpellsPlain}
 use Rattle.fab_mapping_base.specs.declared.limits.TheConstants.{LAST_UNIT}
-use Rattle.fab_lines.specs.declared.limits.TheConstants.{MOST_NUMBER}
-use Rattle.fab_lines.specs.declared.record_lines.ApprovalRow.{ApprovalRow}
-use Rattle.fab_lines.specs.declared.record_lines.PathRow.{PathRow}
-use Rattle.fab_lines.specs.Columns.{ShowsNumber}
+use Rattle.fab_lines_base.specs.declared.limits.TheConstants.{MOST_NUMBER}
+use Rattle.fab_rows.specs.declared.record_row.ApprovalRow.{ApprovalRow}
+use Rattle.fab_rows.specs.declared.record_row.PathRow.{PathRow}
+use Rattle.fab_lines_base.specs.Columns.{ShowsNumber}
 
 -- `approvals`
 pub record ApprovalColumns : Type 0 where

@@ -8,7 +8,7 @@ ghost use Rattle.fab_rows.specs.declared.config_row.StorageGroupRow.{StorageGrou
 ghost use Rattle.fab_lines.specs.GroupLines as spec;
 ghost use Rattle.std.specs.Prelude.{codes};
 
-use crate::columns::{flag_column, name_text, read_flag, read_name};
+use fab_lines_base::{flag_column, name_text, read_flag, read_name};
 use fab_rows::{GroupRow, HostGroupRow, StorageGroupRow};
 use std::alloc::{AllocError, Allocator};
 use std::marker::Model;

@@ -5,14 +5,14 @@ ghost use Rattle.fab_inventory.specs.declared.port.Port.{Port};
 ghost use Rattle.fab_inventory.specs.Limits.{most_bytes};
 ghost use Rattle.fab_rows.specs.declared.inventory_row.HolderRow.{HolderRow};
 ghost use Rattle.fab_rows.specs.declared.inventory_row.VolumeRow.{VolumeRow};
-ghost use Rattle.fab_lines.specs.Columns.{ShowsAt};
+ghost use Rattle.fab_lines_base.specs.Columns.{ShowsAt};
 ghost use Rattle.fab_lines.specs.InventoryLines.{ShowsPort, ShowsHolder, ShowsVolume};
 
-use crate::columns::{
+use fab_inventory::{MOST_BYTES, Port};
+use fab_lines_base::{
     kind_word, name_or_null, name_text, plain_text, read_at, read_count, read_kind, read_name,
     read_name_or_null,
 };
-use fab_inventory::{MOST_BYTES, Port};
 use fab_names::{Fabric, Place, Wwn};
 use fab_rows::{HolderRow, VolumeRow};
 use std::alloc::{AllocError, Allocator};

@@ -9,12 +9,14 @@ ghost use Rattle.fab_rows.specs.declared.config_row.ActiveRow.{ActiveRow};
 ghost use Rattle.fab_rows.specs.declared.config_row.GroupRow.{GroupRow};
 ghost use Rattle.fab_rows.specs.declared.config_row.PartRow.{PartRow};
 ghost use Rattle.fab_lines.specs.declared.meta_lines.MetaRow.{MetaRow};
-ghost use Rattle.fab_lines.specs.declared.record_lines.ApprovalRow.{ApprovalRow};
-ghost use Rattle.fab_lines.specs.declared.record_lines.PathRow.{PathRow};
+ghost use Rattle.fab_rows.specs.declared.record_row.ApprovalRow.{ApprovalRow};
+ghost use Rattle.fab_rows.specs.declared.record_row.PathRow.{PathRow};
 ghost use Rattle.fab_lines.specs.MetaLines.{MetaColumns, ShowsMeta};
 ghost use Rattle.fab_lines.specs.ZoningLines.{ZoningColumns, ShowsZoning, ActiveColumns, ShowsActive};
 ghost use Rattle.fab_lines.specs.GroupLines.{GroupColumns, ShowsGroup, PartColumns, ShowsPart};
 ghost use Rattle.fab_lines.specs.RecordLines.{ApprovalColumns, ShowsApproval, PathColumns, ShowsPath};
+ghost use Rattle.fab_rows.specs.declared.record_row.PlanRow.{PlanRow};
+ghost use Rattle.fab_lines.specs.PlanLines.{PlanColumns, ShowsPlan, SamePlan};
 ghost use Rattle.fab_lines.specs.InventoryLines.{PortColumns, ShowsPort, HolderColumns, ShowsHolder, VolumeColumns, ShowsVolume};
 
 /// Lines of `ports`.
@@ -63,6 +65,12 @@ pub fn groups()
 pub fn parts()
     ensures row { (l : PartColumns) (p q : PartRow) → ShowsPart l p → ShowsPart l q → p ≡ q }
     ensures line { (l m : PartColumns) (r : PartRow) → ShowsPart l r → ShowsPart m r → l ≡ m }
+{}
+
+/// Lines of `plans`.
+pub fn plans()
+    ensures row { (l : PlanColumns) (p q : PlanRow) → ShowsPlan l p → ShowsPlan l q → SamePlan p q }
+    ensures line { (l m : PlanColumns) (r : PlanRow) → ShowsPlan l r → ShowsPlan m r → l ≡ m }
 {}
 
 /// Lines of `approvals`.

@@ -1,21 +1,23 @@
-//! The lines of the twelve tables, as a database has them: texts, whole numbers and null. Each line
-//! is read to the row that it shows, where it shows one, and written of a row.
+//! The lines of tables, but for that of changes to undo, as a database has them: texts, whole
+//! numbers and null. Each line is read to the row that it shows, where it shows one, and written of
+//! a row.
 #![tactic(auto)]
 
-mod columns;
 mod group_lines;
 mod inventory_lines;
 pub mod laws;
-mod limits;
 mod meta_lines;
 mod part_lines;
+mod plan_lines;
 mod record_lines;
 mod zoning_lines;
 
-pub use group_lines::GroupLine;
+pub use fab_lines_base::MOST_NUMBER;
+pub use fab_rows::{ApprovalRow, PathRow};
+pub use group_lines::{GroupLine, read_group};
 pub use inventory_lines::{HolderLine, PortLine, VolumeLine};
-pub use limits::MOST_NUMBER;
-pub use meta_lines::{MetaLine, MetaRow};
-pub use part_lines::PartLine;
-pub use record_lines::{ApprovalLine, ApprovalRow, PathLine, PathRow};
-pub use zoning_lines::{ActiveLine, ZoningLine};
+pub use meta_lines::{MetaLine, MetaRow, read_setting};
+pub use part_lines::{PartLine, read_part};
+pub use plan_lines::PlanLine;
+pub use record_lines::{ApprovalLine, PathLine};
+pub use zoning_lines::{ActiveLine, ZoningLine, read_active, read_zoning};

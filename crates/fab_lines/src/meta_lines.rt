@@ -5,8 +5,7 @@ ghost use Rattle.fab_rows.specs.declared.config_row.SettingRow.TheVariants as se
 ghost use Rattle.fab_lines.specs.declared.meta_lines.MetaRow.{MetaRow};
 ghost use Rattle.fab_lines.specs.MetaLines as spec;
 
-use crate::columns::{name_text, read_decimal, read_name};
-use crate::limits::MOST_NUMBER;
+use fab_lines_base::{MOST_NUMBER, name_text, read_decimal, read_name};
 use fab_names::{Fabric, Name};
 use fab_rows::SettingRow;
 use std::alloc::{AllocError, Allocator};

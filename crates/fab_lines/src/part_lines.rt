@@ -3,13 +3,13 @@ ghost use Rattle.std.specs.Prelude.{◌≡◌, ℕ, List, [], MatchOption, IfOk,
 ghost use Rattle.fab_names.specs.Names.{SpellsName};
 ghost use Rattle.fab_names.specs.WorldWideNames.{SpellsPlain};
 ghost use Rattle.fab_mapping_base.specs.declared.limits.TheConstants as last;
-ghost use Rattle.fab_lines.specs.Columns.{ShowsDecimal};
+ghost use Rattle.fab_lines_base.specs.Columns.{ShowsDecimal};
 ghost use Rattle.fab_rows.specs.declared.config_row.StoragePart.{StoragePart};
 ghost use Rattle.fab_rows.specs.declared.config_row.PartRow.{PartRow};
 ghost use Rattle.fab_rows.specs.declared.config_row.PartRow.TheVariants as parts;
 ghost use Rattle.fab_lines.specs.GroupLines as spec;
 
-use crate::columns::{name_text, plain_text, read_decimal, read_name};
+use fab_lines_base::{name_text, plain_text, read_decimal, read_name};
 use fab_mapping::LAST_UNIT;
 use fab_names::{Name, Wwn};
 use fab_rows::{PartRow, StoragePart};

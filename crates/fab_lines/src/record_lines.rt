@@ -2,37 +2,18 @@
 ghost use Rattle.std.specs.Prelude.{◌≡◌, ◌≤◌, ℕ, MatchOption, IfOk, string_bytes};
 ghost use Rattle.fab_names.specs.WorldWideNames.{SpellsPlain};
 ghost use Rattle.fab_lines.specs.RecordLines.{ShowsApproval, ShowsPath};
-ghost use Rattle.fab_lines.specs.declared.record_lines.ApprovalRow.{ApprovalRow};
-ghost use Rattle.fab_lines.specs.declared.record_lines.PathRow.{PathRow};
-ghost use Rattle.fab_lines.specs.declared.limits.TheConstants as limit;
+ghost use Rattle.fab_rows.specs.declared.record_row.ApprovalRow.{ApprovalRow};
+ghost use Rattle.fab_rows.specs.declared.record_row.PathRow.{PathRow};
+ghost use Rattle.fab_lines_base.specs.declared.limits.TheConstants as limit;
 ghost use Rattle.fab_mapping_base.specs.declared.limits.TheConstants as unit;
 
-use crate::columns::{name_text, plain_text, read_count, read_fabric, read_name};
-use crate::limits::MOST_NUMBER;
+use fab_lines_base::{MOST_NUMBER, name_text, plain_text, read_count, read_fabric, read_name};
 use fab_mapping::LAST_UNIT;
 use fab_names::{Fabric, Name, Wwn};
 use fab_reach::Path;
+use fab_rows::{ApprovalRow, PathRow};
 use std::alloc::{AllocError, Allocator};
 use std::marker::Model;
-
-/// An approval of a plan.
-#[derive(Clone, Copy, Debug, PartialEq, Eq)]
-pub struct ApprovalRow {
-    pub plan: Name,
-    /// Who approved.
-    pub caller: Name,
-    /// The revision at which it was given.
-    pub revision: u64,
-}
-
-/// A path of a host.
-///
-/// Ordered by host, then by path.
-#[derive(Clone, Copy, Debug, PartialEq, Eq, PartialOrd, Ord)]
-pub struct PathRow {
-    pub host: Name,
-    pub path: Path,
-}
 
 /// A line of `approvals`. A contract sees its columns.
 #[derive(Drop)]

@@ -8,7 +8,7 @@ ghost use Rattle.fab_rows.specs.declared.config_row.ZoningRow.{ZoningRow};
 ghost use Rattle.fab_rows.specs.declared.config_row.ActiveRow.{ActiveRow};
 ghost use Rattle.fab_lines.specs.ZoningLines as spec;
 
-use crate::columns::{name_text, print_member, read_fabric, read_name};
+use fab_lines_base::{name_text, print_member, read_fabric, read_name};
 use fab_names::{Member, Name};
 use fab_rows::{ActiveRow, ZoningItem, ZoningRow};
 use std::alloc::{AllocError, Allocator};

@@ -1,9 +1,9 @@
-use Rattle.std.proofs.Common.{sym, subst, Some}
+use Rattle.std.proofs.Common.{sym, subst}
 use Rattle.fab_names.specs.Names.{SpellsName}
 use Rattle.fab_names.specs.WorldWideNames.{SpellsPlain}
-use Rattle.fab_lines.specs.Columns.{ShowsAt, ShowsOption}
-use Rattle.fab_lines.specs.InventoryLines.{PortColumns, ShowsPort}
-use Rattle.fab_lines.proofs.Texts.{on_ok}
+use Rattle.fab_lines_base.specs.Columns.{ShowsAt, ShowsOption}
+use Rattle.fab_lines.specs.InventoryLines.{ShowsPort}
+use Rattle.fab_lines_base.proofs.Texts.{on_ok}
 use Rattle.fab_lines.proofs.inventory_lines.PortLine.print.Goals as goal
 
 pub returns-in-Some : goal.returns-in-Some

@@ -1,6 +1,6 @@
 use Rattle.std.proofs.Common.{sym, subst}
 use Rattle.fab_names.specs.Names.{SpellsName}
-use Rattle.fab_lines.specs.Columns.{ShowsAt, ShowsOption}
+use Rattle.fab_lines_base.specs.Columns.{ShowsAt, ShowsOption}
 use Rattle.fab_lines.specs.InventoryLines.{PortColumns}
 use Rattle.fab_lines.proofs.inventory_lines.PortLine.read.Goals as goal
 

@@ -1,6 +1,6 @@
 use Rattle.std.proofs.Common.{sym, subst}
 use Rattle.fab_inventory.specs.Limits.{most_bytes}
-use Rattle.fab_lines.specs.Columns.{ShowsNumber}
+use Rattle.fab_lines_base.specs.Columns.{ShowsNumber}
 use Rattle.fab_lines.specs.InventoryLines.{VolumeColumns}
 use Rattle.fab_lines.proofs.inventory_lines.VolumeLine.read.Goals as goal
 

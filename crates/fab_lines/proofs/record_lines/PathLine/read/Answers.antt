@@ -1,7 +1,7 @@
 use Rattle.std.proofs.Common.{sym, subst}
 use Rattle.fab_names.specs.Names.{SpellsName}
 use Rattle.fab_mapping_base.specs.declared.limits.TheConstants.{LAST_UNIT}
-use Rattle.fab_lines.specs.Columns.{ShowsNumber}
+use Rattle.fab_lines_base.specs.Columns.{ShowsNumber}
 use Rattle.fab_lines.specs.RecordLines.{PathColumns}
 use Rattle.fab_lines.proofs.record_lines.PathLine.read.Goals as goal
 

@@ -1,0 +1,12 @@
+//! The columns of tables, as a database has them: texts, whole numbers and null. Each is read exactly
+//! where it shows a value, and written of a value.
+#![tactic(auto)]
+
+mod columns;
+mod limits;
+
+pub use columns::{
+    flag_column, kind_word, name_or_null, name_text, plain_text, print_member, read_at, read_count,
+    read_decimal, read_fabric, read_flag, read_kind, read_name, read_name_or_null,
+};
+pub use limits::MOST_NUMBER;
