@@ -7,4 +7,6 @@ mod config;
 #[cfg(test)]
 mod inventory;
 #[cfg(test)]
+mod plans;
+#[cfg(test)]
 mod records;
