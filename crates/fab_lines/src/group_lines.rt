@@ -80,7 +80,7 @@ fn read_storage_group(name: &str, tenant: &str, array: &str, exposed: &i64) -> O
     }))
 }
 
-/// The group that five columns show, if they show one.
+/// The group that five columns show, if they show one. It takes no memory.
 pub fn read_group(
     kind: &str,
     name: &str,

@@ -86,7 +86,7 @@ fn read_default_zone(fabric: Fabric, value: &str) -> Option<SettingRow>
     }
 }
 
-/// The setting that two columns show, if they show one.
+/// The setting that two columns show, if they show one. It takes no memory.
 pub fn read_setting(key: &str, value: &str) -> Option<SettingRow>
     ensures { MatchOption result ((r : SettingRow) → ¬ spec.ShowsSetting (spec.meta_line key.now value.now) r)
         (spec.ShowsSetting (spec.meta_line key.now value.now)) }

@@ -109,7 +109,7 @@ fn read_storage_part(part: &str, item: &str, volume: &str) -> Option<StoragePart
     }
 }
 
-/// The part that five columns show, if they show one.
+/// The part that five columns show, if they show one. It takes no memory.
 pub fn read_part(kind: &str, name: &str, part: &str, item: &str, volume: &str) -> Option<PartRow>
     ensures { MatchOption result ((r : PartRow) → ¬ spec.ShowsPart (spec.part_line kind.now name.now part.now item.now volume.now) r)
         (spec.ShowsPart (spec.part_line kind.now name.now part.now item.now volume.now)) }

@@ -104,7 +104,7 @@ fn read_item(kind: &str, name: &str, item: &str) -> Option<ZoningItem>
     }
 }
 
-/// The row that four columns show, if they show one.
+/// The row that four columns show, if they show one. It takes no memory.
 pub fn read_zoning(fabric: &str, kind: &str, name: &str, item: &str) -> Option<ZoningRow>
     ensures { MatchOption result ((r : ZoningRow) → ¬ spec.ShowsZoning (spec.zoning_line fabric.now kind.now name.now item.now) r)
         (spec.ShowsZoning (spec.zoning_line fabric.now kind.now name.now item.now)) }
@@ -118,7 +118,7 @@ pub fn read_zoning(fabric: &str, kind: &str, name: &str, item: &str) -> Option<Z
     Some(ZoningRow { fabric, item })
 }
 
-/// The row that three columns show, if they show one.
+/// The row that three columns show, if they show one. It takes no memory.
 pub fn read_active(fabric: &str, zone: &str, member: &str) -> Option<ActiveRow>
     ensures { MatchOption result ((r : ActiveRow) → ¬ spec.ShowsActive (spec.active_line fabric.now zone.now member.now) r)
         (spec.ShowsActive (spec.active_line fabric.now zone.now member.now)) }

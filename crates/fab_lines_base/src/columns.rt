@@ -18,7 +18,7 @@ use fab_names::{
 };
 use std::alloc::{AllocError, Allocator};
 
-/// The name in a text.
+/// The name in a text, if it spells one. It takes no memory.
 pub fn read_name(text: &str) -> Option<Name>
     ensures { MatchOption result ((n : List ℕ) → ¬ SpellsName text.now n) (SpellsName text.now) }
 {
@@ -28,14 +28,18 @@ pub fn read_name(text: &str) -> Option<Name>
     }
 }
 
-/// The text of a name.
+/// The text of a name: its own characters.
+///
+/// # Errors
+/// `AllocError` where there is no memory.
 pub fn name_text<A: Allocator>(alloc: A, name: &Name) -> Result<String<A>, AllocError>
     ensures { IfOk result (λ text. SpellsName (string_bytes text) name.now) }
 {
     name.as_str().to_string(alloc)
 }
 
-/// The name in a column that may be null.
+/// The name in a column that may be null, which shows no name: nothing where the text spells none.
+/// It takes no memory.
 pub fn read_name_or_null<A: Allocator>(text: &Option<String<A>>) -> Option<Option<Name>>
     ensures { MatchOption result ((n : Option (List ℕ)) → ¬ spec.ShowsOption SpellsName (option_map string_bytes text.now) n)
         (spec.ShowsOption SpellsName (option_map string_bytes text.now)) }
@@ -50,6 +54,9 @@ pub fn read_name_or_null<A: Allocator>(text: &Option<String<A>>) -> Option<Optio
 }
 
 /// The column of a name, or null.
+///
+/// # Errors
+/// `AllocError` where there is no memory.
 pub fn name_or_null<A: Allocator>(
     alloc: A,
     name: &Option<Name>,
@@ -65,7 +72,10 @@ pub fn name_or_null<A: Allocator>(
     }
 }
 
-/// The sixteen digits of a world-wide name.
+/// The sixteen lower-case digits of a world-wide name.
+///
+/// # Errors
+/// `AllocError` where there is no memory.
 pub fn plain_text<A: Allocator>(alloc: A, name: Wwn) -> Result<String<A>, AllocError>
     ensures { IfOk result (λ text. SpellsPlain (string_bytes text) name) }
 {
@@ -73,7 +83,7 @@ pub fn plain_text<A: Allocator>(alloc: A, name: Wwn) -> Result<String<A>, AllocE
     name.plain().as_str().to_string(alloc)
 }
 
-/// The fabric in a text.
+/// The fabric in a text, `A` or `B`. It takes no memory.
 pub fn read_fabric(text: &str) -> Option<Fabric>
     ensures { MatchOption result ((f : Fabric) → ¬ SpellsFabric text.now f) (SpellsFabric text.now) }
 {
@@ -101,7 +111,8 @@ fn read_place(fabric: &str, domain: i64, slot: i64) -> Option<(Fabric, Place)>
     Some((fabric, Place::new(domain as u8, slot as u16)))
 }
 
-/// The place in three columns, which are null where a port is logged in nowhere.
+/// The place in three columns, fabric, domain (1 to 239) and physical port (0 to 4095), which are
+/// all null where a port is logged in nowhere. It takes no memory.
 pub fn read_at<A: Allocator>(
     fabric: &Option<String<A>>,
     domain: Option<i64>,
@@ -122,7 +133,7 @@ pub fn read_at<A: Allocator>(
     }
 }
 
-/// The kind of holder in a text.
+/// The kind of holder in a text, `host` or `array`. It takes no memory.
 pub fn read_kind(text: &str) -> Option<HolderKind>
     ensures { MatchOption result ((k : HolderKind) → ¬ (text.now ≡ spec.kind_text k)) (λ k. text.now ≡ spec.kind_text k) }
 {
@@ -143,7 +154,7 @@ pub fn kind_word(kind: HolderKind) -> &'static str
     }
 }
 
-/// The number in a column, from the least on and up to the most.
+/// The number in a column, if it is from the least on and up to the most, which a database keeps.
 pub fn read_count(column: &i64, least: u64, most: u64) -> Option<u64>
     requires { most < 2 ^ 63 }
     ensures { MatchOption result ((n : ℕ) → ¬ spec.ShowsNumber least most column.now n) (spec.ShowsNumber least most column.now) }
@@ -159,7 +170,7 @@ pub fn read_count(column: &i64, least: u64, most: u64) -> Option<u64>
     Some(number)
 }
 
-/// The answer in a column of 0 and 1.
+/// The answer in a column of 0 and 1: 0 for no, 1 for yes.
 pub fn read_flag(column: &i64) -> Option<bool>
     ensures { MatchOption result ((b : Bool) → ¬ (column.now ≡ spec.flag_number b)) (λ b. column.now ≡ spec.flag_number b) }
 {
@@ -185,7 +196,8 @@ fn has_leading_zero(text: &str) -> bool
     digits.len() >= 2 && digits[0] == b'0'
 }
 
-/// The number in a text of its decimal digits, up to the most.
+/// The number in a text of its decimal digits without leading zeros, up to the most. It takes no
+/// memory.
 pub fn read_decimal(text: &str, most: u64) -> Option<u64>
     ensures { MatchOption result ((n : ℕ) → ¬ spec.ShowsDecimal most text.now n) (spec.ShowsDecimal most text.now) }
 {
@@ -243,6 +255,9 @@ fn is_spelled(member: &Member)
 }
 
 /// The printed form of a member.
+///
+/// # Errors
+/// `AllocError` where there is no memory.
 pub fn print_member<A: Allocator>(alloc: A, member: &Member) -> Result<String<A>, AllocError>
     ensures { IfOk result (λ text. SpellsPrinted (string_bytes text) member.now) }
 {
