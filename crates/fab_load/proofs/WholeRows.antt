@@ -1,9 +1,13 @@
 -- A configuration by all its rows.
-use Rattle.std.proofs.Common.{ℕ, ◌↔◌, List, Contains}
+use Rattle.std.proofs.Common.{ℕ, ◌≡◌, ◌↔◌, List, Contains}
 use Rattle.fab_names.specs.declared.fabric.Fabric.{Fabric}
 use Rattle.fab_names.specs.declared.fabric.Fabric.TheVariants.{A, B}
 use Rattle.fab_names.specs.declared.member.Member.{Member}
+use Rattle.fab_zoning.specs.Soundness as zonings
+use Rattle.fab_mapping.specs.Mappings.{HasNoClash}
+use Rattle.fab_mapping.specs.Soundness as mappings
 use Rattle.fab_reach.specs.Records.{ConfigRows, zoning_at}
+use Rattle.fab_reach.specs.Soundness.{IsSoundAlone}
 use Rattle.fab_rows.specs.declared.config_row.SettingRow.TheVariants.{ActiveSet, DefaultZone}
 use Rattle.fab_rows.specs.declared.config_row.ZoningItem.{ZoningItem}
 use Rattle.fab_rows.specs.declared.config_row.ZoningItem.TheVariants.{Alias, Zone, Set}
@@ -20,7 +24,7 @@ use Rattle.fab_load.specs.declared.fault.Table.TheVariants as table
 use Rattle.fab_load.specs.Rows.{AreRows}
 use Rattle.fab_load.specs.Faults.{OfTable}
 use Rattle.fab_load.specs.Kinds.{item_row, active_row}
-use Rattle.fab_load.specs.Configs.{AreConfigRows, ConfigIsSound, ConfigPartIsSound, SettingSays, ZoningSays, HostGroupsSay, StorageGroupsSay}
+use Rattle.fab_load.specs.Configs.{AreConfigRows, ConfigPartIsSound, SettingSays, ZoningSays, HostGroupsSay, StorageGroupsSay}
 
 -- both directions of what rows say
 both_ways : {E R : Type 0} (row_of : E → R) (rows : List R) (P : E → Type 0) → AreRows row_of rows P → (e : E) → Contains rows (row_of e) ↔ P e
@@ -55,22 +59,37 @@ module _ (rows : List ConfigRow) (c : ConfigRows) (setting_a : SettingSays A row
   whole_rows (config.Part (parts.Storage n (part.Target w))) = both_ways _ rows _ groups.targets_are (n, w)
   whole_rows (config.Part (parts.Storage n (part.Unit u v))) = both_ways _ rows _ groups.units_are ((n, u), v)
 
+-- a configuration of sound parts, with no unit clash, is sound
+pub sound_whole : (c : ConfigRows) → (c.a.fabric ≡ A) × (c.b.fabric ≡ B) → zonings.IsSound c.a × zonings.IsSound c.b → mappings.IsSound c.mapping × HasNoClash c.mapping → IsSoundAlone c
+sound_whole c own sound mapping = record {
+  parts = record { zonings = record { fabrics = fabrics; sound = each }; mapping = mapping.0 };
+  no_clash = mapping.1;
+}
+  where
+    fabrics : (f : Fabric) → (zoning_at c f).fabric ≡ f
+    fabrics A = own.0
+    fabrics B = own.1
+
+    each : (f : Fabric) → zonings.IsSound (zoning_at c f)
+    each A = sound.0
+    each B = sound.1
+
 -- a sound configuration is sound so far as each table tells it
-pub sound_part : (t : Table) (c : ConfigRows) → ConfigIsSound c → ConfigPartIsSound t c
+pub sound_part : (t : Table) (c : ConfigRows) → IsSoundAlone c → ConfigPartIsSound t c
 sound_part table.Meta c s = tt
 sound_part table.Ports c s = tt
 sound_part table.Holders c s = tt
 sound_part table.Volumes c s = tt
-sound_part table.Zoning c s = (s.zoning_a.definitions, s.zoning_b.definitions)
-sound_part table.Active c s = (s.zoning_a.active, s.zoning_b.active)
-sound_part table.Groups c s = record { few_host_groups = s.mapping_sound.few_host_groups; few_groups = s.mapping_sound.few_groups }
-sound_part table.GroupParts c s = (s.mapping_sound, s.no_clash)
+sound_part table.Zoning c s = ((s.parts.zonings.sound A).definitions, (s.parts.zonings.sound B).definitions)
+sound_part table.Active c s = ((s.parts.zonings.sound A).active, (s.parts.zonings.sound B).active)
+sound_part table.Groups c s = record { few_host_groups = s.parts.mapping.few_host_groups; few_groups = s.parts.mapping.few_groups }
+sound_part table.GroupParts c s = (s.parts.mapping, s.no_clash)
 sound_part table.Plans c s = tt
 sound_part table.Approvals c s = tt
 sound_part table.Undo c s = tt
 sound_part table.Paths c s = tt
 
 -- so rows that are no configuration's whose part is sound are no sound configuration's
-pub fault_is_exact : (rows : List ConfigRow) (fault : LoadFault) → OfTable (λ t. (c : ConfigRows) → AreConfigRows rows c → ¬ ConfigPartIsSound t c) fault → OfTable (λ t. (c : ConfigRows) → AreConfigRows rows c → ¬ ConfigIsSound c) fault
+pub fault_is_exact : (rows : List ConfigRow) (fault : LoadFault) → OfTable (λ t. (c : ConfigRows) → AreConfigRows rows c → ¬ ConfigPartIsSound t c) fault → OfTable (λ t. (c : ConfigRows) → AreConfigRows rows c → ¬ IsSoundAlone c) fault
 fault_is_exact rows (Damaged t) h = λ c all sound. h c all (sound_part t c sound)
 fault_is_exact rows Memory h = tt

@@ -1,10 +1,9 @@
--- The rows of a configuration, and when a configuration is sound.
+-- The rows of a configuration, and what a table tells of its soundness.
 use Rattle.std.specs.Prelude.{ℕ, ◌≡◌, ◌≤◌, ◌↔◌, List, Contains, Option, Some, Bool, true}
 use Rattle.std.specs.declared.cmp.Ordering.{Ordering}
 use Rattle.std.specs.FinMap as map
 use Rattle.std.specs.FinSet as set
 use Rattle.fab_names.specs.declared.fabric.Fabric.{Fabric}
-use Rattle.fab_names.specs.declared.fabric.Fabric.TheVariants.{A, B}
 use Rattle.fab_names.specs.Orders.{name_cmp}
 use Rattle.fab_maps.specs.Firsts.{HasAt}
 use Rattle.fab_maps.specs.MapsOfSets.{MapOfSets, has}
@@ -28,17 +27,6 @@ use Rattle.fab_load.specs.Inventories.{AreAll}
 -- the rows are those that stand in the configuration
 abbrev pub AreConfigRows : List ConfigRow → ConfigRows → Type 0
 AreConfigRows rows c = AreAll rows (Stands c)
-
--- a configuration is sound of itself: each zoning is its fabric's and sound, the mapping is sound, and no
--- unit clash stands. Beside an inventory its mapping fits, too; an earlier configuration may name what is
--- gone since
-pub record ConfigIsSound (c : ConfigRows) : Type 0 where
-  pub own_a : c.a.fabric ≡ A
-  pub own_b : c.b.fabric ≡ B
-  pub zoning_a : zoning.IsSound c.a
-  pub zoning_b : zoning.IsSound c.b
-  pub mapping_sound : mapping.IsSound c.mapping
-  pub no_clash : HasNoClash c.mapping
 
 -- sound aliases, zones and zone sets of a fabric
 abbrev pub HasSoundDefinitions : FabricZoning → Type 0

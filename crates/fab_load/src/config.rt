@@ -1,8 +1,9 @@
 //! A configuration from its rows.
 ghost use Rattle.std.specs.Prelude.{IfOk, IfErr};
 ghost use Rattle.fab_reach.specs.Records.{ConfigRows};
+ghost use Rattle.fab_reach.specs.Soundness.{IsSoundAlone};
 ghost use Rattle.fab_load.specs.Faults.{OfTable};
-ghost use Rattle.fab_load.specs.Configs.{AreConfigRows, ConfigIsSound, ConfigPartIsSound};
+ghost use Rattle.fab_load.specs.Configs.{AreConfigRows, ConfigPartIsSound};
 
 use crate::LoadFault;
 use crate::mappings::mapping_of;
@@ -23,9 +24,9 @@ use std::alloc::Allocator;
 /// `Memory` where there is none.
 pub fn config_of<A: Allocator + Copy>(alloc: A, rows: &[ConfigRow]) -> Result<Config<A>, LoadFault>
     ensures rows { IfOk result (AreConfigRows rows.now) }
-    ensures sound { IfOk result ConfigIsSound }
+    ensures sound { IfOk result IsSoundAlone }
     ensures damaged { IfErr result (OfTable (λ table. (c : ConfigRows) → AreConfigRows rows.now c → ¬ ConfigPartIsSound table c)) }
-    ensures exact { IfErr result (OfTable (λ table. (c : ConfigRows) → AreConfigRows rows.now c → ¬ ConfigIsSound c)) }
+    ensures exact { IfErr result (OfTable (λ table. (c : ConfigRows) → AreConfigRows rows.now c → ¬ IsSoundAlone c)) }
 {
     let zonings = match zonings_of(alloc, rows) {
         Ok(zonings) => zonings,

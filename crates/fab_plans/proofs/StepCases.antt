@@ -8,12 +8,12 @@ use Rattle.fab_zoning.specs.Zonings.{FabricZoning}
 use Rattle.fab_mapping.specs.Mappings.{MappingRows}
 use Rattle.fab_mapping.specs.Soundness as mappings
 use Rattle.fab_reach.specs.Records.{ConfigRows, zoning_at}
+use Rattle.fab_reach.specs.Soundness.{IsSoundBeside}
 use Rattle.fab_steps.specs.Actions.{mapping_step}
 use Rattle.fab_steps.specs.Steps.{PlanStep, alias_put, alias_drop, zone_put, zone_drop, set_put, set_drop, activate, deactivate, default_zone}
 use Rattle.fab_steps.specs.declared.mapping_action.MappingAction.{MappingAction}
 use Rattle.fab_steps.specs.declared.mapping_action.MappingAction.TheVariants as mapping
 use Rattle.fab_plans.specs.MappingSteps.{MappingFails, MappingDone}
-use Rattle.fab_plans.specs.Soundness.{IsSound}
 use Rattle.fab_plans.specs.Steps.{fabric_of, with_zoning, with_mapping, FailsIn, DoneIn, StepDone}
 use Rattle.fab_plans.specs.Telling.{IsFaultOf}
 use Rattle.fab_plans.specs.ZoningSteps.{ZoningFails, ZoningMakes, ZoningDone}
@@ -63,46 +63,45 @@ module _ (v : InventoryRows) (s : PlanStep) (c : ConfigRows) where
     mapping_failed : (e : StepFault) → IsFaultOf (MappingFails v c.mapping s) e → IsFaultOf (FailsIn (fabric_of s) v c s) e
     mapping_failed e = subst (λ o. IsFaultOf (FailsIn o v c s) e) (sym is)
 
-  sound_zoning : (f : Fabric) (y : FabricZoning) → ZoningDone s (zoning_at c f) y → (zonings.IsSound (zoning_at c f) → zonings.IsSound y) → IsSound v c → IsSound v (with_zoning f y c)
+  sound_zoning : (f : Fabric) (y : FabricZoning) → ZoningDone s (zoning_at c f) y → (zonings.IsSound (zoning_at c f) → zonings.IsSound y) → IsSoundBeside v c → IsSoundBeside v (with_zoning f y c)
   sound_zoning A y h keeps sound = record {
-    fabrics = by;
-    sound_zonings = each;
-    sound_mapping = sound.sound_mapping;
+    parts = record { zonings = record { fabrics = by; sound = each }; mapping = sound.parts.mapping };
     fits = sound.fits;
   }
     where
       by : (f : Fabric) → (zoning_at (with_zoning A y c) f).fabric ≡ f
-      by A = same_fabric s c.a y h.makes ∙ sound.fabrics A
-      by B = sound.fabrics B
+      by A = same_fabric s c.a y h.makes ∙ sound.parts.zonings.fabrics A
+      by B = sound.parts.zonings.fabrics B
 
       each : (f : Fabric) → zonings.IsSound (zoning_at (with_zoning A y c) f)
-      each A = keeps (sound.sound_zonings A)
-      each B = sound.sound_zonings B
+      each A = keeps (sound.parts.zonings.sound A)
+      each B = sound.parts.zonings.sound B
   sound_zoning B y h keeps sound = record {
-    fabrics = by;
-    sound_zonings = each;
-    sound_mapping = sound.sound_mapping;
+    parts = record { zonings = record { fabrics = by; sound = each }; mapping = sound.parts.mapping };
     fits = sound.fits;
   }
     where
       by : (f : Fabric) → (zoning_at (with_zoning B y c) f).fabric ≡ f
-      by A = sound.fabrics A
-      by B = same_fabric s c.b y h.makes ∙ sound.fabrics B
+      by A = sound.parts.zonings.fabrics A
+      by B = same_fabric s c.b y h.makes ∙ sound.parts.zonings.fabrics B
 
       each : (f : Fabric) → zonings.IsSound (zoning_at (with_zoning B y c) f)
-      each A = sound.sound_zonings A
-      each B = keeps (sound.sound_zonings B)
+      each A = sound.parts.zonings.sound A
+      each B = keeps (sound.parts.zonings.sound B)
 
-  sound_mapping : (m : MappingRows) → mappings.Keeps v c.mapping m → IsSound v c → IsSound v (with_mapping m c)
-  sound_mapping m keeps sound = record { fabrics = fabrics; sound_zonings = each; sound_mapping = keeps.sound sound.sound_mapping; fits = keeps.fits sound.fits }
+  sound_mapping : (m : MappingRows) → mappings.Keeps v c.mapping m → IsSoundBeside v c → IsSoundBeside v (with_mapping m c)
+  sound_mapping m keeps sound = record {
+    parts = record { zonings = record { fabrics = fabrics; sound = each }; mapping = keeps.sound sound.parts.mapping };
+    fits = keeps.fits sound.fits;
+  }
     where
       fabrics : (f : Fabric) → (zoning_at (with_mapping m c) f).fabric ≡ f
-      fabrics A = sound.fabrics A
-      fabrics B = sound.fabrics B
+      fabrics A = sound.parts.zonings.fabrics A
+      fabrics B = sound.parts.zonings.fabrics B
 
       each : (f : Fabric) → zonings.IsSound (zoning_at (with_mapping m c) f)
-      each A = sound.sound_zonings A
-      each B = sound.sound_zonings B
+      each A = sound.parts.zonings.sound A
+      each B = sound.parts.zonings.sound B
 
 -- what a call on a part answers, the step answers: at the same step and the same configuration
 module _ (v : InventoryRows) (s t : PlanStep) (same : s ≡ t) (c d : ConfigRows) (view : c ≡ d) (r : Result (Unit {0}) StepFault) where
@@ -113,7 +112,7 @@ module _ (v : InventoryRows) (s t : PlanStep) (same : s ≡ t) (c d : ConfigRows
   Fails = IfErr r (IsFaultOf (FailsIn (fabric_of t) v d t))
 
   abbrev KeepsSound : ConfigRows → Type 0
-  KeepsSound e = OnOk r (IsSound v d → IsSound v e)
+  KeepsSound e = OnOk r (IsSoundBeside v d → IsSoundBeside v e)
 
   there : (e : ConfigRows) → StepDone v s c e → StepDone v t d e
   there e h = subst (λ w. StepDone v t w e) view (subst (λ x. StepDone v x c e) same h)
@@ -126,7 +125,7 @@ module _ (v : InventoryRows) (s t : PlanStep) (same : s ≡ t) (c d : ConfigRows
     zoning_ok h = on_ok r h (λ x. there (with_zoning f y c) (zoning_done v s c f is y x))
 
     pub zoning_sound : OnOk r (ZoningDone s (zoning_at c f) y) → OnOk r (zonings.IsSound (zoning_at c f) → zonings.IsSound y) → KeepsSound (with_zoning f y c)
-    zoning_sound h k = on_both r h k (λ x keeps sound. sound_zoning v s c f y x keeps (subst (IsSound v) (sym view) sound))
+    zoning_sound h k = on_both r h k (λ x keeps sound. sound_zoning v s c f y x keeps (subst (IsSoundBeside v) (sym view) sound))
 
     pub zoning_err : IfErr r (IsFaultOf (ZoningFails (zoning_at c f) s)) → Fails
     zoning_err h = if_err r h (λ e x. failed e (zoning_failed v s c f is e x))
@@ -136,7 +135,7 @@ module _ (v : InventoryRows) (s t : PlanStep) (same : s ≡ t) (c d : ConfigRows
     mapping_ok h = on_ok r h (λ x. there (with_mapping m c) (mapping_done v s c is m x))
 
     pub mapping_sound : OnOk r (mappings.Keeps v c.mapping m) → KeepsSound (with_mapping m c)
-    mapping_sound h = on_ok r h (λ keeps sound. sound_mapping v s c m keeps (subst (IsSound v) (sym view) sound))
+    mapping_sound h = on_ok r h (λ keeps sound. sound_mapping v s c m keeps (subst (IsSoundBeside v) (sym view) sound))
 
     pub mapping_err : IfErr r (IsFaultOf (MappingFails v c.mapping s)) → Fails
     mapping_err h = if_err r h (λ e x. failed e (mapping_failed v s c is e x))

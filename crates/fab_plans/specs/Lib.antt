@@ -2,7 +2,6 @@ pub mod Checks
 pub mod ZoningSteps
 pub mod MappingSteps
 pub mod Steps
-pub mod Soundness
 pub mod Outcomes
 pub mod Telling
 pub mod Plans

@@ -1,7 +1,7 @@
 //! The trial of steps on a configuration.
 ghost use Rattle.std.specs.Prelude.{◌≡◌, ◌+◌, ◌<◌, ◌^◌, OnOk, IfOk, IfErr};
 ghost use Rattle.fab_plans.specs.Steps.{StepDone, FailsIn, fabric_of};
-ghost use Rattle.fab_plans.specs.Soundness.{IsSound};
+ghost use Rattle.fab_reach.specs.Soundness.{IsSoundBeside};
 ghost use Rattle.fab_plans.specs.Outcomes.{AllDone, IsOutcome, IsTrialFault};
 ghost use Rattle.fab_plans.specs.Telling.{IsFaultOf, fault_at};
 
@@ -25,7 +25,7 @@ fn take_step<A: Allocator + Copy>(
     step: &Step<A>,
 ) -> Result<(), StepFault>
     ensures ok { OnOk result (StepDone inventory.now step.now config.old config.new) }
-    ensures sound { OnOk result (IsSound inventory.now config.old → IsSound inventory.now config.new) }
+    ensures sound { OnOk result (IsSoundBeside inventory.now config.old → IsSoundBeside inventory.now config.new) }
     ensures err { IfErr result (IsFaultOf (FailsIn (fabric_of step.now) inventory.now config.old step.now)) }
 {
     match step.action() {
@@ -62,7 +62,7 @@ fn take_steps<A: Allocator + Copy>(
     steps: &[Step<A>],
 ) -> Result<(), TrialFault>
     ensures ok { OnOk result (AllDone inventory.now steps.now config.old config.new) }
-    ensures sound { OnOk result (IsSound inventory.now config.old → IsSound inventory.now config.new) }
+    ensures sound { OnOk result (IsSoundBeside inventory.now config.old → IsSoundBeside inventory.now config.new) }
     ensures err { IfErr result (IsTrialFault inventory.now steps.now config.old) }
 {
     for (place, step) in steps.iter().enumerate() {
@@ -87,7 +87,7 @@ pub fn trial<A: Allocator + Copy>(
     steps: &[Step<A>],
 ) -> Result<Config<A>, TrialFault>
     ensures ok { IfOk result (IsOutcome inventory.now steps.now config.now) }
-    ensures sound { IfOk result (λ after. IsSound inventory.now config.now → IsSound inventory.now after) }
+    ensures sound { IfOk result (λ after. IsSoundBeside inventory.now config.now → IsSoundBeside inventory.now after) }
     ensures refused { IfErr result (IsTrialFault inventory.now steps.now config.now) }
 {
     let Ok(mut after) = config.copy() else {

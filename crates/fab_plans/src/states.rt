@@ -3,7 +3,7 @@
 ghost use Rattle.std.specs.Prelude.{◌≡◌, ◌≢◌, OnOk, OnErr, IfOk, IfErr};
 ghost use Rattle.fab_plans.specs.Outcomes.{IsOutcome, IsTrialFault};
 ghost use Rattle.fab_plans.specs.Plans.{seen_plan, new_plan, approved_by, IsApprovalFault};
-ghost use Rattle.fab_plans.specs.Soundness.{IsSound};
+ghost use Rattle.fab_reach.specs.Soundness.{IsSoundBeside};
 
 use crate::{ApprovalFault, Plan, TrialFault, trial};
 use fab_inventory::Inventory;
@@ -76,7 +76,7 @@ impl<A: Allocator + Copy> Staged<A> {
         inventory: &Inventory<A>,
     ) -> Result<Config<A>, TrialFault>
         ensures ok { IfOk result (IsOutcome inventory.now self.now.plan.steps.items config.now) }
-        ensures sound { IfOk result (λ after. IsSound inventory.now config.now → IsSound inventory.now after) }
+        ensures sound { IfOk result (λ after. IsSoundBeside inventory.now config.now → IsSoundBeside inventory.now after) }
         ensures refused { IfErr result (IsTrialFault inventory.now self.now.plan.steps.items config.now) }
     {
         trial(config, inventory, &self.plan.steps)

@@ -1,4 +1,4 @@
--- What is true of each path.
+-- What is true of each path, and of each world that is sound.
 use Rattle.fab_reach.specs.Records.{Records}
 use Rattle.fab_reach.specs.Reach.{Reaches, AreJoined, IsOffered}
 use Rattle.fab_reach.specs.declared.path.Path.{Path}
@@ -6,6 +6,8 @@ use Rattle.fab_reach.proofs.Same.{same_fabric}
 use Rattle.std.proofs.Common.{subst}
 use Rattle.fab_zoning.specs.Joins.{IsLoggedInAt}
 use Rattle.fab_reach.specs.Records.{zoning_at}
+use Rattle.fab_reach.specs.Serving.{IsServing}
+use Rattle.fab_reach.specs.Soundness.{IsSoundBeside}
 
 pub joined : (w : Records) (x : Path) → Reaches w x → AreJoined w x
 joined w x h = record {
@@ -20,3 +22,10 @@ joined w x h = record {
 
 pub offered : (w : Records) (x : Path) → Reaches w x → IsOffered w x
 offered w x h = let m = h.mapped in record { name = m.0; group = m.1; there = m.2; exposed = m.3; target = m.4.4.1; volume = m.4.4.2 }
+
+pub serves : (w : Records) → IsSoundBeside w.inventory w.config → IsServing w
+serves w h = record {
+  fabrics = h.parts.zonings.fabrics;
+  hosts = λ n k at. h.fits.host_groups n k at;
+  targets = λ n g at q there. let fits = h.fits.groups n g at in (g.array, fits.targets q there, fits.on_array);
+}

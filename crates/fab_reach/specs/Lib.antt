@@ -3,6 +3,7 @@ pub mod Views
 pub mod Orders
 pub mod Reach
 pub mod Serving
+pub mod Soundness
 pub mod Books
 pub mod Limits
 pub mod Adding

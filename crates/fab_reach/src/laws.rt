@@ -7,6 +7,7 @@ ghost use Rattle.fab_reach.specs.Reach.{Reaches, AreJoined, IsOffered};
 ghost use Rattle.fab_reach.specs.declared.path.Path.{Path};
 ghost use Rattle.fab_reach.specs.Views.{seen};
 ghost use Rattle.fab_reach.specs.Serving.{IsServing};
+ghost use Rattle.fab_reach.specs.Soundness.{IsSoundBeside};
 
 use crate::View;
 use crate::book::PathBook;
@@ -30,6 +31,11 @@ pub fn path_ports_are_joined()
 /// An exposed storage group has the target of a path, and its volume at its unit.
 pub fn path_is_offered()
     ensures { (w : Records) (x : Path) → Reaches w x → IsOffered w x }
+{}
+
+/// A book may stand at each world whose configuration is sound beside its inventory.
+pub fn sound_worlds_serve()
+    ensures { (w : Records) → IsSoundBeside w.inventory w.config → IsServing w }
 {}
 
 /// Whether a book may stand at each of the worlds.

@@ -32,6 +32,7 @@ use Rattle.fab_zoning.proofs.Keeping.{set_at}
 use Rattle.fab_mapping_base.specs.Groups.{HostGroupRows, StorageGroupRows}
 use Rattle.fab_mapping.specs.Mappings.{MappingRows}
 use Rattle.fab_reach.specs.Records.{ConfigRows, zoning_at}
+use Rattle.fab_reach.specs.Soundness.{HasSoundZonings}
 use Rattle.fab_reach.proofs.SameLists.{same_sorted}
 use Rattle.fab_rows.specs.declared.config_row.SettingRow.TheVariants.{ActiveSet, DefaultZone}
 use Rattle.fab_rows.specs.declared.config_row.ZoningItem.TheVariants.{Alias, Zone, Set}
@@ -43,7 +44,7 @@ use Rattle.fab_rows.specs.declared.config_row.ConfigRow.TheVariants as config
 use Rattle.fab_rows.specs.declared.inventory_row.InventoryRow.TheVariants as inventory
 use Rattle.fab_rows.specs.RowOrder.{row_cmp, row_order}
 use Rattle.fab_rows.specs.Standing.{Stands, IsKnown}
-use Rattle.fab_rows.specs.Telling.{HasSoundZonings, HaveSameRows, KnowSameRows}
+use Rattle.fab_rows.specs.Telling.{HaveSameRows, KnowSameRows}
 use Rattle.fab_rows.proofs.OrderOfRows.{row_total, row_exact, same_order}
 
 -- ---- tests and answers that are one

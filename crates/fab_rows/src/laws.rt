@@ -3,9 +3,10 @@ ghost use Rattle.std.specs.Prelude.{◌≡◌, List};
 ghost use Rattle.fab_inventory.specs.Inventories.{InventoryRows};
 ghost use Rattle.fab_maps.specs.Lists.{IsListOf};
 ghost use Rattle.fab_reach.specs.Records.{ConfigRows};
+ghost use Rattle.fab_reach.specs.Soundness.{HasSoundZonings};
 ghost use Rattle.fab_rows.specs.RowOrder.{row_cmp, row_order};
 ghost use Rattle.fab_rows.specs.Standing.{Stands};
-ghost use Rattle.fab_rows.specs.Telling.{HasSoundZonings, HaveSameRows, KnowSameRows};
+ghost use Rattle.fab_rows.specs.Telling.{HaveSameRows, KnowSameRows};
 ghost use Rattle.fab_rows.specs.declared.config_row.ConfigRow.{ConfigRow};
 
 /// Rows of a configuration are ordered by table, and then by its columns.

@@ -1,10 +1,10 @@
 use Rattle.std.proofs.Common.{take}
 use Rattle.fab_plans.specs.Outcomes.{AllDone}
-use Rattle.fab_plans.specs.Soundness.{IsSound}
+use Rattle.fab_reach.specs.Soundness.{IsSoundBeside}
 use Rattle.fab_plans.proofs.outcome.take_steps.Given as goal
 
 abbrev pub invariant-loop-place : goal.invariant-loop-place
 invariant-loop-place g l = record {
   done : AllDone l.inventory (take l.place l.steps) l.initial.config l.config;
-  sound : IsSound l.inventory l.initial.config → IsSound l.inventory l.config;
+  sound : IsSoundBeside l.inventory l.initial.config → IsSoundBeside l.inventory l.config;
 }
