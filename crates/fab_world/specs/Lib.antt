@@ -1,0 +1,6 @@
+pub mod PlanRecords
+pub mod Codes
+pub mod Plans
+pub mod Worlds
+pub mod History
+pub mod Soundness

@@ -1,0 +1,41 @@
+-- Which worlds are sound.
+use Rattle.std.specs.Prelude.{ℕ, ◌≡◌, ◌≤◌, ◌↔◌, List, Contains, Option, reverse}
+use Rattle.std.specs.FinMap as map
+use Rattle.std.specs.List.{IsDistinct}
+use Rattle.std.specs.Ordering.{eq_by_cmp}
+use Rattle.fab_maps.specs.Firsts.{HasAt}
+use Rattle.fab_names.specs.Orders.{name_cmp}
+use Rattle.fab_inventory.specs.Inventories as inventories
+use Rattle.fab_mapping.specs.Soundness.{Each, Fits}
+use Rattle.fab_reach.specs.Limits.{MoreThan}
+use Rattle.fab_reach.specs.Reach.{Reaches}
+use Rattle.fab_reach.specs.Soundness.{IsSoundAlone}
+use Rattle.fab_reach.specs.declared.listing.TheConstants.{MOST_PATHS}
+use Rattle.fab_steps.specs.Plans.{IsWithinLimits}
+use Rattle.fab_world.specs.declared.limits.TheConstants.{MOST_PLANS, MOST_CHANGES}
+use Rattle.fab_world.specs.History.{changes_of, LeadsBack}
+use Rattle.fab_world.specs.PlanRecords.{PlanRecord}
+use Rattle.fab_world.specs.Plans.{IsActive}
+use Rattle.fab_world.specs.Worlds.{WorldRows, records_of}
+
+-- 1 to 200 steps, whose printed form is not too long, and no approval from a revision that never was
+pub record IsSoundPlan (p : PlanRecord) : Type 0 where
+  pub steps : IsWithinLimits p.steps
+  pub approvals : Each (map.get p.approvals) (λ revision. revision ≤ MOST_CHANGES)
+
+-- just the active plans are listed, each once
+pub record ListsActive (plans : List ℕ → Option PlanRecord) (order : List (List ℕ)) : Type 0 where
+  pub lists : (name : List ℕ) → Contains order name ↔ HasAt plans IsActive name
+  pub each_once : IsDistinct (eq_by_cmp name_cmp) order
+
+-- a sound world
+pub record IsSound (w : WorldRows) : Type 0 where
+  pub inventory : inventories.IsSound w.inventory
+  pub config : IsSoundAlone w.config
+  pub fits : Fits w.inventory w.config.mapping
+  pub few_paths : ¬ MoreThan MOST_PATHS (Reaches (records_of w))
+  pub few_plans : map.len w.plans ≤ MOST_PLANS
+  pub plans : Each (map.get w.plans) IsSoundPlan
+  pub order : ListsActive (map.get w.plans) w.order
+  pub earlier : LeadsBack (changes_of (map.get w.plans) (reverse w.order)) w.config
+  pub few_changes : w.revision ≤ MOST_CHANGES

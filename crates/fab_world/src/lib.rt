@@ -1,0 +1,11 @@
+//! The desk's world as one value: what is known and configured, the plans, which activations are in
+//! force, and how many changes there were; and when such a world is sound.
+#![tactic(auto)]
+
+mod any_plan;
+mod limits;
+mod world;
+
+pub use any_plan::{AnyPlan, KeptPlan};
+pub use limits::{MOST_CHANGES, MOST_PLANS};
+pub use world::World;
