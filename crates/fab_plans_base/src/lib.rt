@@ -21,5 +21,6 @@ pub use fab_steps::{
     Step, ZoningAction, ZoningKeyword,
 };
 pub use fault::{PlanFault, PlanFaultKind};
+pub use measure::is_within_limits;
 pub use plan::read_plan;
 pub use print::print_plan;

@@ -7,10 +7,10 @@ ghost use Rattle.fab_steps.specs.Limits.{most_bytes, most_items};
 ghost use Rattle.fab_steps.specs.Values.{of_fabric, of_name, of_member};
 ghost use Rattle.fab_steps.specs.Actions.{zoning_step, mapping_step};
 ghost use Rattle.fab_steps.specs.Forms.{values_of};
-ghost use Rattle.fab_steps.specs.Plans.{spaced, step_text, plan_text, IsStep};
+ghost use Rattle.fab_steps.specs.Plans.{spaced, step_text, plan_text, IsStep, IsWithinLimits};
 
 use crate::print::flag_word;
-use crate::{Action, MOST_BYTES, MappingAction, Step, ZoningAction};
+use crate::{Action, MOST_BYTES, MOST_STEPS, MappingAction, Step, ZoningAction};
 use fab_names::{Fabric, Member, Name, Wwn};
 use std::alloc::Allocator;
 
@@ -203,4 +203,18 @@ pub(crate) fn is_short<A: Allocator + Copy>(steps: &[Step<A>]) -> bool
         left -= len;
     }
     true
+}
+
+/// Whether steps may be those of a plan: 1 to 200 of them, and their printed form is at most 65536
+/// bytes long. It takes no memory.
+pub fn is_within_limits<A: Allocator + Copy>(steps: &[Step<A>]) -> bool
+    ensures { IsTrue result ↔ IsWithinLimits steps.now }
+{
+    if steps.is_empty() {
+        return false;
+    }
+    if steps.len() > MOST_STEPS {
+        return false;
+    }
+    is_short(steps)
 }
