@@ -14,6 +14,11 @@ pub record IsEarlier (after : ConfigRows) (change : Change) (before : ConfigRows
   pub sound : IsSoundAlone before
   pub differs : IsDifference before after change.taken change.added
 
+-- and there is no other
+pub record IsOnlyEarlier (after : ConfigRows) (change : Change) (before : ConfigRows) : Type 0 where
+  pub is : IsEarlier after change before
+  pub only : (other : ConfigRows) → IsEarlier after change other → other ≡ before
+
 -- the changes, the last of them first, lead back from the configuration through such that are sound
 -- of themselves
 abbrev pub LeadsBack : List Change → ConfigRows → Type 0

@@ -3,9 +3,11 @@
 #![tactic(auto)]
 
 mod any_plan;
+mod history;
 mod limits;
 mod world;
 
 pub use any_plan::{AnyPlan, KeptPlan};
+pub use history::earlier;
 pub use limits::{MOST_CHANGES, MOST_PLANS};
 pub use world::World;
