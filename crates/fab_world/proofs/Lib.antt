@@ -1,1 +1,5 @@
 mod WaysBack
+mod Listing
+mod NewWorld
+mod Presents
+mod WholeWorld

@@ -9,6 +9,7 @@ use Rattle.fab_inventory.specs.Inventories as inventories
 use Rattle.fab_mapping.specs.Soundness.{Each, Fits}
 use Rattle.fab_reach.specs.Limits.{MoreThan}
 use Rattle.fab_reach.specs.Reach.{Reaches}
+use Rattle.fab_reach.specs.Records.{ConfigRows}
 use Rattle.fab_reach.specs.Soundness.{IsSoundAlone}
 use Rattle.fab_reach.specs.declared.listing.TheConstants.{MOST_PATHS}
 use Rattle.fab_steps.specs.Plans.{IsWithinLimits}
@@ -27,6 +28,14 @@ pub record IsSoundPlan (p : PlanRecord) : Type 0 where
 pub record ListsActive (plans : List ℕ → Option PlanRecord) (order : List (List ℕ)) : Type 0 where
   pub lists : (name : List ℕ) → Contains order name ↔ HasAt plans IsActive name
   pub each_once : IsDistinct (eq_by_cmp name_cmp) order
+
+-- the inventory and the configuration are sound, the one beside the other, and there are not too
+-- many paths
+pub record IsSoundNow (v : inventories.InventoryRows) (c : ConfigRows) : Type 0 where
+  pub inventory : inventories.IsSound v
+  pub config : IsSoundAlone c
+  pub fits : Fits v c.mapping
+  pub few_paths : ¬ MoreThan MOST_PATHS (Reaches (record { inventory = v; config = c }))
 
 -- a sound world
 pub record IsSound (w : WorldRows) : Type 0 where

@@ -4,7 +4,10 @@
 
 mod any_plan;
 mod history;
+mod kept;
 mod limits;
+mod present;
+mod sound;
 mod world;
 
 pub use any_plan::{AnyPlan, KeptPlan};

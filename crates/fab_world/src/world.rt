@@ -1,9 +1,16 @@
 //! The world of the desk.
+ghost use Rattle.std.specs.Prelude.{◌≡◌, ◌↔◌, IsTrue, IfOk};
+ghost use Rattle.fab_world.specs.Soundness.{IsSound};
+ghost use Rattle.fab_world.specs.Worlds.{new_world};
+
 use crate::KeptPlan;
+use crate::sound::are_sound;
 use fab_inventory::Inventory;
-use fab_names::Name;
+use fab_mapping::Mapping;
+use fab_names::{Fabric, Name, Wwn};
 use fab_reach::Config;
-use std::alloc::Allocator;
+use fab_zoning::Zoning;
+use std::alloc::{AllocError, Allocator};
 use std::collections::BTreeMap;
 use std::marker::Model;
 
@@ -33,4 +40,46 @@ impl<A: Allocator + Copy> Model for World<A> {
     ghost coded = { world_code };
 
     ghost view = { λ w. record { inventory = w.inventory; config = w.config; plans = map.from_entries w.plans.entries; order = w.order.items; revision = w.revision } };
+}
+
+impl<A: Allocator + Copy> World<A> {
+    /// A world that knows nothing: no port, holder or volume, no alias, zone, set or group, nothing
+    /// active, deny in both fabrics, no plan, and revision 0. It takes no memory.
+    pub fn new(alloc: A) -> Self
+        ensures new { result ≡ new_world }
+        ensures sound { IsSound result }
+    {
+        let inventory = Inventory::new(alloc);
+        // Any look-up tells that an inventory is sound.
+        let _port = inventory.port(&Wwn::new(1));
+        World {
+            inventory,
+            config: Config {
+                a: Zoning::new(alloc, Fabric::A),
+                b: Zoning::new(alloc, Fabric::B),
+                mapping: Mapping::new(alloc),
+            },
+            plans: BTreeMap::new(alloc),
+            order: Vec::new(alloc),
+            revision: 0,
+        }
+    }
+
+    /// Whether the world is sound. Besides its paths and the names of the order it has one earlier
+    /// configuration in memory at a time.
+    ///
+    /// # Errors
+    /// `AllocError` where there is no memory.
+    pub fn is_sound(&self, alloc: A) -> Result<bool, AllocError>
+        ensures { IfOk result (λ sound. IsTrue sound ↔ IsSound self.now) }
+    {
+        are_sound(
+            alloc,
+            &self.inventory,
+            &self.config,
+            &self.plans,
+            self.order.as_slice(),
+            self.revision,
+        )
+    }
 }

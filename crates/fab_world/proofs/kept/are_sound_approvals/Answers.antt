@@ -1,0 +1,13 @@
+use Rattle.std.proofs.Common.{ℕ, ◌≤◌, rules, tests}
+use Rattle.std.specs.BTreeMap.{values}
+use Rattle.std.proofs.lemmas.Iterator.{cases_from_all}
+use Rattle.std.proofs.lemmas.Iterator.Consumers.{YieldsList-from_rest}
+use Rattle.fab_mapping.proofs.Passed.{values_have}
+use Rattle.fab_world.specs.declared.limits.TheConstants.{MOST_CHANGES}
+use Rattle.fab_world.proofs.kept.are_sound_approvals.Goals as goal
+
+pub returns : goal.returns
+returns g c =
+    let P = λ (revision : ℕ). revision ≤ MOST_CHANGES in
+    values_have P c.args.approvals.now c.all.result c.values.ensures.ordered
+    (cases_from_all _ _ _ P (λ x. ¬ P x) c.all.ensures.ran (YieldsList-from_rest (values c.args.approvals.now) c.values.ensures.rest) (λ x r k. search (rules, tests)) (λ x r k. search (rules, tests)))

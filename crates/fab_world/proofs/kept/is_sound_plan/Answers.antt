@@ -1,0 +1,19 @@
+use Rattle.std.proofs.Common.{ℕ, ◌≤◌, sym, ap, ◌∙◌, subst}
+use Rattle.fab_maps.proofs.SeenMaps.{same_look_ups}
+use Rattle.fab_mapping.specs.Soundness.{Each}
+use Rattle.fab_names.proofs.OrderLaws.{name_total}
+use Rattle.fab_plans.specs.Plans.{PlanRows}
+use Rattle.fab_steps.specs.Plans.{IsWithinLimits}
+use Rattle.fab_world.specs.declared.limits.TheConstants.{MOST_CHANGES}
+use Rattle.fab_world.proofs.kept.is_sound_plan.Goals as goal
+
+pub returns : goal.returns
+returns g c =
+    let steps = c.as_slice.ensures.value ∙ ap (λ (r : PlanRows). r.steps) c.plan-plan.ensures in
+    let look = same_look_ups name_total c.plan-plan.result.now.approvals c.args.kept.now.approvals (ap (λ (r : PlanRows). r.approvals) c.plan-plan.ensures) in (
+      λ t. record {
+        steps = subst IsWithinLimits steps (c.is_within_limits.ensures.0 c.if-not-is_within_limits.false);
+        approvals = subst (λ at. Each at (λ (revision : ℕ). revision ≤ MOST_CHANGES)) look (c.are_sound_approvals.ensures.0 t);
+      },
+      λ s. c.are_sound_approvals.ensures.1 (subst (λ at. Each at (λ (revision : ℕ). revision ≤ MOST_CHANGES)) (sym look) s.approvals),
+    )
