@@ -76,13 +76,23 @@ fn config(alloc: Global, world: World) -> Result<Config<Global>, Fail> {
     }
 }
 
+/// The rows of a configuration.
+fn listed(alloc: Global, config: &Config<Global>) -> Result<Vec<ConfigRow, Global>, Fail> {
+    Ok(config_rows(alloc, config)?)
+}
+
+/// Whether the rows are those of the lines.
+fn are_these(rows: Vec<ConfigRow, Global>, lines: &[Line]) -> Result<bool, Fail> {
+    are(rows.as_slice(), lines)
+}
+
 /// Configurations and their rows.
 const LISTS: [(World, &'static [Line]); 2] = [(World::New, &NEW), (World::Planned, &PLANNED)];
 
 /// Whether the configuration has the rows of the lines and no other.
 fn has_rows(alloc: Global, case: (World, &[Line])) -> Result<bool, Fail> {
-    let rows = config_rows(alloc, &config(alloc, case.0)?)?;
-    are(rows.as_slice(), case.1)
+    let config = config(alloc, case.0)?;
+    are_these(listed(alloc, &config)?, case.1)
 }
 
 #[test]
@@ -110,18 +120,31 @@ const CHANGES: [Change; 4] = [
 ];
 
 /// Whether the rows of a change are those of the lines.
-fn is_change(change: &RowDifference<Global>, taken: &[Line], added: &[Line]) -> Result<bool, Fail> {
-    if !are(change.taken.as_slice(), taken)? {
+fn is_change(
+    change: RowDifference<Global>,
+    lines: (&'static [Line], &'static [Line]),
+) -> Result<bool, Fail> {
+    let RowDifference { taken, added } = change;
+    if !are_these(taken, lines.0)? {
         return Ok(false);
     }
-    are(change.added.as_slice(), added)
+    are_these(added, lines.1)
+}
+
+/// What leads from a configuration to another.
+fn change(
+    alloc: Global,
+    before: &Config<Global>,
+    after: &Config<Global>,
+) -> Result<RowDifference<Global>, Fail> {
+    Ok(difference(alloc, before, after)?)
 }
 
 /// Whether the configurations differ as the table says.
 fn differ(alloc: Global, case: Change) -> Result<bool, Fail> {
     let (before, after) = (config(alloc, case.0)?, config(alloc, case.1)?);
-    let change = difference(alloc, &before, &after)?;
-    is_change(&change, case.2, case.3)
+    let change = change(alloc, &before, &after)?;
+    is_change(change, (case.2, case.3))
 }
 
 #[test]
@@ -138,22 +161,31 @@ const UNDONE: [(World, World, &'static [Line]); 2] = [
     (World::Planned, World::New, &PLANNED),
 ];
 
+/// The rows, with a change undone.
+fn without(
+    alloc: Global,
+    rows: Vec<ConfigRow, Global>,
+    change: RowDifference<Global>,
+) -> Result<Vec<ConfigRow, Global>, Fail> {
+    Ok(undone(alloc, rows.as_slice(), &change)?)
+}
+
 /// The second configuration's rows, with the change from the first undone.
 fn undone_rows(
     alloc: Global,
     before: &Config<Global>,
     after: &Config<Global>,
 ) -> Result<Vec<ConfigRow, Global>, Fail> {
-    let change = difference(alloc, before, after)?;
-    let rows = config_rows(alloc, after)?;
-    Ok(undone(alloc, rows.as_slice(), &change)?)
+    let change = change(alloc, before, after)?;
+    let rows = listed(alloc, after)?;
+    without(alloc, rows, change)
 }
 
 /// Whether the second configuration's rows, with the change undone, are those of the lines.
 fn is_undone(alloc: Global, case: (World, World, &[Line])) -> Result<bool, Fail> {
     let (before, after) = (config(alloc, case.0)?, config(alloc, case.1)?);
     let rows = undone_rows(alloc, &before, &after)?;
-    are(rows.as_slice(), case.2)
+    are_these(rows, case.2)
 }
 
 #[test]

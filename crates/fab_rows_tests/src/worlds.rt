@@ -24,27 +24,45 @@ pub fn new_config(alloc: Global) -> Config<Global> {
     }
 }
 
-/// The alias, the zone and the zone set of the plan, which is active.
+/// The alias of the plan.
+fn put_alias(zoning: &mut Zoning<Global>, alias: Name) -> Result<(), Fail> {
+    let target = port(TP1)?;
+    Ok(zoning.put_alias(alias, &[Member::Port(target)])?)
+}
+
+/// The zone of the plan.
+fn put_zone(zoning: &mut Zoning<Global>, zone: Name, alias: Name) -> Result<(), Fail> {
+    let initiator = port(I1)?;
+    Ok(zoning.put_zone(zone, &[Member::Port(initiator), Member::Alias(alias)])?)
+}
+
+/// The zone set of the plan, which is active.
+fn activate(zoning: &mut Zoning<Global>, set: Name, zone: Name) -> Result<(), Fail> {
+    zoning.put_set(set, &[zone])?;
+    Ok(zoning.activate(&set)?)
+}
+
+/// The alias, the zone and the zone set of the plan.
 fn zone(zoning: &mut Zoning<Global>) -> Result<(), Fail> {
     let (disk, z1, s1) = (name("disk")?, name("z1")?, name("s1")?);
-    zoning.put_alias(disk, &[Member::Port(port(TP1)?)])?;
-    zoning.put_zone(z1, &[Member::Port(port(I1)?), Member::Alias(disk)])?;
-    zoning.put_set(s1, &[z1])?;
-    zoning.activate(&s1)?;
-    Ok(())
+    put_alias(zoning, disk)?;
+    put_zone(zoning, z1, disk)?;
+    activate(zoning, s1, z1)
 }
 
 /// The names of one.
 fn names(alloc: Global, one: &str) -> Result<BTreeSet<Name, Global>, Fail> {
+    let one = name(one)?;
     let mut names = BTreeSet::new(alloc);
-    names.insert(name(one)?)?;
+    names.insert(one)?;
     Ok(names)
 }
 
 /// The target of the plan.
 fn targets(alloc: Global) -> Result<BTreeSet<Wwn, Global>, Fail> {
+    let target = port(TP1)?;
     let mut targets = BTreeSet::new(alloc);
-    targets.insert(port(TP1)?)?;
+    targets.insert(target)?;
     Ok(targets)
 }
 
