@@ -20,6 +20,7 @@ CASES = [
     ("clash-wide", 8, 1, "the same among so many of 2,047 hosts each, on 32 targets with 256 units"),
     ("clash-many", 2048, 1, "the same among so many of one host each, on 32 targets with 256 units"),
     ("paths", 1024, 3, "all paths of so many hosts are listed, 64 each"),
+    ("trial", 1024, 20, "the trial of a plan of 200 steps where there are so many storage groups of 16 nexuses each"),
     ("host", 2048, 50, "a host is put where so many hosts hold a port each"),
     ("volume", 4096, 5000, "a volume is put where there are so many"),
     ("policy", 256, 5, "such a policy is read"),

@@ -161,8 +161,8 @@ impl Making {
     }
 }
 
-/// The mapping of a shape.
-fn search_of(alloc: Global, shape: Shape) -> Result<Search> {
+/// What is made of a shape.
+fn made(alloc: Global, shape: Shape) -> Result<Making> {
     let mut making = Making::new(alloc, shape)?;
     for number in 0..shape.host_groups() {
         making.put_host_group(number)?;
@@ -170,26 +170,47 @@ fn search_of(alloc: Global, shape: Shape) -> Result<Search> {
     for number in 0..shape.groups {
         making.put_group(number)?;
     }
+    Ok(making)
+}
+
+/// The mapping of a shape.
+fn search_of(alloc: Global, shape: Shape) -> Result<Search> {
     let Making {
         alloc: _,
         shape: _,
         stock: _,
         mapping,
-    } = making;
+    } = made(alloc, shape)?;
     Ok(Search { mapping })
 }
 
-/// So many storage groups of 16 nexuses each, over 32 hosts.
-pub fn small_groups(alloc: Global, size: u64) -> Result<Search> {
-    let shape = Shape {
+/// The shape of so many storage groups of 16 nexuses each, over 32 hosts.
+fn small_shape(size: u64) -> Shape {
+    Shape {
         hosts: 32,
         each: 1,
         groups: size,
         serves: Serves::One,
         targets: 4,
         units: 4,
-    };
-    search_of(alloc, shape)
+    }
+}
+
+/// The inventory and the mapping of so many storage groups of 16 nexuses each, `g0` and on, all
+/// exposed.
+pub fn world_of_groups(alloc: Global, size: u64) -> Result<(Stock, Mapping<Global>)> {
+    let Making {
+        alloc: _,
+        shape: _,
+        stock,
+        mapping,
+    } = made(alloc, small_shape(size))?;
+    Ok((stock, mapping))
+}
+
+/// So many storage groups of 16 nexuses each, over 32 hosts.
+pub fn small_groups(alloc: Global, size: u64) -> Result<Search> {
+    search_of(alloc, small_shape(size))
 }
 
 /// So many storage groups of 2,047 hosts each, on 32 targets with 256 units.

@@ -11,6 +11,7 @@ mod paths;
 mod plans;
 mod policies;
 mod timing;
+mod trials;
 mod zonings;
 
 use anyhow::{Context, Result, bail};
@@ -31,6 +32,7 @@ fn run<R: Clock + AllocGlobal>(rt: &R, case: &str, size: u64, turns: u64) -> Res
         "clash-wide" => run_turns(rt, turns, &mut clashes::wide_groups(alloc, size)?),
         "clash-many" => run_turns(rt, turns, &mut clashes::many_groups(alloc, size)?),
         "paths" => run_turns(rt, turns, &mut paths::world_of_paths(alloc, size)?),
+        "trial" => run_turns(rt, turns, &mut trials::plan_on_groups(alloc, size)?),
         "host" => run_turns(rt, turns, &mut holders::host_put(alloc, size)?),
         "volume" => run_turns(rt, turns, &mut holders::volume_put(alloc, size)?),
         _ => bail!("no such case"),
