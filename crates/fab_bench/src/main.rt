@@ -17,24 +17,30 @@ mod zonings;
 use anyhow::{Context, Result, bail};
 use std::env;
 use std::rt::Clock;
-use timing::{Timed, run_turns};
+use timing::{Timed, Turn, run_turns};
+
+/// Takes so many turns of a case, where it could be made.
+fn timed<R: Clock, T: Turn + Drop>(rt: &R, turns: u64, made: Result<T>) -> Result<Timed> {
+    let mut case = made?;
+    run_turns(rt, turns, &mut case)
+}
 
 /// Runs a case on the large: makes what it is timed on, and then takes the turns.
 fn run<R: Clock + AllocGlobal>(rt: &R, case: &str, size: u64, turns: u64) -> Result<Timed> {
     let alloc = rt.alloc();
     match case {
-        "activate" => run_turns(rt, turns, &mut zonings::ready_zoning(alloc, size)?),
-        "joined" => run_turns(rt, turns, &mut zonings::two_hubs(alloc, size)?),
-        "plan" => run_turns(rt, turns, &mut plans::plan_text(alloc, size)?),
-        "decide" => run_turns(rt, turns, &mut policies::policy_and_act(alloc, size)?),
-        "policy" => run_turns(rt, turns, &mut policies::policy_text(alloc, size)?),
-        "clash" => run_turns(rt, turns, &mut clashes::small_groups(alloc, size)?),
-        "clash-wide" => run_turns(rt, turns, &mut clashes::wide_groups(alloc, size)?),
-        "clash-many" => run_turns(rt, turns, &mut clashes::many_groups(alloc, size)?),
-        "paths" => run_turns(rt, turns, &mut paths::world_of_paths(alloc, size)?),
-        "trial" => run_turns(rt, turns, &mut trials::plan_on_groups(alloc, size)?),
-        "host" => run_turns(rt, turns, &mut holders::host_put(alloc, size)?),
-        "volume" => run_turns(rt, turns, &mut holders::volume_put(alloc, size)?),
+        "activate" => timed(rt, turns, zonings::ready_zoning(alloc, size)),
+        "joined" => timed(rt, turns, zonings::two_hubs(alloc, size)),
+        "plan" => timed(rt, turns, plans::plan_text(alloc, size)),
+        "decide" => timed(rt, turns, policies::policy_and_act(alloc, size)),
+        "policy" => timed(rt, turns, policies::policy_text(alloc, size)),
+        "clash" => timed(rt, turns, clashes::small_groups(alloc, size)),
+        "clash-wide" => timed(rt, turns, clashes::wide_groups(alloc, size)),
+        "clash-many" => timed(rt, turns, clashes::many_groups(alloc, size)),
+        "paths" => timed(rt, turns, paths::world_of_paths(alloc, size)),
+        "trial" => timed(rt, turns, trials::plan_on_groups(alloc, size)),
+        "host" => timed(rt, turns, holders::host_put(alloc, size)),
+        "volume" => timed(rt, turns, holders::volume_put(alloc, size)),
         _ => bail!("no such case"),
     }
 }
