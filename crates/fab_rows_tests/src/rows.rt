@@ -140,11 +140,17 @@ fn change(
     Ok(difference(alloc, before, after)?)
 }
 
+/// Whether the second configuration differs from this one as the table says.
+fn differs(alloc: Global, before: &Config<Global>, case: Change) -> Result<bool, Fail> {
+    let after = config(alloc, case.1)?;
+    let change = change(alloc, before, &after)?;
+    is_change(change, (case.2, case.3))
+}
+
 /// Whether the configurations differ as the table says.
 fn differ(alloc: Global, case: Change) -> Result<bool, Fail> {
-    let (before, after) = (config(alloc, case.0)?, config(alloc, case.1)?);
-    let change = change(alloc, &before, &after)?;
-    is_change(change, (case.2, case.3))
+    let before = config(alloc, case.0)?;
+    differs(alloc, &before, case)
 }
 
 #[test]
@@ -181,11 +187,22 @@ fn undone_rows(
     without(alloc, rows, change)
 }
 
+/// Whether the second configuration's rows, with the change from this one undone, are those of the
+/// lines.
+fn is_undone_to(
+    alloc: Global,
+    before: &Config<Global>,
+    case: (World, World, &[Line]),
+) -> Result<bool, Fail> {
+    let after = config(alloc, case.1)?;
+    let rows = undone_rows(alloc, before, &after)?;
+    are_these(rows, case.2)
+}
+
 /// Whether the second configuration's rows, with the change undone, are those of the lines.
 fn is_undone(alloc: Global, case: (World, World, &[Line])) -> Result<bool, Fail> {
-    let (before, after) = (config(alloc, case.0)?, config(alloc, case.1)?);
-    let rows = undone_rows(alloc, &before, &after)?;
-    are_these(rows, case.2)
+    let before = config(alloc, case.0)?;
+    is_undone_to(alloc, &before, case)
 }
 
 #[test]

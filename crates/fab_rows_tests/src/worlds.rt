@@ -95,11 +95,24 @@ fn groups(
     Ok(groups)
 }
 
+/// The zoning of fabric A after the plan.
+fn zoned(alloc: Global) -> Result<Zoning<Global>, Fail> {
+    let mut zoning = Zoning::new(alloc, Fabric::A);
+    zone(&mut zoning)?;
+    Ok(zoning)
+}
+
+/// The mapping after the plan.
+fn mapped(alloc: Global, exposed: bool) -> Result<Mapping<Global>, Fail> {
+    let host_groups = host_groups(alloc)?;
+    let groups = groups(alloc, exposed)?;
+    Ok(Mapping::from_maps(alloc, host_groups, groups))
+}
+
 /// The configuration after the plan, its storage group exposed or hidden.
 pub fn planned(alloc: Global, exposed: bool) -> Result<Config<Global>, Fail> {
-    let mut a = Zoning::new(alloc, Fabric::A);
-    zone(&mut a)?;
+    let mapping = mapped(alloc, exposed)?;
+    let a = zoned(alloc)?;
     let b = Zoning::new(alloc, Fabric::B);
-    let mapping = Mapping::from_maps(alloc, host_groups(alloc)?, groups(alloc, exposed)?);
     Ok(Config { a, b, mapping })
 }
