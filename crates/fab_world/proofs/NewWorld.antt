@@ -1,26 +1,20 @@
 -- A new world is sound.
-use Rattle.std.proofs.Common.{ℕ, ◌≡◌, ◌<◌, List, [], ◌∷◌, length, Contains, Option, None, Some, true, refl, sym, ap, ◌∙◌, arith}
+use Rattle.std.proofs.Common.{ℕ, ◌≡◌, ◌<◌, List, [], ◌∷◌, length, Contains, Option, None, Some, refl, sym, ap, ◌∙◌, arith}
 use Rattle.std.specs.Cmp.{eq_by_cmp_equiv}
 use Rattle.std.specs.FinMap as map
-use Rattle.std.specs.List.{IsDistinct}
 use Rattle.std.specs.Option.{option_map}
-use Rattle.std.specs.Ordering.{nat_cmp, eq_by_cmp}
+use Rattle.std.specs.Ordering.{nat_cmp}
 use Rattle.std.proofs.lemmas.Map.Made.{IsDistinct-from_count}
-use Rattle.fab_maps.specs.Firsts.{HasAt}
 use Rattle.fab_names.specs.Orders.{name_cmp}
 use Rattle.fab_names.proofs.OrderLaws.{name_total}
 use Rattle.fab_names.specs.declared.fabric.Fabric.{Fabric}
 use Rattle.fab_names.specs.declared.fabric.Fabric.TheVariants.{A, B}
-use Rattle.fab_inventory.specs.declared.port.Known.{Known}
-use Rattle.fab_inventory.specs.declared.port.Port.{Port}
 use Rattle.fab_inventory.specs.Inventories as inventories
 use Rattle.fab_inventory.specs.Ports.{port_of}
 use Rattle.fab_zoning.proofs.Keeping.{new_is_sound}
 use Rattle.fab_zoning.specs.Soundness as zonings
-use Rattle.fab_mapping_base.specs.Groups.{StorageGroupRows}
 use Rattle.fab_mapping.specs.Mappings.{no_groups, HasNoClash}
 use Rattle.fab_mapping.specs.Soundness as mappings
-use Rattle.fab_reach.specs.Limits.{MoreThan}
 use Rattle.fab_reach.specs.Reach.{Reaches}
 use Rattle.fab_reach.specs.Records.{zoning_at}
 use Rattle.fab_reach.specs.declared.path.Path.{Path}

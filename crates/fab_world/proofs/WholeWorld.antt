@@ -1,5 +1,5 @@
 -- A world by its parts.
-use Rattle.std.proofs.Common.{ℕ, ◌≡◌, ◌≤◌, ◌<◌, ◌↔◌, List, Option, Bool, IsTrue, true, Result, Ok, Err, IfOk, refl, sym, ap, ◌∙◌, subst, reverse, length}
+use Rattle.std.proofs.Common.{ℕ, ◌≡◌, ◌≤◌, List, Result, Ok, Err, IfOk, refl, sym, ◌∙◌, subst, reverse, length}
 use Rattle.std.specs.BTreeMap.{BTreeMap, IsOrdered, get}
 use Rattle.std.specs.FinMap as map
 use Rattle.fab_names.specs.Orders.{name_cmp}

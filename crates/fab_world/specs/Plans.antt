@@ -1,5 +1,5 @@
 -- What a plan shows in each of its states.
-use Rattle.std.specs.Prelude.{ℕ, ◌≡◌, List, Option, None, Some, IsSome}
+use Rattle.std.specs.Prelude.{List, Option, None, Some, IsSome}
 use Rattle.std.specs.FinMap as map
 use Rattle.fab_plans.specs.Plans.{PlanRows}
 use Rattle.fab_plans.specs.declared.plan.Plan.{Plan}

@@ -1,5 +1,5 @@
 -- Which worlds are sound.
-use Rattle.std.specs.Prelude.{ℕ, ◌≡◌, ◌≤◌, ◌↔◌, List, Contains, Option, reverse}
+use Rattle.std.specs.Prelude.{ℕ, ◌≤◌, ◌↔◌, List, Contains, Option, reverse}
 use Rattle.std.specs.FinMap as map
 use Rattle.std.specs.List.{IsDistinct}
 use Rattle.std.specs.Ordering.{eq_by_cmp}

@@ -1,4 +1,4 @@
-use Rattle.std.proofs.Common.{sym, ◌∙◌, subst}
+use Rattle.std.proofs.Common.{sym, subst}
 use Rattle.fab_mapping.specs.Mappings.{HasNoClash}
 use Rattle.fab_mapping.specs.Soundness.{IsSound}
 use Rattle.fab_world.proofs.Presents.{none_found, not_found}
