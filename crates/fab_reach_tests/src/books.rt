@@ -107,21 +107,53 @@ fn is_led<B: PathBook<Global>>(
     has_all(&book, turn.2)
 }
 
-/// Whether the turns of a table are right, from an empty configuration on.
-fn are_led<B: PathBook<Global>>(alloc: Global, turns: &[Turn]) -> Result<bool, Fail> {
-    let inventory = stock(alloc)?;
+/// Whether a book is led from one configuration to another by the turn.
+fn is_led_between<B: PathBook<Global>>(
+    alloc: Global,
+    inventory: &Inventory<Global>,
+    worlds: (&Config<Global>, &Config<Global>),
+    old: [Ways; 2],
+    turn: Turn,
+) -> Result<bool, Fail> {
+    let before = View::of(inventory, worlds.0);
+    let after = View::of(inventory, worlds.1);
+    is_led::<B>(alloc, &before, &after, old, turn)
+}
+
+/// Whether a book is led through the step of the turn, which is taken.
+fn is_led_on<B: PathBook<Global>>(
+    alloc: Global,
+    inventory: &Inventory<Global>,
+    config: &mut Config<Global>,
+    old: [Ways; 2],
+    turn: Turn,
+) -> Result<bool, Fail> {
+    let before = config.copy()?;
+    change(config, inventory, turn.0)?;
+    is_led_between::<B>(alloc, inventory, (&before, config), old, turn)
+}
+
+/// Whether the turns of a table are right beside an inventory, from an empty configuration on.
+fn are_led_beside<B: PathBook<Global>>(
+    alloc: Global,
+    inventory: &Inventory<Global>,
+    turns: &[Turn],
+) -> Result<bool, Fail> {
     let mut config = empty(alloc);
     let mut old = [Ways::None, Ways::None];
     for turn in turns {
-        let before = config.copy()?;
-        change(&mut config, &inventory, turn.0)?;
-        let views = (View::of(&inventory, &before), View::of(&inventory, &config));
-        if !is_led::<B>(alloc, &views.0, &views.1, old, *turn)? {
+        if !is_led_on::<B>(alloc, inventory, &mut config, old, *turn)? {
             return Ok(false);
         }
         old = turn.2;
     }
     Ok(true)
+}
+
+/// Whether the turns of a table are right.
+fn are_led<B: PathBook<Global>>(alloc: Global, turns: &[Turn]) -> Result<bool, Fail> {
+    let inventory = stock(alloc)?;
+    are_led_beside::<B>(alloc, &inventory, turns)
 }
 
 #[test]
@@ -192,11 +224,29 @@ fn configs(
     Ok(configs)
 }
 
-/// Whether a book is led through all worlds of the table, in one call.
+/// Whether a book is led from the empty configuration through these.
+fn is_led_to<B: PathBook<Global>>(
+    alloc: Global,
+    inventory: &Inventory<Global>,
+    rest: &[Config<Global>],
+) -> Result<bool, Fail> {
+    let first = empty(alloc);
+    is_led_from::<B>(alloc, inventory, &first, rest)
+}
+
+/// Whether a book is led through all worlds of the table beside an inventory, in one call.
+fn is_led_beside<B: PathBook<Global>>(
+    alloc: Global,
+    inventory: &Inventory<Global>,
+) -> Result<bool, Fail> {
+    let rest = configs(alloc, inventory, &[1, 4, 8])?;
+    is_led_to::<B>(alloc, inventory, rest.as_slice())
+}
+
+/// Whether a book is led through all worlds of the table.
 fn is_led_through<B: PathBook<Global>>(alloc: Global) -> Result<bool, Fail> {
     let inventory = stock(alloc)?;
-    let rest = configs(alloc, &inventory, &[1, 4, 8])?;
-    is_led_from::<B>(alloc, &inventory, &empty(alloc), rest.as_slice())
+    is_led_beside::<B>(alloc, &inventory)
 }
 
 #[test]

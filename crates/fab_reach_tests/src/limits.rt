@@ -72,17 +72,17 @@ fn volumes(inventory: &mut Inventory<Global>) -> Result<(), Fail> {
     Ok(())
 }
 
-/// All ports are logged
-/// in at fabric A; the array `arr1` has 32 targets, ports 65 to 96, and the volumes.
+/// The array `arr1` has 32 targets, ports 65 to 96.
+fn hold_targets(inventory: &mut Inventory<Global>, alloc: Global) -> Result<(), Fail> {
+    let ports = ports(alloc, 65, 97)?;
+    hold(inventory, HolderKind::Array, "arr1", &ports)
+}
+
+/// All ports are logged in at fabric A; the array `arr1` has its targets, and the volumes.
 fn stock(alloc: Global) -> Result<Inventory<Global>, Fail> {
     let mut inventory = Inventory::new(alloc);
     list(&mut inventory, alloc)?;
-    hold(
-        &mut inventory,
-        HolderKind::Array,
-        "arr1",
-        &ports(alloc, 65, 97)?,
-    )?;
+    hold_targets(&mut inventory, alloc)?;
     volumes(&mut inventory)?;
     Ok(inventory)
 }
@@ -251,11 +251,16 @@ fn are_so_many(
     are_few(alloc, inventory, config, case.3)
 }
 
+/// Whether a case is as it says beside an inventory.
+fn is_right_beside(alloc: Global, inventory: &Inventory<Global>, case: Case) -> Result<bool, Fail> {
+    let config = permitting(alloc, inventory, case.1)?;
+    are_so_many(alloc, inventory, &config, case)
+}
+
 /// Whether a case is as it says.
 fn is_right(alloc: Global, case: Case) -> Result<bool, Fail> {
     let inventory = world(alloc, case.0)?;
-    let config = permitting(alloc, &inventory, case.1)?;
-    are_so_many(alloc, &inventory, &config, case)
+    is_right_beside(alloc, &inventory, case)
 }
 
 #[test]

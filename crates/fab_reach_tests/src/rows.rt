@@ -134,16 +134,25 @@ fn is_right(
     has_few_paths(alloc, inventory, config, line.1)
 }
 
-/// Whether the lines of a table are right, from an empty configuration on.
-fn are_right(alloc: Global, lines: &[Line]) -> Result<bool, Fail> {
-    let inventory = stock(alloc)?;
+/// Whether the lines of a table are right beside an inventory, from an empty configuration on.
+fn are_right_beside(
+    alloc: Global,
+    inventory: &Inventory<Global>,
+    lines: &[Line],
+) -> Result<bool, Fail> {
     let mut config = empty(alloc);
     for line in lines {
-        if !is_right(alloc, &inventory, &mut config, *line)? {
+        if !is_right(alloc, inventory, &mut config, *line)? {
             return Ok(false);
         }
     }
     Ok(true)
+}
+
+/// Whether the lines of a table are right.
+fn are_right(alloc: Global, lines: &[Line]) -> Result<bool, Fail> {
+    let inventory = stock(alloc)?;
+    are_right_beside(alloc, &inventory, lines)
 }
 
 #[test]
@@ -245,16 +254,35 @@ fn permitting(alloc: Global, inventory: &Inventory<Global>) -> Result<Config<Glo
     Ok(config)
 }
 
-/// Whether the moves of a table are right, from all ports on.
-fn are_moved(alloc: Global, moves: &[(Move, Ways)]) -> Result<bool, Fail> {
-    let mut inventory = stock(alloc)?;
-    let config = permitting(alloc, &inventory)?;
+/// Whether the moves of a table are right beside a configuration.
+fn are_moved_beside(
+    alloc: Global,
+    inventory: &mut Inventory<Global>,
+    config: &Config<Global>,
+    moves: &[(Move, Ways)],
+) -> Result<bool, Fail> {
     for case in moves {
-        if !is_moved(alloc, &mut inventory, &config, *case)? {
+        if !is_moved(alloc, inventory, config, *case)? {
             return Ok(false);
         }
     }
     Ok(true)
+}
+
+/// Whether the moves of a table are right in an inventory.
+fn are_moved_in(
+    alloc: Global,
+    inventory: &mut Inventory<Global>,
+    moves: &[(Move, Ways)],
+) -> Result<bool, Fail> {
+    let config = permitting(alloc, inventory)?;
+    are_moved_beside(alloc, inventory, &config, moves)
+}
+
+/// Whether the moves of a table are right, from all ports on.
+fn are_moved(alloc: Global, moves: &[(Move, Ways)]) -> Result<bool, Fail> {
+    let mut inventory = stock(alloc)?;
+    are_moved_in(alloc, &mut inventory, moves)
 }
 
 #[test]
