@@ -5,6 +5,8 @@
 mod by_zone;
 mod fault;
 mod flag;
+#[cfg(test)]
+mod large_tests;
 pub mod laws;
 mod named;
 mod port_zones;

@@ -106,19 +106,26 @@ fn zoning_with(alloc: Global, rows: &[Texts]) -> Result<Zoning<Global>, Fail> {
     Ok(Zoning::from_parts(alloc, Fabric::A, parts))
 }
 
-/// Whether the rows are listed so.
-fn are_listed(alloc: Global, rows: &[Texts], listed: &[Texts]) -> Result<bool, Fail> {
-    let zoning = zoning_with(alloc, rows)?;
-    let found = zoning.active_rows()?;
-    if found.len() != listed.len() {
-        return Ok(false);
-    }
+/// Whether the texts spell these rows.
+fn are_spelled(found: &BTreeSet<(Name, Member)>, listed: &[Texts]) -> Result<bool, Fail> {
     for (row, texts) in found.iter().zip(listed) {
         if *row != row_of(*texts)? {
             return Ok(false);
         }
     }
-    Ok(true)
+    Ok(found.len() == listed.len())
+}
+
+/// Whether the active rows of a zoning are listed so.
+fn is_listed(zoning: &Zoning<Global>, listed: &[Texts]) -> Result<bool, Fail> {
+    let found = zoning.active_rows()?;
+    are_spelled(&found, listed)
+}
+
+/// Whether the rows are listed so.
+fn are_listed(alloc: Global, rows: &[Texts], listed: &[Texts]) -> Result<bool, Fail> {
+    let zoning = zoning_with(alloc, rows)?;
+    is_listed(&zoning, listed)
 }
 
 #[test]

@@ -398,57 +398,55 @@ fn is_right(zoning: &mut Zoning<Global>, act: Act, want: Want) -> Result<bool, F
     }
 }
 
+/// Whether the lines of a table are right, one after the other.
+fn are_right_in(zoning: &mut Zoning<Global>, lines: &[(Act, Want)]) -> Result<bool, Fail> {
+    for (act, want) in lines {
+        if !is_right(zoning, *act, *want)? {
+            return Ok(false);
+        }
+    }
+    Ok(true)
+}
+
+/// Whether the lines of a table are right, from a zoning with nothing on.
+fn are_right(alloc: Global, lines: &[(Act, Want)]) -> Result<bool, Fail> {
+    let mut zoning = Zoning::new(alloc, Fabric::A);
+    are_right_in(&mut zoning, lines)
+}
+
 #[test]
 fn joined_by_active_set(rt: HostRuntime) -> Result<(), Fail> {
-    let mut zoning = Zoning::new(rt.alloc(), Fabric::A);
-    for (act, want) in ACTIVE_SET {
-        assert!(rt; is_right(&mut zoning, act, want)?);
-    }
+    assert!(rt; are_right(rt.alloc(), &ACTIVE_SET)?);
     Ok(())
 }
 
 #[test]
 fn default_zone(rt: HostRuntime) -> Result<(), Fail> {
-    let mut zoning = Zoning::new(rt.alloc(), Fabric::A);
-    for (act, want) in DEFAULT_ZONE {
-        assert!(rt; is_right(&mut zoning, act, want)?);
-    }
+    assert!(rt; are_right(rt.alloc(), &DEFAULT_ZONE)?);
     Ok(())
 }
 
 #[test]
 fn first_zone_by_name(rt: HostRuntime) -> Result<(), Fail> {
-    let mut zoning = Zoning::new(rt.alloc(), Fabric::A);
-    for (act, want) in FIRST_ZONE {
-        assert!(rt; is_right(&mut zoning, act, want)?);
-    }
+    assert!(rt; are_right(rt.alloc(), &FIRST_ZONE)?);
     Ok(())
 }
 
 #[test]
 fn members_for_several_ports(rt: HostRuntime) -> Result<(), Fail> {
-    let mut zoning = Zoning::new(rt.alloc(), Fabric::A);
-    for (act, want) in SEVERAL_PORTS {
-        assert!(rt; is_right(&mut zoning, act, want)?);
-    }
+    assert!(rt; are_right(rt.alloc(), &SEVERAL_PORTS)?);
     Ok(())
 }
 
 #[test]
 fn active_set_is_a_copy(rt: HostRuntime) -> Result<(), Fail> {
-    let mut zoning = Zoning::new(rt.alloc(), Fabric::A);
-    for (act, want) in COPIES {
-        assert!(rt; is_right(&mut zoning, act, want)?);
-    }
+    assert!(rt; are_right(rt.alloc(), &COPIES)?);
     Ok(())
 }
 
 #[test]
 fn refusals_by_the_first(rt: HostRuntime) -> Result<(), Fail> {
-    let mut zoning = Zoning::new(rt.alloc(), Fabric::A);
-    for (act, want) in REFUSALS {
-        assert!(rt; is_right(&mut zoning, act, want)?);
-    }
+    assert!(rt; are_right(rt.alloc(), &REFUSALS)?);
     Ok(())
 }
 
@@ -506,7 +504,7 @@ fn last_put(
 }
 
 /// Whether it was accepted, or refused by this limit.
-fn is_limited(answer: Result<(), ZoningFault>, limit: Option<ZoningLimit>) -> bool {
+pub(crate) fn is_limited(answer: Result<(), ZoningFault>, limit: Option<ZoningLimit>) -> bool {
     match limit {
         Some(limit) => answer == Err(ZoningFault::Limit(limit)),
         None => answer.is_ok(),
@@ -526,7 +524,7 @@ fn limits_of_a_fabric(rt: HostRuntime) -> Result<(), Fail> {
 }
 
 /// So many ports, from this number on.
-fn ports(alloc: Global, first: u32, count: u32) -> Result<Vec<Member>, AllocError>
+pub(crate) fn ports(alloc: Global, first: u32, count: u32) -> Result<Vec<Member>, AllocError>
     ensures { IfOk result (λ members. All IsPlain members.items) }
 {
     let mut members = Vec::new(alloc);
@@ -576,58 +574,6 @@ fn limits_of_members(rt: HostRuntime) -> Result<(), Fail> {
         let answer = put_long(alloc, &mut zoning, kind, count)?;
         assert!(rt; is_limited(answer, limit), "{count} members");
     }
-    Ok(())
-}
-
-/// A zone of 255 aliases of 255 ports each, all different.
-fn put_large_zone(alloc: Global, zoning: &mut Zoning<Global>) -> Result<Name, Fail> {
-    let mut aliases = Vec::new(alloc);
-    for number in 0u32..255 {
-        let alias = numbered(alloc, number)?;
-        zoning.put_alias(alias, &ports(alloc, 255 * number, 255)?)?;
-        aliases.push(Member::Alias(alias))?;
-    }
-    let zone = numbered(alloc, 0)?;
-    zoning.put_zone(zone, &aliases)?;
-    Ok(zone)
-}
-
-/// A zone of so many ports.
-fn put_zone_of(
-    alloc: Global,
-    zoning: &mut Zoning<Global>,
-    number: u32,
-    count: u32,
-) -> Result<Name, Fail> {
-    let zone = numbered(alloc, number)?;
-    zoning.put_zone(zone, &ports(alloc, 0, count)?)?;
-    Ok(zone)
-}
-
-/// Activates a set of 65535 rows and so many more.
-fn activate_large(alloc: Global, more: u32) -> Result<Result<(), ZoningFault>, Fail> {
-    let mut zoning = Zoning::new(alloc, Fabric::A);
-    let mut zones = Vec::new(alloc);
-    zones.push(put_large_zone(alloc, &mut zoning)?)?;
-    zones.push(put_zone_of(alloc, &mut zoning, 1, 255)?)?;
-    zones.push(put_zone_of(alloc, &mut zoning, 2, 255)?)?;
-    zones.push(put_zone_of(alloc, &mut zoning, 3, more)?)?;
-    let zone_set = numbered(alloc, 0)?;
-    zoning.put_set(zone_set, &zones)?;
-    Ok(zoning.activate(&zone_set))
-}
-
-#[test]
-fn limit_of_active_rows(rt: HostRuntime) -> Result<(), Fail> {
-    let answer = activate_large(rt.alloc(), 1)?;
-    assert!(rt; is_limited(answer, None));
-    Ok(())
-}
-
-#[test]
-fn past_the_limit_of_active_rows(rt: HostRuntime) -> Result<(), Fail> {
-    let answer = activate_large(rt.alloc(), 2)?;
-    assert!(rt; is_limited(answer, Some(ZoningLimit::Active)));
     Ok(())
 }
 
