@@ -2,5 +2,8 @@
 #![tactic(auto)]
 
 mod order;
+mod plans;
+mod texts;
 
 pub use order::order_of;
+pub use plans::{PlanParts, plan_of};

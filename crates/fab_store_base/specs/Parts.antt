@@ -1,0 +1,38 @@
+-- Plans that are put together from their rows, and from their approvals and changes by name: steps on
+-- the way.
+use Rattle.std.specs.Prelude.{ℕ, ◌≡◌, List, [], Option, None, Some}
+use Rattle.std.specs.BTreeMap.{BTreeMap, get}
+use Rattle.std.specs.BTreeSet.{BTreeSet}
+use Rattle.std.specs.FinMap as map
+use Rattle.fab_names.specs.Orders.{name_cmp}
+use Rattle.fab_rows.specs.declared.config_row.ConfigRow.{ConfigRow}
+use Rattle.fab_rows.specs.declared.record_row.PlanState.{PlanState}
+use Rattle.fab_rows.specs.declared.record_row.PlanState.TheVariants as state
+use Rattle.fab_store_base.specs.declared.plans.PlanParts.{PlanParts}
+use Rattle.fab_store_base.specs.PlanRows.{IsTextOf}
+use Rattle.fab_rows.specs.declared.record_row.PlanRow.{PlanRow}
+use Rattle.fab_world.specs.PlanRecords.{Standing, staged, active, rolled_back, withdrawn, PlanRecord}
+
+-- the rows of the set that was found, or none
+abbrev pub rows_at : Option (BTreeSet ConfigRow) → List ConfigRow
+rows_at None = []
+rows_at (Some s) = s.keys
+
+-- the approvals that were found, or none
+abbrev pub approvals_at : Option (BTreeMap (List ℕ) ℕ) → map.FinMap name_cmp ℕ
+approvals_at None = map.empty
+approvals_at (Some t) = map.from_entries t.entries
+
+-- where a plan in this state stands, whose activation changed this
+abbrev pub standing_in : PlanState → List ConfigRow → List ConfigRow → Standing
+standing_in state.Staged taken added = staged
+standing_in state.Active taken added = active taken added
+standing_in state.RolledBack taken added = rolled_back
+standing_in state.Withdrawn taken added = withdrawn
+
+-- the plan of the row, with what stands under its name
+pub record IsMadeOf {A : Type 0} (r : PlanRow) (parts : PlanParts A) (p : PlanRecord) : Type 0 where
+  pub author : p.author ≡ r.author
+  pub text : IsTextOf r.text.now p.steps
+  pub approvals : p.approvals ≡ approvals_at (get name_cmp parts.approvals r.name)
+  pub standing : p.standing ≡ standing_in r.state (rows_at (get name_cmp parts.taken r.name)) (rows_at (get name_cmp parts.added r.name))

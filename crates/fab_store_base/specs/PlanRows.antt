@@ -1,0 +1,54 @@
+-- The rows of plans, of their approvals, and of what active plans changed.
+use Rattle.std.specs.Prelude.{ℕ, ◌≡◌, ◌<◌, List, length, get_or, Contains, Option, Some}
+use Rattle.std.specs.FinMap as map
+use Rattle.fab_maps.specs.Firsts.{HasAt}
+use Rattle.fab_load.specs.Inventories.{AreAll}
+use Rattle.fab_steps.specs.Steps.{PlanStep}
+use Rattle.fab_steps.specs.Plans.{Spells, plan_text}
+use Rattle.fab_rows.specs.declared.config_row.ConfigRow.{ConfigRow}
+use Rattle.fab_rows.specs.declared.record_row.PlanRow.{PlanRow}
+use Rattle.fab_rows.specs.declared.record_row.ApprovalRow.{ApprovalRow}
+use Rattle.fab_rows.specs.declared.record_row.UndoRow.{UndoRow}
+use Rattle.fab_rows.specs.declared.record_row.Sign.{Sign}
+use Rattle.fab_rows.specs.declared.record_row.Sign.TheVariants.{Taken, Added}
+use Rattle.fab_world.specs.PlanRecords.{Standing, active, PlanRecord}
+use Rattle.fab_world.specs.Plans.{state_of}
+
+-- the text is the printed form of the steps, and spells them
+pub record IsTextOf (text : List ℕ) (steps : List PlanStep) : Type 0 where
+  pub spells : Spells text steps
+  pub printed : text ≡ plan_text steps
+
+-- the row is the plan's
+pub record IsRowOf (r : PlanRow) (p : PlanRecord) : Type 0 where
+  pub author : p.author ≡ r.author
+  pub text : IsTextOf r.text.now p.steps
+  pub state : state_of p.standing ≡ r.state
+
+-- the caller of the row approved the plan, the last time at its revision
+abbrev pub IsApprovalOf : ApprovalRow → PlanRecord → Type 0
+IsApprovalOf r p = map.get p.approvals r.caller ≡ Some r.revision
+
+-- the activation that is in force took the row away, or added it
+abbrev pub IsChanged : Standing → Sign → ConfigRow → Type 0
+IsChanged (active taken added) Taken row = Contains taken row
+IsChanged (active taken added) Added row = Contains added row
+IsChanged _ sign row = ⊥
+
+-- no two rows have one name
+abbrev pub HaveNames : List PlanRow → Type 0
+HaveNames rows = (i j : ℕ) (d : PlanRow) → i < length rows → j < length rows → (get_or rows i d).name ≡ (get_or rows j d).name → i ≡ j
+
+-- the rows are those of the plans: each plan has one, under its name
+pub record ArePlanRows (rows : List PlanRow) (plans : List ℕ → Option PlanRecord) : Type 0 where
+  pub each : (r : PlanRow) → Contains rows r → HasAt plans (IsRowOf r) r.name
+  pub every : (n : List ℕ) (p : PlanRecord) → plans n ≡ Some p → (r : PlanRow) × Contains rows r × (r.name ≡ n)
+  pub once : HaveNames rows
+
+-- the rows are those of the plans' approvals
+abbrev pub AreApprovalRows : List ApprovalRow → (List ℕ → Option PlanRecord) → Type 0
+AreApprovalRows rows plans = AreAll rows (λ r. HasAt plans (IsApprovalOf r) r.plan)
+
+-- the rows are those of what the activations in force took away and added
+abbrev pub AreUndoRows : List UndoRow → (List ℕ → Option PlanRecord) → Type 0
+AreUndoRows rows plans = AreAll rows (λ r. HasAt plans (λ (p : PlanRecord). IsChanged p.standing r.sign r.row) r.plan)

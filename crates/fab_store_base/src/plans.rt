@@ -1,0 +1,100 @@
+//! Plans, put together from their rows.
+ghost use Rattle.std.specs.Prelude.{◌≡◌, MatchOption, IfOk};
+ghost use Rattle.std.specs.BTreeMap.{get};
+ghost use Rattle.std.specs.FinMap as map;
+ghost use Rattle.fab_names.specs.Orders.{name_cmp};
+ghost use Rattle.fab_plans.specs.Plans.{seen_plan};
+ghost use Rattle.fab_world.specs.PlanRecords.{PlanRecord};
+ghost use Rattle.fab_store_base.specs.Parts.{rows_at, approvals_at, standing_in, IsMadeOf};
+ghost use Rattle.fab_store_base.specs.PlanRows.{IsTextOf};
+
+use crate::texts::steps_of;
+use fab_load::LoadFault;
+use fab_names::Name;
+use fab_plans::{Active, Plan, RolledBack, Staged, Withdrawn};
+use fab_rows::{ConfigRow, PlanRow, PlanState, RowDifference};
+use fab_world::{AnyPlan, KeptPlan};
+use std::alloc::{AllocError, Allocator};
+use std::collections::{BTreeMap, BTreeSet};
+
+/// What rows say of plans beside the plans' own rows, by the plans' names.
+#[derive(Drop)]
+pub struct PlanParts<A: Allocator + Copy> {
+    /// The revisions at which callers approved them.
+    pub approvals: BTreeMap<Name, BTreeMap<Name, u64, A>, A>,
+    /// The rows that activations took away.
+    pub taken: BTreeMap<Name, BTreeSet<ConfigRow, A>, A>,
+    /// The rows that activations added.
+    pub added: BTreeMap<Name, BTreeSet<ConfigRow, A>, A>,
+}
+
+/// The rows under a name, in order; none where there is no such name.
+fn rows_under<A: Allocator + Copy>(
+    alloc: A,
+    sets: &BTreeMap<Name, BTreeSet<ConfigRow, A>, A>,
+    name: &Name,
+) -> Result<Vec<ConfigRow, A>, AllocError>
+    ensures { IfOk result (λ rows. rows.items ≡ rows_at (get name_cmp sets.now name.now)) }
+{
+    match sets.get(name) {
+        Some(rows) => rows.iter().copied().collect(alloc),
+        None => Ok(Vec::new(alloc)),
+    }
+}
+
+/// The approvals under a name; none where there is no such name.
+fn approvals_under<A: Allocator + Copy>(
+    alloc: A,
+    approvals: &BTreeMap<Name, BTreeMap<Name, u64, A>, A>,
+    name: &Name,
+) -> Result<BTreeMap<Name, u64, A>, AllocError>
+    ensures { IfOk result (λ own. map.from_entries {R = name_cmp} own.entries ≡ approvals_at (get name_cmp approvals.now name.now)) }
+{
+    match approvals.get(name) {
+        Some(own) => own.clone(),
+        None => Ok(BTreeMap::new(alloc)),
+    }
+}
+
+/// The plan in its state, with what its activation changed where it is active.
+fn kept<A: Allocator + Copy>(plan: Plan<A>, state: PlanState, undo: RowDifference<A>) -> KeptPlan<A>
+    ensures { result ≡ record {
+      author = plan.author;
+      steps = plan.steps.items;
+      approvals = map.from_entries plan.approvals.entries;
+      standing = standing_in state undo.taken.items undo.added.items;
+    } }
+{
+    let inner = match state {
+        PlanState::Staged => AnyPlan::Staged(Staged { plan }),
+        PlanState::Active => AnyPlan::Active(Active { plan, undo }),
+        PlanState::RolledBack => AnyPlan::RolledBack(RolledBack { plan }),
+        PlanState::Withdrawn => AnyPlan::Withdrawn(Withdrawn { plan }),
+    };
+    KeptPlan { inner }
+}
+
+/// The plan of a row, with its approvals and changes; none where the row's text is no plan's.
+///
+/// # Errors
+/// `Memory` where there is none.
+pub fn plan_of<A: Allocator + Copy>(
+    alloc: A,
+    row: &PlanRow<'_>,
+    parts: &PlanParts<A>,
+) -> Result<Option<KeptPlan<A>>, LoadFault>
+    ensures { IfOk result (λ found. MatchOption found ((p : PlanRecord) → ¬ IsTextOf row.now.text.now p.steps) (IsMadeOf row.now parts.now)) }
+{
+    let Some(steps) = steps_of(alloc, row.text)? else {
+        return Ok(None);
+    };
+    let approvals = approvals_under(alloc, &parts.approvals, &row.name)?;
+    let taken = rows_under(alloc, &parts.taken, &row.name)?;
+    let added = rows_under(alloc, &parts.added, &row.name)?;
+    let plan = Plan {
+        author: row.author,
+        steps,
+        approvals,
+    };
+    Ok(Some(kept(plan, row.state, RowDifference { taken, added })))
+}
