@@ -1,15 +1,16 @@
 -- Plans that are put together from their rows, and from their approvals and changes by name: steps on
 -- the way.
-use Rattle.std.specs.Prelude.{ℕ, ◌≡◌, List, [], Option, None, Some}
+use Rattle.std.specs.Prelude.{ℕ, ◌≡◌, List, [], Contains, Option, None, Some}
 use Rattle.std.specs.BTreeMap.{BTreeMap, get}
 use Rattle.std.specs.BTreeSet.{BTreeSet}
 use Rattle.std.specs.FinMap as map
+use Rattle.fab_maps.specs.Firsts.{HasAt}
 use Rattle.fab_names.specs.Orders.{name_cmp}
 use Rattle.fab_rows.specs.declared.config_row.ConfigRow.{ConfigRow}
 use Rattle.fab_rows.specs.declared.record_row.PlanState.{PlanState}
 use Rattle.fab_rows.specs.declared.record_row.PlanState.TheVariants as state
 use Rattle.fab_store_base.specs.declared.plans.PlanParts.{PlanParts}
-use Rattle.fab_store_base.specs.PlanRows.{IsTextOf}
+use Rattle.fab_store_base.specs.PlanRows.{IsTextOf, HaveNames}
 use Rattle.fab_rows.specs.declared.record_row.PlanRow.{PlanRow}
 use Rattle.fab_world.specs.PlanRecords.{Standing, staged, active, rolled_back, withdrawn, PlanRecord}
 
@@ -36,3 +37,9 @@ pub record IsMadeOf {A : Type 0} (r : PlanRow) (parts : PlanParts A) (p : PlanRe
   pub text : IsTextOf r.text.now p.steps
   pub approvals : p.approvals ≡ approvals_at (get name_cmp parts.approvals r.name)
   pub standing : p.standing ≡ standing_in r.state (rows_at (get name_cmp parts.taken r.name)) (rows_at (get name_cmp parts.added r.name))
+
+-- the plans are just those of the rows, each with what stands under its name
+pub record AreMadeOf {A : Type 0} (rows : List PlanRow) (parts : PlanParts A) (plans : List ℕ → Option PlanRecord) : Type 0 where
+  pub each : (r : PlanRow) → Contains rows r → HasAt plans (IsMadeOf r parts) r.name
+  pub every : (n : List ℕ) (p : PlanRecord) → plans n ≡ Some p → (r : PlanRow) × Contains rows r × (r.name ≡ n)
+  pub once : HaveNames rows

@@ -1,5 +1,5 @@
 -- The rows of plans, of their approvals, and of what active plans changed.
-use Rattle.std.specs.Prelude.{ℕ, ◌≡◌, ◌<◌, List, length, get_or, Contains, Option, Some}
+use Rattle.std.specs.Prelude.{ℕ, ◌≡◌, List, slice_get, Contains, Option, Some}
 use Rattle.std.specs.FinMap as map
 use Rattle.fab_maps.specs.Firsts.{HasAt}
 use Rattle.fab_load.specs.Inventories.{AreAll}
@@ -37,7 +37,7 @@ IsChanged _ sign row = ⊥
 
 -- no two rows have one name
 abbrev pub HaveNames : List PlanRow → Type 0
-HaveNames rows = (i j : ℕ) (d : PlanRow) → i < length rows → j < length rows → (get_or rows i d).name ≡ (get_or rows j d).name → i ≡ j
+HaveNames rows = (i j : ℕ) (r s : PlanRow) → slice_get rows i ≡ Some r → slice_get rows j ≡ Some s → r.name ≡ s.name → i ≡ j
 
 -- the rows are those of the plans: each plan has one, under its name
 pub record ArePlanRows (rows : List PlanRow) (plans : List ℕ → Option PlanRecord) : Type 0 where

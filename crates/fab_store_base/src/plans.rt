@@ -1,12 +1,12 @@
 //! Plans, put together from their rows.
-ghost use Rattle.std.specs.Prelude.{◌≡◌, MatchOption, IfOk};
-ghost use Rattle.std.specs.BTreeMap.{get};
+ghost use Rattle.std.specs.Prelude.{◌≡◌, ℕ, List, Option, Some, cond, MatchOption, IfOk, OnOk};
+ghost use Rattle.std.specs.BTreeMap.{get, is_at};
 ghost use Rattle.std.specs.FinMap as map;
 ghost use Rattle.fab_names.specs.Orders.{name_cmp};
 ghost use Rattle.fab_plans.specs.Plans.{seen_plan};
 ghost use Rattle.fab_world.specs.PlanRecords.{PlanRecord};
-ghost use Rattle.fab_store_base.specs.Parts.{rows_at, approvals_at, standing_in, IsMadeOf};
-ghost use Rattle.fab_store_base.specs.PlanRows.{IsTextOf};
+ghost use Rattle.fab_store_base.specs.Parts.{rows_at, approvals_at, standing_in, IsMadeOf, AreMadeOf};
+ghost use Rattle.fab_store_base.specs.PlanRows.{IsTextOf, ArePlanRows};
 
 use crate::texts::steps_of;
 use fab_load::LoadFault;
@@ -97,4 +97,41 @@ pub fn plan_of<A: Allocator + Copy>(
         approvals,
     };
     Ok(Some(kept(plan, row.state, RowDifference { taken, added })))
+}
+
+/// Keeps a plan under a name.
+fn put_plan<A: Allocator + Copy>(
+    plans: &mut BTreeMap<Name, KeptPlan<A>, A>,
+    name: Name,
+    plan: KeptPlan<A>,
+) -> Result<(), AllocError>
+    ensures { OnOk result ((q : List ℕ) → get name_cmp plans.new q ≡ cond (is_at (name_cmp name) q) (Some plan) (get name_cmp plans.old q)) }
+{
+    plans.insert(name, plan)?;
+    Ok(())
+}
+
+/// The plans of the rows, by name, with their approvals and changes; none where a row's text is no
+/// plan's, or two rows have one name.
+///
+/// # Errors
+/// `Memory` where there is none.
+pub fn plans_from<A: Allocator + Copy>(
+    alloc: A,
+    rows: &[PlanRow<'_>],
+    parts: &PlanParts<A>,
+) -> Result<Option<BTreeMap<Name, KeptPlan<A>, A>>, LoadFault>
+    ensures { IfOk result (λ found. MatchOption found ((plans : List ℕ → Option PlanRecord) → ¬ ArePlanRows rows.now plans) (λ plans. AreMadeOf rows.now parts.now (get name_cmp plans))) }
+{
+    let mut plans = BTreeMap::new(alloc);
+    for row in rows {
+        if plans.contains_key(&row.name) {
+            return Ok(None);
+        }
+        let Some(plan) = plan_of(alloc, row, parts)? else {
+            return Ok(None);
+        };
+        put_plan(&mut plans, row.name, plan)?;
+    }
+    Ok(Some(plans))
 }
