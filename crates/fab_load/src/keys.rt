@@ -3,6 +3,7 @@ use crate::kind::{Key, Value};
 use crate::kinds::Head;
 use fab_inventory::{Holder, Known, Volume};
 use fab_names::{Fabric, Member, Name, Wwn};
+use fab_rows::ConfigRow;
 
 impl Key for Wwn {
     ghost use Rattle.std.specs.FinSet.{nat_cmp-IsAntisymmetric};
@@ -34,6 +35,12 @@ impl Key for Fabric {
     ghost exact = { exact_fabric };
 }
 
+impl Key for ConfigRow {
+    ghost use Rattle.fab_rows.proofs.OrderOfRows.{row_exact};
+
+    ghost exact = { row_exact };
+}
+
 impl Value for Known {
     ghost use Rattle.fab_load.specs.Values.{same_known};
 
@@ -62,6 +69,12 @@ impl Value for Option<Name> {
     ghost use Rattle.fab_load.specs.Values.{same_name_or_none};
 
     ghost same = { same_name_or_none };
+}
+
+impl Value for u64 {
+    ghost use Rattle.std.proofs.lemmas.Map.Views.{exact_unsigned_eq};
+
+    ghost same = { exact_unsigned_eq };
 }
 
 impl Value for bool {

@@ -1,6 +1,7 @@
 //! The desk's world from the rows of its tables.
 #![tactic(auto)]
 
+mod kinds;
 mod order;
 mod plans;
 mod texts;
