@@ -1,3 +1,4 @@
 pub mod Orders
 pub mod PrintedTexts
 pub mod PlansMade
+pub mod WholePlans

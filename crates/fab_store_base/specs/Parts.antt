@@ -12,6 +12,12 @@ use Rattle.fab_rows.specs.declared.record_row.PlanState.TheVariants as state
 use Rattle.fab_store_base.specs.declared.plans.PlanParts.{PlanParts}
 use Rattle.fab_store_base.specs.PlanRows.{IsTextOf, HaveNames}
 use Rattle.fab_rows.specs.declared.record_row.PlanRow.{PlanRow}
+use Rattle.fab_rows.specs.declared.record_row.ApprovalRow.{ApprovalRow}
+use Rattle.fab_rows.specs.declared.record_row.UndoRow.{UndoRow}
+use Rattle.fab_rows.specs.RowOrder.{row_cmp}
+use Rattle.fab_load.specs.Rows.{AreRows, IsAt, IsIn}
+use Rattle.fab_load.specs.Assembled.{map_at}
+use Rattle.fab_store_base.specs.Kinds.{approval_row, taken_row, added_row}
 use Rattle.fab_world.specs.PlanRecords.{Standing, staged, active, rolled_back, withdrawn, PlanRecord}
 
 -- the rows of the set that was found, or none
@@ -21,8 +27,7 @@ rows_at (Some s) = s.keys
 
 -- the approvals that were found, or none
 abbrev pub approvals_at : Option (BTreeMap (List ℕ) ℕ) → map.FinMap name_cmp ℕ
-approvals_at None = map.empty
-approvals_at (Some t) = map.from_entries t.entries
+approvals_at = map_at name_cmp
 
 -- where a plan in this state stands, whose activation changed this
 abbrev pub standing_in : PlanState → List ConfigRow → List ConfigRow → Standing
@@ -43,3 +48,9 @@ pub record AreMadeOf {A : Type 0} (rows : List PlanRow) (parts : PlanParts A) (p
   pub each : (r : PlanRow) → Contains rows r → HasAt plans (IsMadeOf r parts) r.name
   pub every : (n : List ℕ) (p : PlanRecord) → plans n ≡ Some p → (r : PlanRow) × Contains rows r × (r.name ≡ n)
   pub once : HaveNames rows
+
+-- what stands under names is just what the rows say
+pub record HaveParts {A : Type 0} (approvals : List ApprovalRow) (undo : List UndoRow) (parts : PlanParts A) : Type 0 where
+  pub approvals_are : AreRows approval_row approvals (IsAt name_cmp name_cmp parts.approvals)
+  pub taken_are : AreRows taken_row undo (IsIn name_cmp row_cmp parts.taken)
+  pub added_are : AreRows added_row undo (IsIn name_cmp row_cmp parts.added)

@@ -11,6 +11,7 @@ use Rattle.fab_rows.specs.declared.record_row.ApprovalRow.{ApprovalRow}
 use Rattle.fab_rows.specs.declared.record_row.UndoRow.{UndoRow}
 use Rattle.fab_rows.specs.declared.record_row.Sign.{Sign}
 use Rattle.fab_rows.specs.declared.record_row.Sign.TheVariants.{Taken, Added}
+use Rattle.fab_store_base.specs.Orders.{IsOrderOf}
 use Rattle.fab_world.specs.PlanRecords.{Standing, active, PlanRecord}
 use Rattle.fab_world.specs.Plans.{state_of}
 
@@ -52,3 +53,10 @@ AreApprovalRows rows plans = AreAll rows (λ r. HasAt plans (IsApprovalOf r) r.p
 -- the rows are those of what the activations in force took away and added
 abbrev pub AreUndoRows : List UndoRow → (List ℕ → Option PlanRecord) → Type 0
 AreUndoRows rows plans = AreAll rows (λ r. HasAt plans (λ (p : PlanRecord). IsChanged p.standing r.sign r.row) r.plan)
+
+-- the rows of the three tables are those of the plans, whose activations are in force in this order
+pub record ArePlans (rows : List PlanRow) (approvals : List ApprovalRow) (undo : List UndoRow) (plans : List ℕ → Option PlanRecord) (order : List (List ℕ)) : Type 0 where
+  pub rows_are : ArePlanRows rows plans
+  pub approvals_are : AreApprovalRows approvals plans
+  pub undo_are : AreUndoRows undo plans
+  pub order_is : IsOrderOf rows order

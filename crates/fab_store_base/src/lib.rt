@@ -5,6 +5,7 @@ mod kinds;
 mod order;
 mod plans;
 mod texts;
+mod whole;
 
 pub use order::order_of;
-pub use plans::{PlanParts, plan_of};
+pub use whole::{Plans, plans_of};

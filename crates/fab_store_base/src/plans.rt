@@ -9,7 +9,6 @@ ghost use Rattle.fab_store_base.specs.Parts.{rows_at, approvals_at, standing_in,
 ghost use Rattle.fab_store_base.specs.PlanRows.{IsTextOf, ArePlanRows};
 
 use crate::texts::steps_of;
-use fab_load::LoadFault;
 use fab_names::Name;
 use fab_plans::{Active, Plan, RolledBack, Staged, Withdrawn};
 use fab_rows::{ConfigRow, PlanRow, PlanState, RowDifference};
@@ -77,12 +76,12 @@ fn kept<A: Allocator + Copy>(plan: Plan<A>, state: PlanState, undo: RowDifferenc
 /// The plan of a row, with its approvals and changes; none where the row's text is no plan's.
 ///
 /// # Errors
-/// `Memory` where there is none.
+/// `AllocError` where there is no memory.
 pub fn plan_of<A: Allocator + Copy>(
     alloc: A,
     row: &PlanRow<'_>,
     parts: &PlanParts<A>,
-) -> Result<Option<KeptPlan<A>>, LoadFault>
+) -> Result<Option<KeptPlan<A>>, AllocError>
     ensures { IfOk result (λ found. MatchOption found ((p : PlanRecord) → ¬ IsTextOf row.now.text.now p.steps) (IsMadeOf row.now parts.now)) }
 {
     let Some(steps) = steps_of(alloc, row.text)? else {
@@ -115,12 +114,12 @@ fn put_plan<A: Allocator + Copy>(
 /// plan's, or two rows have one name.
 ///
 /// # Errors
-/// `Memory` where there is none.
+/// `AllocError` where there is no memory.
 pub fn plans_from<A: Allocator + Copy>(
     alloc: A,
     rows: &[PlanRow<'_>],
     parts: &PlanParts<A>,
-) -> Result<Option<BTreeMap<Name, KeptPlan<A>, A>>, LoadFault>
+) -> Result<Option<BTreeMap<Name, KeptPlan<A>, A>>, AllocError>
     ensures { IfOk result (λ found. MatchOption found ((plans : List ℕ → Option PlanRecord) → ¬ ArePlanRows rows.now plans) (λ plans. AreMadeOf rows.now parts.now (get name_cmp plans))) }
 {
     let mut plans = BTreeMap::new(alloc);

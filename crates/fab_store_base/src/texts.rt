@@ -4,7 +4,6 @@ ghost use Rattle.fab_steps.specs.Steps.{PlanStep};
 ghost use Rattle.fab_steps.specs.Plans.{plan_text};
 ghost use Rattle.fab_store_base.specs.PlanRows.{IsTextOf};
 
-use fab_load::LoadFault;
 use fab_plans_base::{PlanFaultKind, Step, print_plan, read_plan};
 use std::alloc::{AllocError, Allocator};
 
@@ -23,11 +22,11 @@ fn is_printed<A: Allocator + Copy>(
 /// The steps whose printed form the text is, or none where it is no plan's.
 ///
 /// # Errors
-/// `Memory` where there is none.
+/// `AllocError` where there is no memory.
 pub fn steps_of<A: Allocator + Copy>(
     alloc: A,
     text: &str,
-) -> Result<Option<Vec<Step<A>, A>>, LoadFault>
+) -> Result<Option<Vec<Step<A>, A>>, AllocError>
     ensures { IfOk result (λ found. MatchOption found ((steps : List PlanStep) → ¬ IsTextOf text.now steps) (λ steps. IsTextOf text.now steps.items)) }
 {
     match read_plan(alloc, text) {
@@ -39,7 +38,7 @@ pub fn steps_of<A: Allocator + Copy>(
         }
         Err(fault) => {
             if fault.kind == PlanFaultKind::Memory {
-                return Err(LoadFault::Memory);
+                return Err(AllocError);
             }
             Ok(None)
         }
