@@ -3,7 +3,6 @@ ghost use Rattle.std.specs.Prelude.{◌≡◌, ℕ, List, Option, Some, cond, Ma
 ghost use Rattle.std.specs.BTreeMap.{get, is_at};
 ghost use Rattle.std.specs.FinMap as map;
 ghost use Rattle.fab_names.specs.Orders.{name_cmp};
-ghost use Rattle.fab_plans.specs.Plans.{seen_plan};
 ghost use Rattle.fab_world.specs.PlanRecords.{PlanRecord};
 ghost use Rattle.fab_store_base.specs.Parts.{rows_at, approvals_at, standing_in, IsMadeOf, AreMadeOf};
 ghost use Rattle.fab_store_base.specs.PlanRows.{IsTextOf, ArePlanRows};
