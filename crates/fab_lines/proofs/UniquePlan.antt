@@ -2,8 +2,8 @@
 use Rattle.std.proofs.Common.{ℕ, ◌≡◌, List, get_or, refl, sym, ap, ◌∙◌, arith}
 use Rattle.fab_rows.specs.declared.record_row.PlanState.{PlanState}
 use Rattle.fab_rows.specs.declared.record_row.PlanState.TheVariants.{Staged, Active, RolledBack, Withdrawn}
-use Rattle.fab_rows.specs.declared.record_row.PlanRow.{PlanRow}
-use Rattle.fab_lines.specs.PlanLines.{PlanColumns, ShowsPlan, SamePlan, state_text}
+use Rattle.fab_rows.specs.PlanEntries.{PlanEntry}
+use Rattle.fab_lines.specs.PlanLines.{PlanColumns, ShowsPlan, state_text}
 use Rattle.fab_lines.proofs.Unique.{one_name, same_name, one_number}
 
 -- the first characters of the words of states
@@ -31,16 +31,16 @@ one_state Withdrawn Active e = absurd (omega (arith, same_first Withdrawn Active
 one_state Withdrawn RolledBack e = absurd (omega (arith, same_first Withdrawn RolledBack e))
 one_state Withdrawn Withdrawn e = refl
 
-pub one_plan : (l : PlanColumns) (p q : PlanRow) → ShowsPlan l p → ShowsPlan l q → SamePlan p q
-one_plan l p q h k = record {
-  name = one_name l.name p.name q.name h.name k.name;
-  author = one_name l.author p.author q.author h.author k.author;
-  text = sym h.text ∙ k.text;
-  state = one_state p.state q.state (sym h.state ∙ k.state);
-  position = one_number _ _ l.position p.position q.position h.position k.position;
-}
+pub one_plan : (l : PlanColumns) (p q : PlanEntry) → ShowsPlan l p → ShowsPlan l q → p ≡ q
+one_plan l p q h k =
+    let name = one_name l.name p.name q.name h.name k.name in
+    let author = one_name l.author p.author q.author h.author k.author in
+    let text = sym h.text ∙ k.text in
+    let state = one_state p.state q.state (sym h.state ∙ k.state) in
+    let position = one_number _ _ l.position p.position q.position h.position k.position in
+    λ i. record { name = name i; author = author i; text = text i; state = state i; position = position i }
 
-pub one_plan_line : (l m : PlanColumns) (r : PlanRow) → ShowsPlan l r → ShowsPlan m r → l ≡ m
+pub one_plan_line : (l m : PlanColumns) (r : PlanEntry) → ShowsPlan l r → ShowsPlan m r → l ≡ m
 one_plan_line l m r h k =
     let name = same_name l.name m.name r.name h.name k.name in
     let author = same_name l.author m.author r.author h.author k.author in

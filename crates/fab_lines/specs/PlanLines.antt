@@ -3,7 +3,7 @@ use Rattle.std.specs.Prelude.{◌≡◌, ℕ, ℤ, List, codes}
 use Rattle.fab_names.specs.Names.{SpellsName}
 use Rattle.fab_rows.specs.declared.record_row.PlanState.{PlanState}
 use Rattle.fab_rows.specs.declared.record_row.PlanState.TheVariants.{Staged, Active, RolledBack, Withdrawn}
-use Rattle.fab_rows.specs.declared.record_row.PlanRow.{PlanRow}
+use Rattle.fab_rows.specs.PlanEntries.{PlanEntry}
 use Rattle.fab_lines_base.specs.declared.limits.TheConstants.{MOST_NUMBER}
 use Rattle.fab_lines_base.specs.Columns.{ShowsNumber}
 
@@ -23,17 +23,9 @@ pub record PlanColumns : Type 0 where
   pub position : ℤ
 
 -- the text is the plan's as it stands
-pub record ShowsPlan (l : PlanColumns) (r : PlanRow) : Type 0 where
+pub record ShowsPlan (l : PlanColumns) (r : PlanEntry) : Type 0 where
   pub name : SpellsName l.name r.name
   pub author : SpellsName l.author r.author
-  pub text : l.text ≡ r.text.now
+  pub text : l.text ≡ r.text
   pub state : l.state ≡ state_text r.state
   pub position : ShowsNumber 0 MOST_NUMBER l.position r.position
-
--- rows of one plan, wherever their texts are kept
-pub record SamePlan (p q : PlanRow) : Type 0 where
-  pub name : p.name ≡ q.name
-  pub author : p.author ≡ q.author
-  pub text : p.text.now ≡ q.text.now
-  pub state : p.state ≡ q.state
-  pub position : p.position ≡ q.position

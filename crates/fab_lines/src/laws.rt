@@ -15,8 +15,8 @@ ghost use Rattle.fab_lines.specs.MetaLines.{MetaColumns, ShowsMeta};
 ghost use Rattle.fab_lines.specs.ZoningLines.{ZoningColumns, ShowsZoning, ActiveColumns, ShowsActive};
 ghost use Rattle.fab_lines.specs.GroupLines.{GroupColumns, ShowsGroup, PartColumns, ShowsPart};
 ghost use Rattle.fab_lines.specs.RecordLines.{ApprovalColumns, ShowsApproval, PathColumns, ShowsPath};
-ghost use Rattle.fab_rows.specs.declared.record_row.PlanRow.{PlanRow};
-ghost use Rattle.fab_lines.specs.PlanLines.{PlanColumns, ShowsPlan, SamePlan};
+ghost use Rattle.fab_rows.specs.PlanEntries.{PlanEntry};
+ghost use Rattle.fab_lines.specs.PlanLines.{PlanColumns, ShowsPlan};
 ghost use Rattle.fab_lines.specs.InventoryLines.{PortColumns, ShowsPort, HolderColumns, ShowsHolder, VolumeColumns, ShowsVolume};
 
 /// Lines of `ports`.
@@ -69,8 +69,8 @@ pub fn parts()
 
 /// Lines of `plans`.
 pub fn plans()
-    ensures row { (l : PlanColumns) (p q : PlanRow) → ShowsPlan l p → ShowsPlan l q → SamePlan p q }
-    ensures line { (l m : PlanColumns) (r : PlanRow) → ShowsPlan l r → ShowsPlan m r → l ≡ m }
+    ensures row { (l : PlanColumns) (p q : PlanEntry) → ShowsPlan l p → ShowsPlan l q → p ≡ q }
+    ensures line { (l m : PlanColumns) (r : PlanEntry) → ShowsPlan l r → ShowsPlan m r → l ≡ m }
 {}
 
 /// Lines of `approvals`.

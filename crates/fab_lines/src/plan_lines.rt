@@ -1,7 +1,7 @@
 //! Lines of the table of plans.
 ghost use Rattle.std.specs.Prelude.{◌≡◌, ◌≤◌, MatchOption, IfOk};
 ghost use Rattle.fab_rows.specs.declared.record_row.PlanState.{PlanState};
-ghost use Rattle.fab_rows.specs.declared.record_row.PlanRow.{PlanRow};
+ghost use Rattle.fab_rows.specs.PlanEntries.{PlanEntry};
 ghost use Rattle.fab_lines_base.specs.declared.limits.TheConstants as limit;
 ghost use Rattle.fab_lines.specs.PlanLines.{ShowsPlan, state_text};
 
@@ -58,9 +58,9 @@ fn state_word(state: PlanState) -> &'static str
 }
 
 impl<A: Allocator + Copy> PlanLine<A> {
-    /// The row that the line shows, if it shows one, with the line's text. It takes no memory.
-    pub fn read(&self) -> Option<PlanRow<'_>>
-        ensures { MatchOption result ((r : PlanRow) → ¬ ShowsPlan self.now r) (ShowsPlan self.now) }
+    /// The row that the line shows, if it shows one, with the line's own text. It takes no memory.
+    pub fn read(self) -> Option<PlanRow<A>>
+        ensures { MatchOption result ((r : PlanEntry) → ¬ ShowsPlan self.now r) (ShowsPlan self.now) }
     {
         let name = read_name(self.name.as_str())?;
         let author = read_name(self.author.as_str())?;
@@ -73,7 +73,7 @@ impl<A: Allocator + Copy> PlanLine<A> {
         Some(PlanRow {
             name,
             author,
-            text: self.text.as_str(),
+            text: self.text,
             state,
             position,
         })
@@ -83,14 +83,14 @@ impl<A: Allocator + Copy> PlanLine<A> {
     ///
     /// # Errors
     /// `AllocError` where there is no memory.
-    pub fn print(alloc: A, row: &PlanRow<'_>) -> Result<Self, AllocError>
+    pub fn print(alloc: A, row: &PlanRow<A>) -> Result<Self, AllocError>
         requires { row.now.position ≤ limit.MOST_NUMBER }
         ensures { IfOk result (λ line. ShowsPlan line row.now) }
     {
         Ok(PlanLine {
             name: name_text(alloc, &row.name)?,
             author: name_text(alloc, &row.author)?,
-            text: row.text.to_string(alloc)?,
+            text: row.text.as_str().to_string(alloc)?,
             state: state_word(row.state).to_string(alloc)?,
             position: row.position as i64,
         })

@@ -3,3 +3,4 @@ pub mod Standing
 pub mod Differences
 pub mod Telling
 pub mod Gathering
+pub mod PlanEntries

@@ -1,6 +1,6 @@
 //! The rows of an inventory and of a configuration as typed values, and which stand; the list of all
 //! of a configuration's, and the differences of two configurations; the types of the rows of plans,
-//! approvals, changes to undo, and paths.
+//! approvals, changes to undo, and paths, and of the rows of all tables.
 #![tactic(auto)]
 
 mod config_row;
@@ -11,6 +11,7 @@ mod listing;
 mod makers;
 mod record_row;
 mod standing;
+mod table_rows;
 
 pub use config_row::{
     ActiveRow, ConfigRow, GroupRow, HostGroupRow, PartRow, SettingRow, StorageGroupRow,
@@ -20,3 +21,4 @@ pub use inventory_row::{HolderRow, InventoryRow, VolumeRow};
 pub use listing::{RowDifference, config_rows, difference, undone};
 pub use record_row::{ApprovalRow, PathRow, PlanRow, PlanState, Sign, UndoRow};
 pub use standing::has_row;
+pub use table_rows::{CountRow, SCHEMA, TableRows};

@@ -3,6 +3,8 @@
 use crate::ConfigRow;
 use fab_names::Name;
 use fab_reach::Path;
+use std::alloc::Allocator;
+use std::marker::Model;
 
 /// The state of a plan.
 #[derive(Clone, Copy, Debug, PartialEq, Eq)]
@@ -17,17 +19,26 @@ pub enum PlanState {
     Withdrawn,
 }
 
-/// A plan.
-#[derive(Clone, Copy, Debug, PartialEq, Eq)]
-pub struct PlanRow<'a> {
+/// A plan. A contract sees it as a `PlanEntry`.
+#[derive(Drop)]
+pub struct PlanRow<A: Allocator> {
     pub name: Name,
     /// Who staged it.
     pub author: Name,
     /// The printed form of its steps.
-    pub text: &'a str,
+    pub text: String<A>,
     pub state: PlanState,
     /// Its place among the activations in force, 1 for the oldest; 0 where it is not active.
     pub position: u64,
+}
+
+impl<A: Allocator> Model for PlanRow<A> {
+    ghost use Rattle.std.specs.Prelude.{string_bytes};
+    ghost use Rattle.fab_rows.specs.PlanEntries.{PlanEntry};
+
+    ghost Value = { PlanEntry };
+
+    ghost view = { λ r. record { name = r.name; author = r.author; text = string_bytes r.text; state = r.state; position = r.position } };
 }
 
 /// An approval of a plan.

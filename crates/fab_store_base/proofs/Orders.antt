@@ -21,7 +21,7 @@ use Rattle.fab_reach.proofs.Sets.{adds_insert, none_in}
 use Rattle.std.specs.BTreeSet.{BTreeSet, contains, IsOrdered}
 use Rattle.std.specs.BTreeMap.{is_at}
 use Rattle.std.proofs.lemmas.Map.Views.{btree_set_contains_iff}
-use Rattle.fab_rows.specs.declared.record_row.PlanRow.{PlanRow}
+use Rattle.fab_rows.specs.PlanEntries.{PlanEntry}
 use Rattle.fab_store_base.specs.Orders.{IsOrderOf, IsActive, IsPlaced, IsAt, HasPlace, HaveNoPlace, numbered, place_cmp}
 
 pub place_total : IsTotalOrder place_cmp
@@ -72,16 +72,16 @@ order_told ks before it ns is none so = sym (walk_end ks before it is none) ∙ 
 -- ---- the places that are found
 
 -- an active plan
-pub active_added : (r : PlanRow) (s n : BTreeSet (ℕ × List ℕ)) (k : ℕ × List ℕ) → IsAt r k → ((q : ℕ × List ℕ) → contains place_cmp n q ≡ cond (is_at (place_cmp k) q) true (contains place_cmp s q)) → Adds (IsAt r) (HasPlace s) (HasPlace n)
+pub active_added : (r : PlanEntry) (s n : BTreeSet (ℕ × List ℕ)) (k : ℕ × List ℕ) → IsAt r k → ((q : ℕ × List ℕ) → contains place_cmp n q ≡ cond (is_at (place_cmp k) q) true (contains place_cmp s q)) → Adds (IsAt r) (HasPlace s) (HasPlace n)
 active_added r s n k at put =
     adds_as (λ y. y ≡ k) (IsAt r) (HasPlace s) (HasPlace n) (λ y e. subst (IsAt r) (sym e) at) (λ y h. λ j. ((sym h.1 ∙ at.1) j, (sym h.2 ∙ at.2) j)) (adds_insert place_total place_exact s n k put)
 
 -- another plan
-pub idle_added : (r : PlanRow) (s : BTreeSet (ℕ × List ℕ)) → ¬ IsActive r → Adds (IsAt r) (HasPlace s) (HasPlace s)
+pub idle_added : (r : PlanEntry) (s : BTreeSet (ℕ × List ℕ)) → ¬ IsActive r → Adds (IsAt r) (HasPlace s) (HasPlace s)
 idle_added r s idle = adds_none (IsAt r) (HasPlace s) (λ y h. idle h.0)
 
 -- all of them, in order
-pub places_listed : (rows : List PlanRow) (i : ℕ) (first t : BTreeSet (ℕ × List ℕ)) → length rows ≤ i → first.keys ≡ [] → IsOrdered place_cmp t → Adds (Before IsAt (take i rows)) (HasPlace first) (HasPlace t) → IsListOf place_cmp (IsPlaced rows) t.keys
+pub places_listed : (rows : List PlanEntry) (i : ℕ) (first t : BTreeSet (ℕ × List ℕ)) → length rows ≤ i → first.keys ≡ [] → IsOrdered place_cmp t → Adds (Before IsAt (take i rows)) (HasPlace first) (HasPlace t) → IsListOf place_cmp (IsPlaced rows) t.keys
 places_listed rows i first t end none ordered so =
     let all = from_none (Before IsAt rows) (HasPlace first) (HasPlace t) (none_in place_total place_exact first none) (before_last IsAt rows i (HasPlace first) (HasPlace t) end so) in
     record {
@@ -105,7 +105,7 @@ numbered_sorted k [] = tt
 numbered_sorted k (n ∷ ns) = (later k (k + 1) ns n (omega arith), numbered_sorted (k + 1) ns)
 
 -- the names of an order, with their positions, are the places of the rows
-pub order_listed : (rows : List PlanRow) (order : List (List ℕ)) → IsOrderOf rows order → IsListOf place_cmp (IsPlaced rows) (numbered 1 order)
+pub order_listed : (rows : List PlanEntry) (order : List (List ℕ)) → IsOrderOf rows order → IsListOf place_cmp (IsPlaced rows) (numbered 1 order)
 order_listed rows order h = record {
   sorted = numbered_sorted 1 order;
   sound = h.all_active;
@@ -119,13 +119,29 @@ one_list P xs ys l m = same_sorted place_total place_exact xs ys l.sorted m.sort
     (λ k h. (is_member-Decides (tie_decides place_total place_exact) xs k).1 (l.complete k (m.sound k ((is_member-Decides (tie_decides place_total place_exact) ys k).0 h))))
 
 -- places that are no numbered names are of no order
-pub no_order : (rows : List PlanRow) (keys : List (ℕ × List ℕ)) → IsListOf place_cmp (IsPlaced rows) keys → ((order : List (List ℕ)) → keys ≢ numbered 1 order) → (order : List (List ℕ)) → ¬ IsOrderOf rows order
+pub no_order : (rows : List PlanEntry) (keys : List (ℕ × List ℕ)) → IsListOf place_cmp (IsPlaced rows) keys → ((order : List (List ℕ)) → keys ≢ numbered 1 order) → (order : List (List ℕ)) → ¬ IsOrderOf rows order
 no_order rows keys all none order h = none order (one_list (IsPlaced rows) keys (numbered 1 order) all (order_listed rows order h))
 
 -- places that are numbered names are of their order
-pub this_order : (rows : List PlanRow) (keys : List (ℕ × List ℕ)) (order : List (List ℕ)) → HaveNoPlace rows → IsListOf place_cmp (IsPlaced rows) keys → keys ≡ numbered 1 order → IsOrderOf rows order
+pub this_order : (rows : List PlanEntry) (keys : List (ℕ × List ℕ)) (order : List (List ℕ)) → HaveNoPlace rows → IsListOf place_cmp (IsPlaced rows) keys → keys ≡ numbered 1 order → IsOrderOf rows order
 this_order rows keys order idle all is = record {
   placed = λ r here active. subst (λ es. Contains es (r.position, r.name)) is (all.complete (r.position, r.name) (r, here, (active, refl, refl)));
   all_active = λ e h. all.sound e (subst (λ es. Contains es e) (sym is) h);
   others = idle;
 }
+
+-- names with their positions tell the names
+one_numbered : (k : ℕ) (ns ms : List (List ℕ)) → numbered k ns ≡ numbered k ms → ns ≡ ms
+one_numbered k [] [] e = refl
+one_numbered k [] (m ∷ ms) e = absurd cc
+one_numbered k (n ∷ ns) [] e = absurd cc
+one_numbered k (n ∷ ns) (m ∷ ms) e =
+    let first : ◌≡◌ {A = ℕ × List ℕ} (k, n) (k, m) = cc in
+    let rest : numbered (k + 1) ns ≡ numbered (k + 1) ms = cc in
+    let name : n ≡ m = ap (λ (d : ℕ × List ℕ). d.1) first in
+    let names = one_numbered (k + 1) ns ms rest in
+    λ i. name i ∷ names i
+
+-- rows are of one order
+pub one_order : (rows : List PlanEntry) (order names : List (List ℕ)) → IsOrderOf rows order → IsOrderOf rows names → order ≡ names
+one_order rows order names h k = one_numbered 1 order names (one_list (IsPlaced rows) (numbered 1 order) (numbered 1 names) (order_listed rows order h) (order_listed rows names k))

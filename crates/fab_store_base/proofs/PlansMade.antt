@@ -10,18 +10,18 @@ use Rattle.std.proofs.lemmas.Bool.{cases_lt}
 use Rattle.fab_maps.specs.Firsts.{HasAt}
 use Rattle.fab_names.specs.Orders.{name_cmp}
 use Rattle.fab_names.proofs.OrderLaws.{name_total, name_exact}
-use Rattle.fab_rows.specs.declared.record_row.PlanRow.{PlanRow}
+use Rattle.fab_rows.specs.PlanEntries.{PlanEntry}
 use Rattle.fab_world.specs.PlanRecords.{PlanRecord}
 use Rattle.fab_store_base.specs.declared.plans.PlanParts.{PlanParts}
 use Rattle.fab_store_base.specs.PlanRows.{IsTextOf, ArePlanRows}
 use Rattle.fab_store_base.specs.Parts.{IsMadeOf, AreMadeOf}
 
-module _ {A : Type 0} (rows : List PlanRow) (parts : PlanParts A) where
+module _ {A : Type 0} (rows : List PlanEntry) (parts : PlanParts A) where
   -- the plans of the rows before this place
   pub record SoFar (k : ℕ) (plans : List ℕ → Option PlanRecord) : Type 0 where
-    pub each : (i : ℕ) (r : PlanRow) → i < k → slice_get rows i ≡ Some r → HasAt plans (IsMadeOf r parts) r.name
-    pub every : (n : List ℕ) (p : PlanRecord) → plans n ≡ Some p → (i : ℕ) × (r : PlanRow) × (i < k) × (slice_get rows i ≡ Some r) × (r.name ≡ n)
-    pub once : (i j : ℕ) (r s : PlanRow) → i < k → j < k → slice_get rows i ≡ Some r → slice_get rows j ≡ Some s → r.name ≡ s.name → i ≡ j
+    pub each : (i : ℕ) (r : PlanEntry) → i < k → slice_get rows i ≡ Some r → HasAt plans (IsMadeOf r parts) r.name
+    pub every : (n : List ℕ) (p : PlanRecord) → plans n ≡ Some p → (i : ℕ) × (r : PlanEntry) × (i < k) × (slice_get rows i ≡ Some r) × (r.name ≡ n)
+    pub once : (i j : ℕ) (r s : PlanEntry) → i < k → j < k → slice_get rows i ≡ Some r → slice_get rows j ≡ Some s → r.name ≡ s.name → i ≡ j
 
   -- no row yet
   pub none_yet : (plans : List ℕ → Option PlanRecord) → ((n : List ℕ) → plans n ≡ None) → SoFar 0 plans
@@ -32,7 +32,7 @@ module _ {A : Type 0} (rows : List PlanRow) (parts : PlanParts A) where
   }
 
   -- a row under a new name
-  pub one_more : (k : ℕ) (r : PlanRow) (p : PlanRecord) (plans next : List ℕ → Option PlanRecord) → slice_get rows k ≡ Some r → is_some (plans r.name) ≡ false → IsMadeOf r parts p
+  pub one_more : (k : ℕ) (r : PlanEntry) (p : PlanRecord) (plans next : List ℕ → Option PlanRecord) → slice_get rows k ≡ Some r → is_some (plans r.name) ≡ false → IsMadeOf r parts p
       → ((q : List ℕ) → next q ≡ cond (is_at (name_cmp r.name) q) (Some p) (plans q)) → SoFar k plans → SoFar (k + 1) next
   one_more k r p plans next here free made put so = record {
     each = λ i s lt is. each i s lt is;
@@ -44,26 +44,26 @@ module _ {A : Type 0} (rows : List PlanRow) (parts : PlanParts A) where
       own = put r.name ∙ ap (λ b. cond b (Some p) (plans r.name)) (ap is_eq (tied_itself name_total r.name))
 
       -- the name of a row before is another
-      other : (s : PlanRow) → HasAt plans (IsMadeOf s parts) s.name → is_at (name_cmp r.name) s.name ≡ true → ⊥
+      other : (s : PlanEntry) → HasAt plans (IsMadeOf s parts) s.name → is_at (name_cmp r.name) s.name ≡ true → ⊥
       other s at e =
           let same : r.name ≡ s.name = name_exact r.name s.name ((Equal-is (name_cmp r.name s.name)).0 e) in
           let there : is_some (plans r.name) ≡ true = ap (λ n. is_some (plans n)) same ∙ ap is_some at.1 in
           true≢false (sym there ∙ free)
 
-      stays : (s : PlanRow) (b : Bool) → is_at (name_cmp r.name) s.name ≡ b → HasAt plans (IsMadeOf s parts) s.name → HasAt next (IsMadeOf s parts) s.name
+      stays : (s : PlanEntry) (b : Bool) → is_at (name_cmp r.name) s.name ≡ b → HasAt plans (IsMadeOf s parts) s.name → HasAt next (IsMadeOf s parts) s.name
       stays s true e at = absurd (other s at e)
       stays s false e at = (at.0, put s.name ∙ ap (λ b. cond b (Some p) (plans s.name)) e ∙ at.1, at.2)
 
       place : (i : ℕ) → i < k + 1 → (i < k) ⊎ (i ≡ k)
       place i lt = elim (cases_lt i k) [ inl less ↦ inl less | inr most ↦ inr (omega (arith, lt, most)) ]
 
-      each : (i : ℕ) (s : PlanRow) → i < k + 1 → slice_get rows i ≡ Some s → HasAt next (IsMadeOf s parts) s.name
+      each : (i : ℕ) (s : PlanEntry) → i < k + 1 → slice_get rows i ≡ Some s → HasAt next (IsMadeOf s parts) s.name
       each i s lt is = elim (place i lt) [
         | inl before ↦ stays s (is_at (name_cmp r.name) s.name) refl (so.each i s before is)
         | inr now ↦ let same : r ≡ s = same_Some r s (sym here ∙ ap (slice_get rows) (sym now) ∙ is) in subst (λ t. HasAt next (IsMadeOf t parts) t.name) same (p, own, made)
       ]
 
-      every : (n : List ℕ) (q : PlanRecord) (b : Bool) → is_at (name_cmp r.name) n ≡ b → next n ≡ Some q → (i : ℕ) × (s : PlanRow) × (i < k + 1) × (slice_get rows i ≡ Some s) × (s.name ≡ n)
+      every : (n : List ℕ) (q : PlanRecord) (b : Bool) → is_at (name_cmp r.name) n ≡ b → next n ≡ Some q → (i : ℕ) × (s : PlanEntry) × (i < k + 1) × (slice_get rows i ≡ Some s) × (s.name ≡ n)
       every n q true e is = (k, r, omega arith, here, name_exact r.name n ((Equal-is (name_cmp r.name n)).0 e))
       every n q false e is =
           let old : plans n ≡ Some q = ap (λ b. cond b (Some p) (plans n)) (sym e) ∙ sym (put n) ∙ is in
@@ -71,17 +71,17 @@ module _ {A : Type 0} (rows : List PlanRow) (parts : PlanParts A) where
           (at.0, at.1, omega (arith, at.2), at.3, at.4)
 
       -- the name of the new row is that of no row before
-      apart : (i : ℕ) (s : PlanRow) → i < k → slice_get rows i ≡ Some s → r.name ≡ s.name → ⊥
+      apart : (i : ℕ) (s : PlanEntry) → i < k → slice_get rows i ≡ Some s → r.name ≡ s.name → ⊥
       apart i s lt is same = other s (so.each i s lt is) (ap (λ n. is_at (name_cmp r.name) n) (sym same) ∙ ap is_eq (tied_itself name_total r.name))
 
-      once : (i j : ℕ) (s t : PlanRow) → i < k + 1 → j < k + 1 → slice_get rows i ≡ Some s → slice_get rows j ≡ Some t → s.name ≡ t.name → i ≡ j
+      once : (i j : ℕ) (s t : PlanEntry) → i < k + 1 → j < k + 1 → slice_get rows i ≡ Some s → slice_get rows j ≡ Some t → s.name ≡ t.name → i ≡ j
       once i j s t lt more is at same = elim (place i lt) [
         | inl a ↦ elim (place j more) [
           | inl b ↦ so.once i j s t a b is at same
-          | inr b ↦ let new : r ≡ t = same_Some r t (sym here ∙ ap (slice_get rows) (sym b) ∙ at) in absurd (apart i s a is (ap (λ (u : PlanRow). u.name) new ∙ sym same))
+          | inr b ↦ let new : r ≡ t = same_Some r t (sym here ∙ ap (slice_get rows) (sym b) ∙ at) in absurd (apart i s a is (ap (λ (u : PlanEntry). u.name) new ∙ sym same))
         ]
         | inr a ↦ elim (place j more) [
-          | inl b ↦ let new : r ≡ s = same_Some r s (sym here ∙ ap (slice_get rows) (sym a) ∙ is) in absurd (apart j t b at (ap (λ (u : PlanRow). u.name) new ∙ same))
+          | inl b ↦ let new : r ≡ s = same_Some r s (sym here ∙ ap (slice_get rows) (sym a) ∙ is) in absurd (apart j t b at (ap (λ (u : PlanEntry). u.name) new ∙ same))
           | inr b ↦ a ∙ sym b
         ]
       ]
@@ -95,7 +95,7 @@ module _ {A : Type 0} (rows : List PlanRow) (parts : PlanParts A) where
   }
 
   -- a name that is there already
-  pub repeated : (k : ℕ) (r : PlanRow) (plans : List ℕ → Option PlanRecord) → slice_get rows k ≡ Some r → is_some (plans r.name) ≡ true → SoFar k plans → (others : List ℕ → Option PlanRecord) → ¬ ArePlanRows rows others
+  pub repeated : (k : ℕ) (r : PlanEntry) (plans : List ℕ → Option PlanRecord) → slice_get rows k ≡ Some r → is_some (plans r.name) ≡ true → SoFar k plans → (others : List ℕ → Option PlanRecord) → ¬ ArePlanRows rows others
   repeated k r plans here there so others h = by (plans r.name) refl there
     where
       by : (o : Option PlanRecord) → plans r.name ≡ o → is_some o ≡ true → ⊥
@@ -107,7 +107,7 @@ module _ {A : Type 0} (rows : List PlanRow) (parts : PlanParts A) where
           omega arith
 
   -- a text that is no plan's
-  pub unread : (k : ℕ) (r : PlanRow) → slice_get rows k ≡ Some r → ((p : PlanRecord) → ¬ IsTextOf r.text.now p.steps) → (others : List ℕ → Option PlanRecord) → ¬ ArePlanRows rows others
+  pub unread : (k : ℕ) (r : PlanEntry) → slice_get rows k ≡ Some r → ((p : PlanRecord) → ¬ IsTextOf r.text p.steps) → (others : List ℕ → Option PlanRecord) → ¬ ArePlanRows rows others
   unread k r here none others h =
       let at = h.each r (k, slice_get_within rows k r here, get_or_from_slice_get rows k r r here) in
       none at.0 at.2.text

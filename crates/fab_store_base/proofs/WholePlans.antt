@@ -19,7 +19,7 @@ use Rattle.fab_rows.proofs.OrderOfRows.{row_total, row_exact}
 use Rattle.fab_rows.specs.declared.config_row.ConfigRow.{ConfigRow}
 use Rattle.fab_rows.specs.declared.record_row.PlanState.{PlanState}
 use Rattle.fab_rows.specs.declared.record_row.PlanState.TheVariants as state
-use Rattle.fab_rows.specs.declared.record_row.PlanRow.{PlanRow}
+use Rattle.fab_rows.specs.PlanEntries.{PlanEntry}
 use Rattle.fab_rows.specs.declared.record_row.ApprovalRow.{ApprovalRow}
 use Rattle.fab_rows.specs.declared.record_row.UndoRow.{UndoRow}
 use Rattle.fab_rows.specs.declared.record_row.Sign.{Sign}
@@ -30,7 +30,7 @@ use Rattle.fab_store_base.specs.declared.plans.PlanParts.{PlanParts}
 use Rattle.fab_store_base.specs.Kinds.{approval_row}
 use Rattle.fab_store_base.specs.Orders.{IsOrderOf}
 use Rattle.fab_store_base.specs.Parts.{rows_at, approvals_at, standing_in, IsMadeOf, AreMadeOf, HaveParts}
-use Rattle.fab_store_base.specs.PlanRows.{IsRowOf, IsChanged, IsApprovalOf, ArePlanRows, AreApprovalRows, AreUndoRows, ArePlans}
+use Rattle.fab_store_base.specs.PlanRows.{ListInOrder, IsRowOf, IsChanged, IsApprovalOf, ArePlanRows, AreApprovalRows, AreUndoRows, ArePlans}
 
 -- ---- one plan of a row
 
@@ -93,9 +93,9 @@ active_as withdrawn staged e h = absurd (true≢false (sym h))
 active_as withdrawn rolled_back e h = absurd (true≢false (sym h))
 active_as withdrawn withdrawn e h = absurd (true≢false (sym h))
 
-module _ {A : Type 0} (rows : List PlanRow) (parts : PlanParts A) (plans : List ℕ → Option PlanRecord) (made : AreMadeOf rows parts plans) where
+module _ {A : Type 0} (rows : List PlanEntry) (parts : PlanParts A) (plans : List ℕ → Option PlanRecord) (made : AreMadeOf rows parts plans) where
   -- each plan is made of a row of its name
-  made_at : (n : List ℕ) (p : PlanRecord) → plans n ≡ Some p → (r : PlanRow) × (Contains rows r) × (r.name ≡ n) × (IsMadeOf r parts p)
+  made_at : (n : List ℕ) (p : PlanRecord) → plans n ≡ Some p → (r : PlanEntry) × (Contains rows r) × (r.name ≡ n) × (IsMadeOf r parts p)
   made_at n p is =
       let at = made.every n p is in
       let there = made.each at.0 at.1 in
@@ -118,6 +118,10 @@ module _ {A : Type 0} (rows : List PlanRow) (parts : PlanParts A) (plans : List 
   -- the state of the row that a plan is made of, and what stands under its name
   standing_of : (n : List ℕ) (p : PlanRecord) → plans n ≡ Some p → (s : PlanState) × (p.standing ≡ standing_in s (rows_at (get name_cmp parts.taken n)) (rows_at (get name_cmp parts.added n)))
   standing_of n p is = let at = made_at n p is in (at.0.state, at.3.standing ∙ ap (λ m. standing_in at.0.state (rows_at (get name_cmp parts.taken m)) (rows_at (get name_cmp parts.added m))) at.2)
+
+  -- what active plans changed is in order
+  pub in_order : ListInOrder plans
+  in_order n p is = let at = made_at n p is in at.3.in_order
 
   module _ (approvals : List ApprovalRow) (undo : List UndoRow) (have : HaveParts approvals undo parts) where
     -- a caller's approval of a plan is what stands under both names
@@ -169,7 +173,7 @@ module _ {A : Type 0} (rows : List PlanRow) (parts : PlanParts A) (plans : List 
     plans_are order listed known some = record { rows_are = rows_made; approvals_are = approvals_made known; undo_are = undo_made some; order_is = listed }
 
 -- ---- where there are no plans with these rows, others made of the rows being at hand or not
-module _ (rows : List PlanRow) (approvals : List ApprovalRow) (undo : List UndoRow) where
+module _ (rows : List PlanEntry) (approvals : List ApprovalRow) (undo : List UndoRow) where
   -- two approvals of one plan by one caller
   pub no_repeat : HasRepeat approval_row approvals → (plans : List ℕ → Option PlanRecord) (order : List (List ℕ)) → ¬ ArePlans rows approvals undo plans order
   no_repeat (k, v, w, here, there, other) plans order h =
@@ -183,7 +187,7 @@ module _ (rows : List PlanRow) (approvals : List ApprovalRow) (undo : List UndoR
 
   -- two ways to have the same rows have the same names, and the same active plans
   module _ (plans others : List ℕ → Option PlanRecord) (order : List (List ℕ)) (made : ArePlanRows rows plans) (h : ArePlans rows approvals undo others order) where
-    known_too : (n : List ℕ) (p : PlanRecord) → others n ≡ Some p → (r : PlanRow) × (Contains rows r) × (r.name ≡ n) × HasAt plans (IsRowOf r) n
+    known_too : (n : List ℕ) (p : PlanRecord) → others n ≡ Some p → (r : PlanEntry) × (Contains rows r) × (r.name ≡ n) × HasAt plans (IsRowOf r) n
     known_too n p is = let at = h.rows_are.every n p is in (at.0, at.1, at.2, subst (HasAt plans (IsRowOf at.0)) at.2 (made.each at.0 at.1))
 
     pub all_known : All (λ r. IsSome (plans r.plan)) approvals

@@ -10,8 +10,8 @@ use Rattle.fab_rows.specs.declared.config_row.ConfigRow.{ConfigRow}
 use Rattle.fab_rows.specs.declared.record_row.PlanState.{PlanState}
 use Rattle.fab_rows.specs.declared.record_row.PlanState.TheVariants as state
 use Rattle.fab_store_base.specs.declared.plans.PlanParts.{PlanParts}
-use Rattle.fab_store_base.specs.PlanRows.{IsTextOf, HaveNames}
-use Rattle.fab_rows.specs.declared.record_row.PlanRow.{PlanRow}
+use Rattle.fab_store_base.specs.PlanRows.{IsTextOf, HaveNames, ChangesInOrder}
+use Rattle.fab_rows.specs.PlanEntries.{PlanEntry}
 use Rattle.fab_rows.specs.declared.record_row.ApprovalRow.{ApprovalRow}
 use Rattle.fab_rows.specs.declared.record_row.UndoRow.{UndoRow}
 use Rattle.fab_rows.specs.RowOrder.{row_cmp}
@@ -37,16 +37,17 @@ standing_in state.RolledBack taken added = rolled_back
 standing_in state.Withdrawn taken added = withdrawn
 
 -- the plan of the row, with what stands under its name
-pub record IsMadeOf {A : Type 0} (r : PlanRow) (parts : PlanParts A) (p : PlanRecord) : Type 0 where
+pub record IsMadeOf {A : Type 0} (r : PlanEntry) (parts : PlanParts A) (p : PlanRecord) : Type 0 where
   pub author : p.author ≡ r.author
-  pub text : IsTextOf r.text.now p.steps
+  pub text : IsTextOf r.text p.steps
   pub approvals : p.approvals ≡ approvals_at (get name_cmp parts.approvals r.name)
   pub standing : p.standing ≡ standing_in r.state (rows_at (get name_cmp parts.taken r.name)) (rows_at (get name_cmp parts.added r.name))
+  pub in_order : ChangesInOrder p.standing
 
 -- the plans are just those of the rows, each with what stands under its name
-pub record AreMadeOf {A : Type 0} (rows : List PlanRow) (parts : PlanParts A) (plans : List ℕ → Option PlanRecord) : Type 0 where
-  pub each : (r : PlanRow) → Contains rows r → HasAt plans (IsMadeOf r parts) r.name
-  pub every : (n : List ℕ) (p : PlanRecord) → plans n ≡ Some p → (r : PlanRow) × Contains rows r × (r.name ≡ n)
+pub record AreMadeOf {A : Type 0} (rows : List PlanEntry) (parts : PlanParts A) (plans : List ℕ → Option PlanRecord) : Type 0 where
+  pub each : (r : PlanEntry) → Contains rows r → HasAt plans (IsMadeOf r parts) r.name
+  pub every : (n : List ℕ) (p : PlanRecord) → plans n ≡ Some p → (r : PlanEntry) × Contains rows r × (r.name ≡ n)
   pub once : HaveNames rows
 
 -- what stands under names is just what the rows say

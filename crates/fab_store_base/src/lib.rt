@@ -1,4 +1,4 @@
-//! The desk's world from the rows of its tables.
+//! Plans, and the order of their activations, from the rows of their tables.
 #![tactic(auto)]
 
 mod kinds;

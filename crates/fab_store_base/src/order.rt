@@ -10,7 +10,7 @@ use std::alloc::{AllocError, Allocator};
 use std::collections::BTreeSet;
 
 /// Whether the plan is active.
-fn is_active(row: &PlanRow<'_>) -> bool
+fn is_active<A: Allocator>(row: &PlanRow<A>) -> bool
     ensures { IsTrue result ↔ IsActive row.now }
 {
     row.state == PlanState::Active
@@ -19,7 +19,7 @@ fn is_active(row: &PlanRow<'_>) -> bool
 /// Adds the position and the name of the plan, where it is active.
 fn add_place<A: Allocator + Copy>(
     places: &mut BTreeSet<(u64, Name), A>,
-    row: &PlanRow<'_>,
+    row: &PlanRow<A>,
 ) -> Result<(), AllocError>
     ensures { OnOk result (Adds (IsAt row.now) (HasPlace places.old) (HasPlace places.new)) }
 {
@@ -33,7 +33,7 @@ fn add_place<A: Allocator + Copy>(
 /// The names of active plans, each with its position.
 fn places_of<A: Allocator + Copy>(
     alloc: A,
-    rows: &[PlanRow<'_>],
+    rows: &[PlanRow<A>],
 ) -> Result<BTreeSet<(u64, Name), A>, AllocError>
     ensures { IfOk result (λ places. IsListOf place_cmp (IsPlaced rows.now) places.keys) }
 {
@@ -45,18 +45,21 @@ fn places_of<A: Allocator + Copy>(
     Ok(places)
 }
 
+/// Whether the plan is active, or has the position 0.
+fn is_placed<A: Allocator>(row: &PlanRow<A>) -> bool
+    ensures { IsTrue result ↔ (¬ IsActive row.now → row.now.position ≡ 0) }
+{
+    if is_active(row) {
+        return true;
+    }
+    row.position == 0
+}
+
 /// Whether each plan that is not active has the position 0.
-fn have_no_place(rows: &[PlanRow<'_>]) -> bool
+fn have_no_place<A: Allocator>(rows: &[PlanRow<A>]) -> bool
     ensures { IsTrue result ↔ HaveNoPlace rows.now }
 {
-    for row in rows {
-        if !is_active(row) {
-            if row.position != 0 {
-                return false;
-            }
-        }
-    }
-    true
+    rows.iter().all(|row| is_placed(row))
 }
 
 /// The names in the order of their positions, where these are the numbers from 1 on.
@@ -87,7 +90,7 @@ fn order_from<A: Allocator + Copy>(
 /// `AllocError` where there is no memory.
 pub fn order_of<A: Allocator + Copy>(
     alloc: A,
-    rows: &[PlanRow<'_>],
+    rows: &[PlanRow<A>],
 ) -> Result<Option<Vec<Name, A>>, AllocError>
     ensures { IfOk result (λ found. MatchOption found ((order : List (List ℕ)) → ¬ IsOrderOf rows.now order) (λ order. IsOrderOf rows.now order.items)) }
 {

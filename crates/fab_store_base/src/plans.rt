@@ -5,7 +5,7 @@ ghost use Rattle.std.specs.FinMap as map;
 ghost use Rattle.fab_names.specs.Orders.{name_cmp};
 ghost use Rattle.fab_world.specs.PlanRecords.{PlanRecord};
 ghost use Rattle.fab_store_base.specs.Parts.{rows_at, approvals_at, standing_in, IsMadeOf, AreMadeOf};
-ghost use Rattle.fab_store_base.specs.PlanRows.{IsTextOf, ArePlanRows};
+ghost use Rattle.fab_store_base.specs.PlanRows.{IsTextOf, IsInOrder, ChangesInOrder, ArePlanRows};
 
 use crate::texts::steps_of;
 use fab_names::Name;
@@ -26,16 +26,41 @@ pub struct PlanParts<A: Allocator + Copy> {
     pub added: BTreeMap<Name, BTreeSet<ConfigRow, A>, A>,
 }
 
+/// The rows of a set.
+fn keys_of<A: Allocator + Copy>(
+    alloc: A,
+    rows: &BTreeSet<ConfigRow, A>,
+) -> Result<Vec<ConfigRow, A>, AllocError>
+    ensures { IfOk result (λ items. items.items ≡ rows.now.keys) }
+{
+    rows.iter().copied().collect(alloc)
+}
+
+/// The rows of a set, in order.
+fn listed<A: Allocator + Copy>(
+    alloc: A,
+    rows: &BTreeSet<ConfigRow, A>,
+) -> Result<Vec<ConfigRow, A>, AllocError>
+    ensures keys { IfOk result (λ items. items.items ≡ rows.now.keys) }
+    ensures in_order { IfOk result (λ items. IsInOrder items.items) }
+{
+    // The length tells that the set is in order.
+    let _count = rows.len();
+    let items = keys_of(alloc, rows)?;
+    Ok(items)
+}
+
 /// The rows under a name, in order; none where there is no such name.
 fn rows_under<A: Allocator + Copy>(
     alloc: A,
     sets: &BTreeMap<Name, BTreeSet<ConfigRow, A>, A>,
     name: &Name,
 ) -> Result<Vec<ConfigRow, A>, AllocError>
-    ensures { IfOk result (λ rows. rows.items ≡ rows_at (get name_cmp sets.now name.now)) }
+    ensures rows { IfOk result (λ rows. rows.items ≡ rows_at (get name_cmp sets.now name.now)) }
+    ensures in_order { IfOk result (λ rows. IsInOrder rows.items) }
 {
     match sets.get(name) {
-        Some(rows) => rows.iter().copied().collect(alloc),
+        Some(rows) => listed(alloc, rows),
         None => Ok(Vec::new(alloc)),
     }
 }
@@ -56,12 +81,13 @@ fn approvals_under<A: Allocator + Copy>(
 
 /// The plan in its state, with what its activation changed where it is active.
 fn kept<A: Allocator + Copy>(plan: Plan<A>, state: PlanState, undo: RowDifference<A>) -> KeptPlan<A>
-    ensures { result ≡ record {
+    ensures plan { result ≡ record {
       author = plan.author;
       steps = plan.steps.items;
       approvals = map.from_entries plan.approvals.entries;
       standing = standing_in state undo.taken.items undo.added.items;
     } }
+    ensures in_order { IsInOrder undo.taken.items → IsInOrder undo.added.items → ChangesInOrder result.standing }
 {
     let inner = match state {
         PlanState::Staged => AnyPlan::Staged(Staged { plan }),
@@ -78,12 +104,12 @@ fn kept<A: Allocator + Copy>(plan: Plan<A>, state: PlanState, undo: RowDifferenc
 /// `AllocError` where there is no memory.
 pub fn plan_of<A: Allocator + Copy>(
     alloc: A,
-    row: &PlanRow<'_>,
+    row: &PlanRow<A>,
     parts: &PlanParts<A>,
 ) -> Result<Option<KeptPlan<A>>, AllocError>
-    ensures { IfOk result (λ found. MatchOption found ((p : PlanRecord) → ¬ IsTextOf row.now.text.now p.steps) (IsMadeOf row.now parts.now)) }
+    ensures { IfOk result (λ found. MatchOption found ((p : PlanRecord) → ¬ IsTextOf row.now.text p.steps) (IsMadeOf row.now parts.now)) }
 {
-    let Some(steps) = steps_of(alloc, row.text)? else {
+    let Some(steps) = steps_of(alloc, row.text.as_str())? else {
         return Ok(None);
     };
     let approvals = approvals_under(alloc, &parts.approvals, &row.name)?;
@@ -116,7 +142,7 @@ fn put_plan<A: Allocator + Copy>(
 /// `AllocError` where there is no memory.
 pub fn plans_from<A: Allocator + Copy>(
     alloc: A,
-    rows: &[PlanRow<'_>],
+    rows: &[PlanRow<A>],
     parts: &PlanParts<A>,
 ) -> Result<Option<BTreeMap<Name, KeptPlan<A>, A>>, AllocError>
     ensures { IfOk result (λ found. MatchOption found ((plans : List ℕ → Option PlanRecord) → ¬ ArePlanRows rows.now plans) (λ plans. AreMadeOf rows.now parts.now (get name_cmp plans))) }

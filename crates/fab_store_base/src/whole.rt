@@ -9,7 +9,7 @@ ghost use Rattle.fab_world.specs.PlanRecords.{PlanRecord};
 ghost use Rattle.fab_world.specs.Plans.{IsActive};
 ghost use Rattle.fab_store_base.specs.Kinds.{approval_row};
 ghost use Rattle.fab_store_base.specs.Parts.{HaveParts};
-ghost use Rattle.fab_store_base.specs.PlanRows.{ArePlans};
+ghost use Rattle.fab_store_base.specs.PlanRows.{ArePlans, ListInOrder};
 
 use crate::kinds::{AddedRows, Approvals, TakenRows};
 use crate::order::order_of;
@@ -17,7 +17,7 @@ use crate::plans::{PlanParts, plans_from};
 use fab_load::{LoadFault, Table, maps_of, sets_of};
 use fab_names::Name;
 use fab_rows::{ApprovalRow, PlanRow, UndoRow};
-use fab_world::KeptPlan;
+use fab_world::{KeptPlan, is_active_at};
 use std::alloc::{AllocError, Allocator};
 use std::collections::BTreeMap;
 
@@ -66,16 +66,6 @@ fn have_plans<A: Allocator + Copy>(
     true
 }
 
-/// Whether the plan of this name is there, and active.
-fn is_active<A: Allocator + Copy>(plans: &BTreeMap<Name, KeptPlan<A>, A>, name: &Name) -> bool
-    ensures { IsTrue result ↔ HasAt (get name_cmp plans.now) IsActive name.now }
-{
-    match plans.get(name) {
-        Some(plan) => plan.is_active(),
-        None => false,
-    }
-}
-
 /// Whether each changed row is of a plan that is there, and active.
 fn have_active<A: Allocator + Copy>(
     plans: &BTreeMap<Name, KeptPlan<A>, A>,
@@ -84,7 +74,7 @@ fn have_active<A: Allocator + Copy>(
     ensures { IsTrue result ↔ All (λ r. HasAt (get name_cmp plans.now) IsActive r.plan) rows.now }
 {
     for row in rows {
-        if !is_active(plans, &row.plan) {
+        if !is_active_at(plans, &row.plan) {
             return false;
         }
     }
@@ -102,11 +92,12 @@ fn have_active<A: Allocator + Copy>(
 /// where there is none.
 pub fn plans_of<A: Allocator + Copy>(
     alloc: A,
-    rows: &[PlanRow<'_>],
+    rows: &[PlanRow<A>],
     approvals: &[ApprovalRow],
     undo: &[UndoRow],
 ) -> Result<Plans<A>, LoadFault>
     ensures ok { IfOk result (λ found. ArePlans rows.now approvals.now undo.now (get name_cmp found.plans) found.order.items) }
+    ensures in_order { IfOk result (λ found. ListInOrder (get name_cmp found.plans)) }
     ensures err { IfErr result (OfTable (λ table. (plans : List ℕ → Option PlanRecord) (order : List (List ℕ)) → ¬ ArePlans rows.now approvals.now undo.now plans order)) }
 {
     let Some(order) = order_of(alloc, rows)? else {

@@ -19,7 +19,8 @@ use Rattle.fab_world.specs.PlanRecords.{PlanRecord}
 use Rattle.fab_world.specs.Plans.{IsActive}
 use Rattle.fab_world.specs.Worlds.{WorldRows, records_of}
 
--- 1 to 200 steps, whose printed form is not too long, and no approval from a revision that never was
+-- 1 to 200 steps, whose printed form is not too long, and no approval at a revision above the
+-- greatest that there may be
 pub record IsSoundPlan (p : PlanRecord) : Type 0 where
   pub steps : IsWithinLimits p.steps
   pub approvals : Each (map.get p.approvals) (λ revision. revision ≤ MOST_CHANGES)

@@ -16,7 +16,7 @@ use fab_plans_base::is_within_limits;
 use std::alloc::{AllocError, Allocator};
 use std::collections::{BTreeMap, BTreeSet};
 
-/// Whether each approval is from a revision that may have been.
+/// Whether no approval is at a revision above the greatest that there may be.
 fn are_sound_approvals<A: Allocator>(approvals: &BTreeMap<Name, u64, A>) -> bool
     ensures { IsTrue result ↔ Each (get name_cmp approvals.now) (λ revision. revision ≤ MOST_CHANGES) }
 {
@@ -41,8 +41,11 @@ pub fn are_sound_plans<A: Allocator + Copy>(plans: &BTreeMap<Name, KeptPlan<A>, 
     plans.values().all(|plan| is_sound_plan(plan))
 }
 
-/// Whether the plan of this name is there and active.
-fn is_active_at<A: Allocator + Copy>(plans: &BTreeMap<Name, KeptPlan<A>, A>, name: &Name) -> bool
+/// Whether the plan of this name is there and active: its activation is in force.
+pub fn is_active_at<A: Allocator + Copy>(
+    plans: &BTreeMap<Name, KeptPlan<A>, A>,
+    name: &Name,
+) -> bool
     ensures { IsTrue result ↔ HasAt (get name_cmp plans.now) IsActive name.now }
 {
     let Some(plan) = plans.get(name) else {

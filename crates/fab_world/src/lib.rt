@@ -11,6 +11,7 @@ mod sound;
 mod world;
 
 pub use any_plan::{AnyPlan, KeptPlan};
-pub use history::earlier;
+pub use history::{earlier, has_sound_history};
+pub use kept::is_active_at;
 pub use limits::{MOST_CHANGES, MOST_PLANS};
 pub use world::World;

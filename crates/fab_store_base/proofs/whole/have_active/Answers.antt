@@ -9,14 +9,14 @@ use Rattle.fab_store_base.proofs.whole.have_active.Goals as goal
 
 pub loop-row-preserved : goal.loop-row-preserved
 loop-row-preserved g c =
-    scan_more (λ r. HasAt (get name_cmp c.args.plans.now) IsActive r.plan) c.args.rows.now c.loop-row.row-index c.row-item.result c.loop-row-test.true c.row-item.is c.loop-row.invariant (c.is_active.ensures.0 c.if-not-is_active.false)
+    scan_more (λ r. HasAt (get name_cmp c.args.plans.now) IsActive r.plan) c.args.rows.now c.loop-row.row-index c.row-item.result c.loop-row-test.true c.row-item.is c.loop-row.invariant (c.is_active_at.ensures.0 c.if-not-is_active_at.false)
 
-pub returns-then-not-is_active : goal.returns-then-not-is_active
-returns-then-not-is_active g c = (
+pub returns-then-not-is_active_at : goal.returns-then-not-is_active_at
+returns-then-not-is_active_at g c = (
   λ t. absurd (true≢false (sym t)),
   λ h.
       let there = subst (λ r. HasAt (get name_cmp c.args.plans.now) IsActive r.plan) (sym c.row-item.is) (h c.loop-row.row-index c.row-item.result c.loop-row-test.true) in
-      absurd (true≢false (sym (c.is_active.ensures.1 there) ∙ c.if-not-is_active.true)),
+      absurd (true≢false (sym (c.is_active_at.ensures.1 there) ∙ c.if-not-is_active_at.true)),
 )
 
 pub returns : goal.returns

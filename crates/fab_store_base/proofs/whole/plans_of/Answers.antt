@@ -9,7 +9,7 @@ use Rattle.fab_store_base.specs.Kinds.{approval_row}
 use Rattle.fab_store_base.specs.Orders.{IsOrderOf}
 use Rattle.fab_store_base.specs.Parts.{AreMadeOf, HaveParts}
 use Rattle.fab_store_base.specs.PlanRows.{ArePlanRows}
-use Rattle.fab_store_base.proofs.WholePlans.{plans_are, rows_made, no_repeat, all_known, all_active}
+use Rattle.fab_store_base.proofs.WholePlans.{plans_are, in_order, rows_made, no_repeat, all_known, all_active}
 use Rattle.fab_store_base.proofs.whole.plans_of.Goals as goal
 
 pub returns-clause-ok : goal.returns-clause-ok
@@ -48,3 +48,9 @@ returns-then-not-have_active-clause-err g c = λ plans order h.
     let made = subst (λ o. MatchOption o ((plans : List ℕ → Option PlanRecord) → ¬ ArePlanRows rows plans) (λ plans. AreMadeOf rows c.in-Some-2.parts (get name_cmp plans))) c.in-Some-3.is c.in_ok-plans.ensures in
     let some = all_active rows c.args.approvals.now c.args.undo.now (get name_cmp c.in-Some-3.plans) plans order (rows_made rows c.in-Some-2.parts (get name_cmp c.in-Some-3.plans) made) h in
     true≢false (sym (c.have_active.ensures.1 some) ∙ c.if-not-have_active.true)
+
+pub returns-clause-in_order : goal.returns-clause-in_order
+returns-clause-in_order g c =
+    let rows = c.args.rows.now in
+    let made = subst (λ o. MatchOption o ((plans : List ℕ → Option PlanRecord) → ¬ ArePlanRows rows plans) (λ plans. AreMadeOf rows c.in-Some-2.parts (get name_cmp plans))) c.in-Some-3.is c.in_ok-plans.ensures in
+    in_order rows c.in-Some-2.parts (get name_cmp c.in-Some-3.plans) made

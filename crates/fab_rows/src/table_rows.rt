@@ -1,0 +1,35 @@
+//! The rows of all tables.
+
+use crate::{ApprovalRow, ConfigRow, HolderRow, PathRow, PlanRow, UndoRow, VolumeRow};
+use fab_inventory::Port;
+use std::alloc::Allocator;
+
+/// The schema of the tables.
+pub const SCHEMA: u64 = 1;
+
+/// A row of the table of settings that is none of a configuration.
+#[derive(Clone, Copy, Debug, PartialEq, Eq)]
+pub enum CountRow {
+    /// The schema of the tables: `SCHEMA`.
+    Schema(u64),
+    /// How many changes there were.
+    Revision(u64),
+}
+
+/// Rows of the twelve tables.
+#[derive(Drop)]
+pub struct TableRows<A: Allocator + Copy> {
+    /// Of the settings, those that are none of a configuration.
+    pub counts: Vec<CountRow, A>,
+    pub ports: Vec<Port, A>,
+    pub holders: Vec<HolderRow, A>,
+    pub volumes: Vec<VolumeRow, A>,
+    /// The settings of both fabrics, the items of aliases, zones and zone sets, the rows of active
+    /// zone sets, the groups, and their parts: each row's variant is its table.
+    pub config: Vec<ConfigRow, A>,
+    pub plans: Vec<PlanRow<A>, A>,
+    pub approvals: Vec<ApprovalRow, A>,
+    /// What active plans took away and added.
+    pub undo: Vec<UndoRow, A>,
+    pub paths: Vec<PathRow, A>,
+}
