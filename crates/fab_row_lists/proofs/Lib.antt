@@ -1,0 +1,2 @@
+pub mod PathRowOrder
+pub mod PathRowSets
