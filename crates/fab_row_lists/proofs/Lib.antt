@@ -1,2 +1,4 @@
 pub mod PathRowOrder
 pub mod PathRowSets
+pub mod NamedRows
+pub mod InventoryTables

@@ -1,2 +1,4 @@
 pub mod Paths
 pub mod PathGathering
+pub mod Inventories
+pub mod InventoryGathering

@@ -2,7 +2,10 @@
 //! listed; and what two worlds differ by.
 #![tactic(auto)]
 
+mod inventories;
 pub mod laws;
 mod paths;
+mod tables;
 
+pub use inventories::{InventoryDifference, InventoryLists, inventory_difference, inventory_rows};
 pub use paths::{PathRowDifference, are_path_rows, path_difference, path_rows};

@@ -1,0 +1,117 @@
+-- Lists of the rows of entries, which are ordered as the keys of their entries are.
+use Rattle.std.proofs.Common.{◌≡◌, suc, List, [], ◌∷◌, ◌++◌, Contains, ◌⊎◌, inl, inr, refl, sym, ap, ◌∙◌, subst, arith}
+use Rattle.std.specs.declared.cmp.Ordering.{Ordering}
+use Rattle.std.specs.declared.cmp.Ordering.TheVariants.{Less, Equal}
+use Rattle.std.specs.Cmp.{IsTotalOrder, tied_itself}
+use Rattle.std.specs.List.{AllByRecursion}
+use Rattle.std.specs.List.Sorted.{IsStrictlySortedBy}
+use Rattle.std.specs.Map.{keys_of}
+use Rattle.std.proofs.lemmas.List.Elements.{Contains-append_cases, Contains-push_cases, Contains-append_left, Contains-push}
+use Rattle.std.proofs.lemmas.Map.Keys.{sorted_head, sorted_tail}
+use Rattle.fab_maps.specs.Lists.{IsListOf}
+use Rattle.fab_maps.proofs.Walks.{all_push}
+use Rattle.fab_row_lists.specs.InventoryGathering.{IsPushed, IsRowOfEntries}
+
+-- an item of a list is its head, or of its tail
+head_or_tail : {X : Type 0} (y : X) (ys : List X) (x : X) → Contains (y ∷ ys) x → (y ≡ x) ⊎ Contains ys x
+head_or_tail y ys x h = elim (Contains-append_cases (y ∷ []) ys x h) [
+  | inl a ↦ elim (Contains-push_cases [] y x a) [ inl n ↦ absurd (omega (arith, n.1)) | inr e ↦ inl e ]
+  | inr t ↦ inr t
+]
+
+in_tail : {X : Type 0} (y : X) (ys : List X) (x : X) → Contains ys x → Contains (y ∷ ys) x
+in_tail y ys x h = (suc h.0, omega (arith, h.1), h.2)
+
+-- what each item has, an item among them has
+each_has : {X : Type 0} (P : X → Type 0) (xs : List X) (x : X) → AllByRecursion P xs → Contains xs x → P x
+each_has P [] x h c = absurd (omega (arith, c.1))
+each_has P (y ∷ ys) x h c = elim (head_or_tail y ys x c) [ inl e ↦ subst P e h.0 | inr t ↦ each_has P ys x h.1 t ]
+
+sorted_none : {X : Type 0} (N : X → X → Ordering) → IsStrictlySortedBy N []
+unfolding IsStrictlySortedBy
+sorted_none N = tt
+
+-- one more item behind sorted ones, which are all below it
+sorted_push : {X : Type 0} (N : X → X → Ordering) (xs : List X) (y : X) → IsStrictlySortedBy N xs → ((x : X) → Contains xs x → N x y ≡ Less) → IsStrictlySortedBy N (xs ++ y ∷ [])
+unfolding IsStrictlySortedBy
+sorted_push N [] y s below = (tt, tt)
+sorted_push N (x ∷ xs) y s below = (all_push (λ z. N x z ≡ Less) xs y s.0 (below x (Contains-append_left (x ∷ []) xs x (Contains-push [] x))), sorted_push N xs y s.1 (λ z c. below z (in_tail x xs z c)))
+
+-- what all keys have, one in the middle has
+behind : {K X : Type 0} (Q : K → Type 0) (before : List (K × X)) (e : K × X) (more : List (K × X)) → AllByRecursion Q (keys_of (before ++ e ∷ more)) → Q e.0
+behind Q [] e more h = h.0
+behind Q (b ∷ before) e more h = behind Q before e more h.1
+
+-- an entry so far is below the next
+below_next : {K X : Type 0} (O : K → K → Ordering) (before : List (K × X)) (e : K × X) (more : List (K × X)) → IsStrictlySortedBy O (keys_of (before ++ e ∷ more)) → (d : K × X) → Contains before d → O d.0 e.0 ≡ Less
+below_next O [] e more s d c = absurd (omega (arith, c.1))
+below_next {K} {X} O (b ∷ before) e more s d c = elim (head_or_tail b before d c) [
+  | inl is ↦ subst (λ (z : K × X). O z.0 e.0 ≡ Less) is (behind (λ k. O b.0 k ≡ Less) before e more (sorted_head O b.0 (keys_of (before ++ e ∷ more)) s))
+  | inr t ↦ below_next O before e more (sorted_tail O b.0 (keys_of (before ++ e ∷ more)) s) d t
+]
+
+module _ {K X R : Type 0} {O : K → K → Ordering} {N : R → R → Ordering} (row : K → X → R) (P : R → Type 0) (by_key : (j k : K) (v w : X) → N (row j v) (row k w) ≡ O j k) where
+  -- no entry so far
+  pub listed_none : (xs : List R) → xs ≡ [] → IsListOf N (IsRowOfEntries row P []) xs
+  listed_none xs none = subst (IsListOf N (IsRowOfEntries row P [])) (sym none) (record { sorted = sorted_none N; sound = λ r c. absurd (omega (arith, c.1)); complete = λ r h. absurd (omega (arith, h.1.1)) })
+
+  -- the row of one entry more, if it has P
+  pub listed_more : (es before it more : List (K × X)) (e : K × X) (r : R) (old new : List R) → es ≡ before ++ it → it ≡ e ∷ more → IsStrictlySortedBy O (keys_of es) → r ≡ row e.0 e.1 → IsPushed (P r) r old new
+      → IsListOf N (IsRowOfEntries row P before) old → IsListOf N (IsRowOfEntries row P (before ++ e ∷ [])) new
+  listed_more es before it more e r old new so_far next sorted is pushed l = elim pushed [
+    | inl p ↦ subst (IsListOf N (IsRowOfEntries row P (before ++ e ∷ []))) (sym p.1) (record {
+      sorted = sorted_push N old r l.sorted (λ x c. let h = l.sound x c in
+          (λ i. N (h.2.1 i) (is i)) ∙ by_key h.0.0 e.0 h.0.1 e.1 ∙ below_next O before e more (subst (λ ys. IsStrictlySortedBy O (keys_of ys)) (so_far ∙ ap (λ z. before ++ z) next) sorted) h.0 h.1);
+      sound = λ x c. elim (Contains-push_cases old r x c) [
+        | inl o ↦ wider x (l.sound x o)
+        | inr same ↦ (e, Contains-push before e, (subst P same p.0, sym same ∙ is))
+      ];
+      complete = λ x h. elim (Contains-push_cases before e h.0 h.1) [
+        | inl o ↦ Contains-append_left old (r ∷ []) x (l.complete x (h.0, o, h.2))
+        | inr same ↦ subst (Contains (old ++ r ∷ [])) (is ∙ (λ i. row (same i).0 (same i).1) ∙ sym h.2.1) (Contains-push old r)
+      ];
+    })
+    | inr p ↦ subst (IsListOf N (IsRowOfEntries row P (before ++ e ∷ []))) (sym p.1) (record {
+      sorted = l.sorted;
+      sound = λ x c. wider x (l.sound x c);
+      complete = λ x h. elim (Contains-push_cases before e h.0 h.1) [
+        | inl o ↦ l.complete x (h.0, o, h.2)
+        | inr same ↦ absurd (p.0 (subst P (h.2.1 ∙ sym (λ i. row (same i).0 (same i).1) ∙ sym is) h.2.0))
+      ];
+    })
+  ]
+    where
+      wider : (x : R) → IsRowOfEntries row P before x → IsRowOfEntries row P (before ++ e ∷ []) x
+      wider x h = (h.0, Contains-append_left before (e ∷ []) h.0 h.1, h.2)
+
+-- ---- two lists of one property
+
+module _ {X : Type 0} {N : X → X → Ordering} (o : IsTotalOrder N) where
+  not_less : (x : X) → ¬ (N x x ≡ Less)
+  not_less x h = let e : Equal ≡ Less = sym (tied_itself o x) ∙ h in absurd cc
+
+  head_or_later : (x y : X) (ys : List X) → IsStrictlySortedBy N (y ∷ ys) → Contains (y ∷ ys) x → (y ≡ x) ⊎ (N y x ≡ Less)
+  head_or_later x y ys s c = elim (head_or_tail y ys x c) [ inl e ↦ inl e | inr t ↦ inr (each_has (λ z. N y z ≡ Less) ys x (sorted_head N y ys s) t) ]
+
+  tails : (x y : X) (xs ys : List X) → x ≡ y → IsStrictlySortedBy N (x ∷ xs) → ((z : X) → Contains (x ∷ xs) z → Contains (y ∷ ys) z) → (z : X) → Contains xs z → Contains ys z
+  tails x y xs ys is s f z c = elim (head_or_tail y ys z (f z (in_tail x xs z c))) [
+    | inl e ↦ absurd (not_less x (subst (λ w. N x w ≡ Less) (sym (is ∙ e)) (each_has (λ w. N x w ≡ Less) xs z (sorted_head N x xs s) c)))
+    | inr t ↦ t
+  ]
+
+  first_in : (x : X) (xs : List X) → Contains (x ∷ xs) x
+  first_in x xs = Contains-append_left (x ∷ []) xs x (Contains-push [] x)
+
+  same_items : (xs ys : List X) → IsStrictlySortedBy N xs → IsStrictlySortedBy N ys → ((x : X) → Contains xs x → Contains ys x) → ((x : X) → Contains ys x → Contains xs x) → xs ≡ ys
+  same_items [] [] s t f g = refl
+  same_items [] (y ∷ ys) s t f g = let c = g y (first_in y ys) in absurd (omega (arith, c.1))
+  same_items (x ∷ xs) [] s t f g = let c = f x (first_in x xs) in absurd (omega (arith, c.1))
+  same_items (x ∷ xs) (y ∷ ys) s t f g =
+      let is : x ≡ y = elim (head_or_later x y ys t (f x (first_in x xs))) [
+        | inl e ↦ sym e
+        | inr less ↦ elim (head_or_later y x xs s (g y (first_in y ys))) [ inl e ↦ e | inr more ↦ absurd (not_less x (o.trans x y x more less)) ]
+      ] in
+      ap (λ k. k ∷ xs) is ∙ ap (λ ks. y ∷ ks) (same_items xs ys (sorted_tail N x xs s) (sorted_tail N y ys t) (tails x y xs ys is s f) (tails y x ys xs (sym is) t g))
+
+  pub one_list : (P : X → Type 0) (xs ys : List X) → IsListOf N P xs → IsListOf N P ys → xs ≡ ys
+  one_list P xs ys l m = same_items xs ys l.sorted m.sorted (λ x c. m.complete x (l.sound x c)) (λ x c. l.complete x (m.sound x c))
