@@ -12,7 +12,7 @@ Misses (Some v) P = ¬ P v
 
 -- the row was put at the end if P holds, and else nothing was
 abbrev pub IsPushed : {R : Type 0} → Type 0 → R → List R → List R → Type 0
-IsPushed P r old new = (P × (new ≡ old ++ r ∷ [])) ⊎ ((P → ⊥) × (new ≡ old))
+IsPushed P r old new = (P × (new ≡ old ++ r ∷ [])) ⊎ (¬ P × (new ≡ old))
 
 -- the row is the entry's, and has P
 abbrev pub IsRowOfEntry : {K X R : Type 0} → (K → X → R) → (R → Type 0) → K × X → R → Type 0
