@@ -1,0 +1,2 @@
+pub mod OneWorld
+pub mod WorldMade

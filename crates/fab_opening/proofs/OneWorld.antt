@@ -1,0 +1,211 @@
+-- The rows of all tables tell a world.
+use Rattle.std.proofs.Common.{◌≡◌, ℕ, List, [], ◌∷◌, ◌++◌, reverse, Contains, Option, None, Some, is_some, arith, inl, inr, refl, sym, ap, ◌∙◌, subst}
+use Rattle.std.specs.FinMap as map
+use Rattle.std.specs.Option.{option_and_then, option_to_list}
+use Rattle.std.proofs.lemmas.List.Elements.{Contains-append_cases, Contains-push_cases}
+use Rattle.std.proofs.lemmas.List.Sorted.{IsPermutation-reverse, Contains-permutation}
+use Rattle.fab_maps.specs.Firsts.{HasAt}
+use Rattle.fab_names.specs.Orders.{name_cmp}
+use Rattle.fab_names.proofs.OrderLaws.{name_total, name_exact}
+use Rattle.fab_inventory.specs.Inventories.{InventoryRows}
+use Rattle.fab_inventory.specs.declared.port.Port.{Port}
+use Rattle.fab_load.specs.Configs.{AreConfigRows}
+use Rattle.fab_load.specs.Inventories.{AreAll, AreInventoryRows}
+use Rattle.fab_row_lists.specs.Paths.{ArePathRows}
+use Rattle.fab_plans_base.proofs.Unique.{one_plan}
+use Rattle.fab_reach.specs.Records.{ConfigRows}
+use Rattle.fab_reach.specs.Soundness.{HasSoundZonings}
+use Rattle.fab_rows.proofs.Determined.{one_list, one_config, one_inventory}
+use Rattle.fab_rows.specs.PlanEntries.{PlanEntry}
+use Rattle.fab_rows.specs.RowOrder.{row_order}
+use Rattle.fab_rows.specs.Standing.{IsKnown}
+use Rattle.fab_rows.specs.declared.config_row.ConfigRow.{ConfigRow}
+use Rattle.fab_rows.specs.declared.inventory_row.InventoryRow.{InventoryRow}
+use Rattle.fab_rows.specs.declared.inventory_row.InventoryRow.TheVariants as row
+use Rattle.fab_rows.specs.declared.record_row.ApprovalRow.{ApprovalRow}
+use Rattle.fab_rows.specs.declared.record_row.Sign.{Sign}
+use Rattle.fab_rows.specs.declared.record_row.Sign.TheVariants.{Taken, Added}
+use Rattle.fab_rows.specs.declared.record_row.UndoRow.{UndoRow}
+use Rattle.fab_rows.specs.declared.table_rows.CountRow.TheVariants.{Revision}
+use Rattle.fab_rows.specs.declared.table_rows.TableRows.{TableRows}
+use Rattle.fab_store_base.proofs.Orders.{one_order}
+use Rattle.fab_store_base.specs.PlanRows.{IsRowOf, IsChanged, IsInOrder, ChangesInOrder, ListInOrder, ArePlans}
+use Rattle.fab_opening.specs.Tables.{AreRecords, AreTableRows, IsMadeOfTables, HasNoWorld}
+use Rattle.fab_world.specs.History.{LeadsBack, changes_at, changes_of}
+use Rattle.fab_world.specs.PlanRecords.{Standing, staged, active, rolled_back, withdrawn, PlanRecord}
+use Rattle.fab_world.specs.Plans.{Change, state_of, undo_of}
+use Rattle.fab_world.specs.Soundness.{IsSound}
+use Rattle.fab_world.specs.Worlds.{WorldRows, records_of}
+
+same_option : {X : Type 0} (a b : Option X) → ((x : X) → a ≡ Some x → b ≡ Some x) → ((x : X) → b ≡ Some x → a ≡ Some x) → a ≡ b
+same_option None None to from = refl
+same_option None (Some y) to from = from y refl
+same_option (Some x) b to from = sym (to x refl)
+
+same_some : {X : Type 0} {a b : X} {o : Option X} → o ≡ Some a → o ≡ Some b → a ≡ b
+same_some {a} {b} h k = let e : Some a ≡ Some b = sym h ∙ k in cc
+
+-- ---- where plans stand
+
+-- lists in order with the same rows are one
+same_rows : (xs ys : List ConfigRow) → IsInOrder xs → IsInOrder ys → ((r : ConfigRow) → Contains xs r → Contains ys r) → ((r : ConfigRow) → Contains ys r → Contains xs r) → xs ≡ ys
+same_rows xs ys a b to from =
+    one_list (Contains xs) xs ys (record { sorted = a; sound = λ r h. h; complete = λ r h. h }) (record { sorted = b; sound = from; complete = to })
+
+same_standing : (s t : Standing) → state_of s ≡ state_of t → ((g : Sign) (r : ConfigRow) → IsChanged s g r → IsChanged t g r) → ((g : Sign) (r : ConfigRow) → IsChanged t g r → IsChanged s g r) → ChangesInOrder s → ChangesInOrder t → s ≡ t
+same_standing staged staged e to from a b = refl
+same_standing staged (active x y) e to from a b = absurd cc
+same_standing staged rolled_back e to from a b = absurd cc
+same_standing staged withdrawn e to from a b = absurd cc
+same_standing (active t u) staged e to from a b = absurd cc
+same_standing (active t u) (active x y) e to from a b =
+    let taken = same_rows t x a.0 b.0 (to Taken) (from Taken) in let added = same_rows u y a.1 b.1 (to Added) (from Added) in λ i. active (taken i) (added i)
+same_standing (active t u) rolled_back e to from a b = absurd cc
+same_standing (active t u) withdrawn e to from a b = absurd cc
+same_standing rolled_back staged e to from a b = absurd cc
+same_standing rolled_back (active x y) e to from a b = absurd cc
+same_standing rolled_back rolled_back e to from a b = refl
+same_standing rolled_back withdrawn e to from a b = absurd cc
+same_standing withdrawn staged e to from a b = absurd cc
+same_standing withdrawn (active x y) e to from a b = absurd cc
+same_standing withdrawn rolled_back e to from a b = absurd cc
+same_standing withdrawn withdrawn e to from a b = refl
+
+-- ---- plans
+
+module _ (rows : List PlanEntry) (approvals : List ApprovalRow) (undo : List UndoRow) where
+  -- the approvals of one are those of the other
+  approval_there : (plans others : List ℕ → Option PlanRecord) (order names : List (List ℕ)) → ArePlans rows approvals undo plans order → ArePlans rows approvals undo others names
+      → (n : List ℕ) (p q : PlanRecord) → plans n ≡ Some p → others n ≡ Some q → (c : List ℕ) (k : ℕ) → map.get p.approvals c ≡ Some k → map.get q.approvals c ≡ Some k
+  approval_there plans others order names h k n p q is at c v there =
+      let row : ApprovalRow = record { plan = n; caller = c; revision = v } in
+      let found = (k.approvals_are row).0 ((h.approvals_are row).1 (p, is, there)) in
+      ap (λ (x : PlanRecord). map.get x.approvals c) (same_some at found.1) ∙ found.2
+
+  -- and so are the changed rows
+  change_there : (plans others : List ℕ → Option PlanRecord) (order names : List (List ℕ)) → ArePlans rows approvals undo plans order → ArePlans rows approvals undo others names
+      → (n : List ℕ) (p q : PlanRecord) → plans n ≡ Some p → others n ≡ Some q → (g : Sign) (r : ConfigRow) → IsChanged p.standing g r → IsChanged q.standing g r
+  change_there plans others order names h k n p q is at g r there =
+      let row : UndoRow = record { plan = n; sign = g; row = r } in
+      let found = (k.undo_are row).0 ((h.undo_are row).1 (p, is, there)) in
+      subst (λ (x : PlanRecord). IsChanged x.standing g r) (sym (same_some at found.1)) found.2
+
+  -- a plan of the one is a plan of the other
+  plan_there : (plans others : List ℕ → Option PlanRecord) (order names : List (List ℕ)) → ArePlans rows approvals undo plans order → ArePlans rows approvals undo others names → ListInOrder plans → ListInOrder others
+      → (n : List ℕ) (p : PlanRecord) → plans n ≡ Some p → others n ≡ Some p
+  plan_there plans others order names h k sorted listed n p is = at.1 ∙ ap Some (sym same)
+    where
+      row : (r : PlanEntry) × Contains rows r × (r.name ≡ n)
+      row = h.rows_are.every n p is
+
+      own : HasAt plans (IsRowOf row.0) n
+      own = subst (HasAt plans (IsRowOf row.0)) row.2 (h.rows_are.each row.0 row.1)
+
+      at : HasAt others (IsRowOf row.0) n
+      at = subst (HasAt others (IsRowOf row.0)) row.2 (k.rows_are.each row.0 row.1)
+
+      told : IsRowOf row.0 p
+      told = subst (IsRowOf row.0) (same_some own.1 is) own.2
+
+      steps : p.steps ≡ at.0.steps
+      steps = one_plan _ p.steps at.0.steps told.text.spells.lines at.2.text.spells.lines
+
+      approved : p.approvals ≡ at.0.approvals
+      approved = map.same_map name_total name_exact p.approvals at.0.approvals
+          (λ c. same_option (map.get p.approvals c) (map.get at.0.approvals c) (approval_there plans others order names h k n p at.0 is at.1 c) (approval_there others plans names order k h n at.0 p at.1 is c))
+
+      standing : p.standing ≡ at.0.standing
+      standing = same_standing p.standing at.0.standing (told.state ∙ sym at.2.state) (change_there plans others order names h k n p at.0 is at.1) (change_there others plans names order k h n at.0 p at.1 is) (sorted n p is) (listed n at.0 at.1)
+
+      same : p ≡ at.0
+      same = λ i. record { author = (told.author ∙ sym at.2.author) i; steps = steps i; approvals = approved i; standing = standing i }
+
+-- ---- worlds
+
+-- the same rows stand in both inventories
+known_there : (ports : List Port) (holders : List _) (volumes : List _) (v w : InventoryRows) → AreInventoryRows ports holders volumes v → AreInventoryRows ports holders volumes w → (r : InventoryRow) → IsKnown v r → IsKnown w r
+known_there ports holders volumes v w h k (row.Port p) there = (k.ports_are p).0 ((h.ports_are p).1 there)
+known_there ports holders volumes v w h k (row.Holder p) there = (k.holders_are p).0 ((h.holders_are p).1 there)
+known_there ports holders volumes v w h k (row.Volume p) there = (k.volumes_are p).0 ((h.volumes_are p).1 there)
+
+module _ {A : Type 0} (t : TableRows A) (v w : WorldRows) (h : AreRecords t v) (k : AreRecords t w) where
+  -- worlds with the same rows are one
+  pub same_world : HasSoundZonings v.config → HasSoundZonings w.config → ListInOrder (map.get v.plans) → ListInOrder (map.get w.plans) → v ≡ w
+  same_world zonings others sorted listed = λ i. record { inventory = inventory i; config = config i; plans = plans i; order = order i; revision = revision i }
+    where
+      inventory : v.inventory ≡ w.inventory
+      inventory = one_inventory v.inventory w.inventory (λ r. (
+        known_there t.ports.items t.holders.items t.volumes.items v.inventory w.inventory h.inventory_are k.inventory_are r,
+        known_there t.ports.items t.holders.items t.volumes.items w.inventory v.inventory k.inventory_are h.inventory_are r,
+      ))
+
+      config : v.config ≡ w.config
+      config = one_config v.config w.config zonings others (λ r. ((λ there. (k.config_are r).0 ((h.config_are r).1 there)), λ there. (h.config_are r).0 ((k.config_are r).1 there)))
+
+      plans : v.plans ≡ w.plans
+      plans = map.same_map name_total name_exact v.plans w.plans (λ n. same_option (map.get v.plans n) (map.get w.plans n)
+          (plan_there t.plans.items t.approvals.items t.undo.items (map.get v.plans) (map.get w.plans) v.order w.order h.plans_are k.plans_are sorted listed n)
+          (plan_there t.plans.items t.approvals.items t.undo.items (map.get w.plans) (map.get v.plans) w.order v.order k.plans_are h.plans_are listed sorted n))
+
+      order : v.order ≡ w.order
+      order = one_order t.plans.items v.order w.order h.plans_are.order_is k.plans_are.order_is
+
+      revision : v.revision ≡ w.revision
+      revision = (k.counts_are (Revision v.revision)).0 ((h.counts_are (Revision v.revision)).1 refl)
+
+-- ---- what changed is in order in a sound world
+
+-- the change of the first name
+first_in_order : (plans : List ℕ → Option PlanRecord) (m : List ℕ) (others : List Change) (c : ConfigRows) (p : PlanRecord) → plans m ≡ Some p → LeadsBack (changes_at plans m ++ others) c → ChangesInOrder p.standing
+first_in_order plans m others c p is leads = by p.standing (subst (λ o. LeadsBack (option_to_list (option_and_then (λ (x : PlanRecord). undo_of x.standing) o) ++ others) c) is leads)
+  where
+    by : (s : Standing) → LeadsBack (option_to_list (undo_of s) ++ others) c → ChangesInOrder s
+    by staged l = tt
+    by (active t u) l = (l.1.differs.takes.sorted, l.1.differs.adds.sorted)
+    by rolled_back l = tt
+    by withdrawn l = tt
+
+-- behind some changes the others lead back
+others_lead : (changes others : List Change) (c : ConfigRows) → LeadsBack (changes ++ others) c → (b : ConfigRows) × LeadsBack others b
+others_lead [] others c leads = (c, leads)
+others_lead (change ∷ changes) others c leads = others_lead changes others leads.0 leads.2
+
+one_item : {X : Type 0} (x y : X) → Contains (x ∷ []) y → x ≡ y
+one_item x y h = elim (Contains-push_cases [] x y h) [
+  | inl none ↦ absurd (omega (arith, none.1))
+  | inr is ↦ is
+]
+
+-- the changes of the names lead back, so each of them is in order
+leads_in_order : (plans : List ℕ → Option PlanRecord) (names : List (List ℕ)) (c : ConfigRows) → LeadsBack (changes_of plans names) c → (n : List ℕ) (p : PlanRecord) → Contains names n → plans n ≡ Some p → ChangesInOrder p.standing
+leads_in_order plans [] c leads n p there is = absurd (omega (arith, there.1))
+leads_in_order plans (m ∷ names) c leads n p there is = elim (Contains-append_cases (m ∷ []) names n there) [
+  | inl first ↦ first_in_order plans m (changes_of plans names) c p (ap plans (one_item m n first) ∙ is) leads
+  | inr later ↦ let rest = others_lead (changes_at plans m) (changes_of plans names) c leads in leads_in_order plans names rest.0 rest.1 n p later is
+]
+
+pub sound_in_order : (w : WorldRows) → IsSound w → ListInOrder (map.get w.plans)
+sound_in_order w s n p is = by p.standing refl
+  where
+    by : (x : Standing) → p.standing ≡ x → ChangesInOrder p.standing
+    by staged e = subst ChangesInOrder (sym e) tt
+    by rolled_back e = subst ChangesInOrder (sym e) tt
+    by withdrawn e = subst ChangesInOrder (sym e) tt
+    by (active t u) e =
+        let there : Contains w.order n = (s.order.lists n).1 (p, is, ap (λ y. is_some (undo_of y)) e) in
+        leads_in_order (map.get w.plans) (reverse w.order) w.config s.earlier n p (Contains-permutation w.order (reverse w.order) n (IsPermutation-reverse w.order) there) is
+
+-- the one world that the rows tell
+pub the_world : {A : Type 0} (t : TableRows A) (v w : WorldRows) → IsMadeOfTables t v → AreTableRows t w → IsSound w → v ≡ w
+the_world t v w made rows sound = same_world t v w made.records_are rows.records_are made.zonings sound.config.parts.zonings made.in_order (sound_in_order w sound)
+
+-- where it is not sound, or its paths are not these, there is none
+pub unsound : {A : Type 0} (t : TableRows A) (v : WorldRows) → IsMadeOfTables t v → ¬ IsSound v → HasNoWorld t
+unsound t v made fails w rows sound = fails (subst IsSound (sym (the_world t v w made rows sound)) sound)
+
+pub other_paths : {A : Type 0} (t : TableRows A) (v : WorldRows) → IsMadeOfTables t v → ¬ ArePathRows (records_of v) t.paths.items → HasNoWorld t
+other_paths t v made fails w rows sound = fails (subst (λ x. ArePathRows (records_of x) t.paths.items) (sym (the_world t v w made rows sound)) rows.paths_are)
+
+-- sound worlds with equal rows are equal
+pub one_world : {A : Type 0} (t : TableRows A) (v w : WorldRows) → AreTableRows t v → AreTableRows t w → IsSound v → IsSound w → v ≡ w
+one_world t v w h k sound other = the_world t v w (record { records_are = h.records_are; zonings = sound.config.parts.zonings; in_order = sound_in_order v sound }) k other
