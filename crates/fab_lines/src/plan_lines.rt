@@ -60,7 +60,7 @@ fn state_word(state: PlanState) -> &'static str
 impl<A: Allocator + Copy> PlanLine<A> {
     /// The row that the line shows, if it shows one, with the line's own text. It takes no memory.
     pub fn read(self) -> Option<PlanRow<A>>
-        ensures { MatchOption result ((r : PlanEntry) → ¬ ShowsPlan self.now r) (ShowsPlan self.now) }
+        ensures { MatchOption result ((r : PlanEntry) → ¬ ShowsPlan self r) (ShowsPlan self) }
     {
         let name = read_name(self.name.as_str())?;
         let author = read_name(self.author.as_str())?;
