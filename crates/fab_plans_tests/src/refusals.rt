@@ -1,0 +1,279 @@
+//! Plans that are refused: the step, the refusal, and what is left of the configuration.
+
+use crate::facts::{Link, Way, has_paths, is_linked, sizes};
+use crate::texts::{CLASH, FIFTH, FIRST, NO_ZONE};
+use crate::worlds::{I1, TP1, TP2, name, new_config, port, steps, stock, take};
+use fab_inventory::Inventory;
+use fab_mapping::Nexus;
+use fab_plans::{Item, Refusal, StepLimit, TrialFault, trial};
+use fab_reach::Config;
+use std::alloc::{AllocError, Global};
+use std::test::Fail;
+
+/// A refusal as plain data.
+#[derive(Clone, Copy)]
+enum Why {
+    Exists(&'static str),
+    Unknown(&'static str),
+    UnknownPort(u64),
+    UnknownUnit(u16),
+    WrongPort(u64),
+    WrongVolume(&'static str),
+    UnitTaken(&'static str, u16),
+    InUse(&'static str, &'static str),
+    Clash(&'static str, u64, u16),
+}
+
+/// A plan, the number of the step that is refused, and why.
+type Case = (&'static str, usize, Why);
+
+/// Plans on a new configuration.
+const ON_NEW: [Case; 3] = [
+    (NO_ZONE, 3, Why::Unknown("z9")),
+    (FIFTH, 5, Why::Unknown("z9")),
+    ("deactivate A\nactivate A s1\n", 2, Why::Unknown("s1")),
+];
+
+/// Plans on the configuration after the first plan.
+const ON_FIRST: [Case; 32] = [
+    (CLASH, 0, Why::Clash("db1", TP1, 0)),
+    (FIFTH, 5, Why::Unknown("z9")),
+    ("alias.drop A none\n", 1, Why::Unknown("none")),
+    ("alias.drop B disk\n", 1, Why::Unknown("disk")),
+    ("alias.drop A disk\n", 1, Why::InUse("disk", "z1")),
+    ("zone.put A z2 alias=b alias=a\n", 1, Why::Unknown("b")),
+    ("zone.drop A z2\n", 1, Why::Unknown("z2")),
+    ("zone.drop A z1\n", 1, Why::InUse("z1", "s1")),
+    ("set.put A s2 z1 z9 z8\n", 1, Why::Unknown("z9")),
+    ("set.drop B s1\n", 1, Why::Unknown("s1")),
+    ("activate B s1\n", 1, Why::Unknown("s1")),
+    ("set.drop A s1\nactivate A s1\n", 2, Why::Unknown("s1")),
+    ("hg.put hosts2 blue db1 arr1\n", 1, Why::Unknown("arr1")),
+    ("hg.drop hosts2\n", 1, Why::Unknown("hosts2")),
+    ("hg.drop hosts1\n", 1, Why::InUse("hosts1", "g1")),
+    ("sg.new g1 blue db1\n", 1, Why::Exists("g1")),
+    ("sg.new g2 blue db1\n", 1, Why::Unknown("db1")),
+    ("sg.drop g2\n", 1, Why::Unknown("g2")),
+    ("sg.host g2 hosts2\n", 1, Why::Unknown("g2")),
+    ("sg.host g1 hosts2\n", 1, Why::Unknown("hosts2")),
+    ("sg.unhost g1 hosts2\n", 1, Why::Unknown("hosts2")),
+    (
+        "sg.target g1 5000000000000003\n",
+        1,
+        Why::UnknownPort(0x5000_0000_0000_0003),
+    ),
+    ("sg.target g1 1000000000000001\n", 1, Why::WrongPort(I1)),
+    (
+        "sg.untarget g1 5000000000000002\n",
+        1,
+        Why::UnknownPort(TP2),
+    ),
+    ("sg.map g1 0 v9\n", 1, Why::Unknown("v9")),
+    ("sg.map g1 0 v3\n", 1, Why::WrongVolume("v3")),
+    ("sg.map g1 0 v2\n", 1, Why::UnitTaken("g1", 0)),
+    ("sg.map g1 0 v1\nsg.map g2 0 v1\n", 2, Why::Unknown("g2")),
+    ("sg.unmap g1 1\n", 1, Why::UnknownUnit(1)),
+    ("sg.unmap g1 0\nsg.unmap g1 0\n", 2, Why::UnknownUnit(0)),
+    ("sg.expose g2\n", 1, Why::Unknown("g2")),
+    ("sg.hide g2\n", 1, Why::Unknown("g2")),
+];
+
+/// The refusal.
+fn refusal(why: Why) -> Result<Refusal, Fail> {
+    match why {
+        Why::Exists(text) => Ok(Refusal::Exists(name(text)?)),
+        Why::Unknown(text) => Ok(Refusal::Unknown(Item::Name(name(text)?))),
+        Why::UnknownPort(number) => Ok(Refusal::Unknown(Item::Port(port(number)?))),
+        Why::UnknownUnit(unit) => Ok(Refusal::Unknown(Item::Unit(unit))),
+        Why::WrongPort(number) => Ok(Refusal::WrongArray(Item::Port(port(number)?))),
+        Why::WrongVolume(text) => Ok(Refusal::WrongArray(Item::Name(name(text)?))),
+        Why::UnitTaken(text, unit) => unit_taken(text, unit),
+        Why::InUse(text, user) => in_use(text, user),
+        Why::Clash(host, target, unit) => clash(host, target, unit),
+    }
+}
+
+fn unit_taken(group: &str, unit: u16) -> Result<Refusal, Fail> {
+    let group = name(group)?;
+    Ok(Refusal::UnitTaken { group, unit })
+}
+
+fn in_use(text: &str, user: &str) -> Result<Refusal, Fail> {
+    let (name, by) = (name(text)?, name(user)?);
+    Ok(Refusal::InUse { name, by })
+}
+
+fn clash(host: &str, target: u64, unit: u16) -> Result<Refusal, Fail> {
+    let (host, target) = (name(host)?, port(target)?);
+    Ok(Refusal::Clash(Nexus { host, target, unit }))
+}
+
+/// Whether the plan of a text is refused at this step, for this.
+fn is_refused(
+    alloc: Global,
+    inventory: &Inventory<Global>,
+    config: &Config<Global>,
+    case: Case,
+) -> Result<bool, Fail> {
+    let refusal = refusal(case.2)?;
+    let steps = steps(alloc, case.0)?;
+    match trial(config, inventory, steps.as_slice()) {
+        Ok(_) => Ok(false),
+        Err(fault) => Ok(
+            fault
+                == TrialFault::Refused {
+                    step: case.1,
+                    refusal,
+                },
+        ),
+    }
+}
+
+/// Whether each plan of a table is refused as it says.
+fn are_refused(
+    alloc: Global,
+    inventory: &Inventory<Global>,
+    config: &Config<Global>,
+    cases: &[Case],
+) -> Result<bool, Fail> {
+    for case in cases {
+        if !is_refused(alloc, inventory, config, *case)? {
+            return Ok(false);
+        }
+    }
+    Ok(true)
+}
+
+/// Refused plans, and the configuration that they leave: its paths, why the first initiator and the
+/// first target may communicate, and how many aliases, zones, zone sets, host groups and storage
+/// groups there are.
+type Table = (&'static [Case], &'static [Way], Link, [usize; 5]);
+
+const NEW: Table = (&ON_NEW, &[], Link::Apart, [0, 0, 0, 0, 0]);
+
+const AFTER_FIRST: Table = (
+    &ON_FIRST,
+    &[(I1, TP1, "v1", 0)],
+    Link::Zone("z1"),
+    [1, 1, 1, 1, 1],
+);
+
+/// Whether the plans are refused, and the configuration is left as it was.
+fn leave(
+    alloc: Global,
+    inventory: &Inventory<Global>,
+    config: &Config<Global>,
+    table: Table,
+) -> Result<bool, Fail> {
+    if !are_refused(alloc, inventory, config, table.0)? {
+        return Ok(false);
+    }
+    if !has_paths(alloc, inventory, config, table.1)? {
+        return Ok(false);
+    }
+    if sizes(config) != table.3 {
+        return Ok(false);
+    }
+    is_linked(inventory, config, (I1, TP1), table.2)
+}
+
+fn leave_new(alloc: Global, inventory: &Inventory<Global>) -> Result<bool, Fail> {
+    let config = new_config(alloc);
+    leave(alloc, inventory, &config, NEW)
+}
+
+fn leave_first(alloc: Global, inventory: &Inventory<Global>) -> Result<bool, Fail> {
+    let mut config = new_config(alloc);
+    take(alloc, inventory, &mut config, FIRST)?;
+    leave(alloc, inventory, &config, AFTER_FIRST)
+}
+
+fn are_left(alloc: Global) -> Result<bool, Fail> {
+    let inventory = stock(alloc)?;
+    if !leave_new(alloc, &inventory)? {
+        return Ok(false);
+    }
+    leave_first(alloc, &inventory)
+}
+
+#[test]
+fn refused_plans_leave_nothing(rt: HostRuntime) -> Result<(), Fail> {
+    assert!(rt; are_left(rt.alloc())?);
+    Ok(())
+}
+
+/// The first lines of a plan; what stands before a number, between it and the same number again,
+/// and behind that; how often these come; and which step passes which limit, if one does.
+type Long = (
+    &'static str,
+    (&'static str, &'static str, &'static str),
+    u64,
+    Option<(usize, StepLimit)>,
+);
+
+/// Zone sets of one zone.
+const SETS: (&str, &str, &str) = ("set.put A s", " z\nalias.put A a", " dp=1,1\n");
+
+/// Host groups of one storage group.
+const SERVED: (&str, &str, &str) = ("hg.put k", " blue db1\nsg.host g k", "\n");
+
+const LONG: [Long; 4] = [
+    ("zone.put A z dp=1,1\n", SETS, 64, None),
+    (
+        "zone.put A z dp=1,1\n",
+        SETS,
+        65,
+        Some((130, StepLimit::Sets)),
+    ),
+    ("sg.new g blue arr1\n", SERVED, 64, None),
+    (
+        "sg.new g blue arr1\n",
+        SERVED,
+        65,
+        Some((131, StepLimit::Parts)),
+    ),
+];
+
+/// The text of a plan.
+fn long_text(alloc: Global, case: Long) -> Result<String, AllocError> {
+    let mut text = String::from_str(alloc, case.0)?;
+    let (before, between, behind) = case.1;
+    for number in 0..case.2 {
+        write!(text, "{before}{number}{between}{number}{behind}")?;
+    }
+    Ok(text)
+}
+
+/// The step at which a limit refuses the plan of a text on a new configuration, and the limit.
+fn limit(
+    alloc: Global,
+    inventory: &Inventory<Global>,
+    text: &str,
+) -> Result<Option<(usize, StepLimit)>, Fail> {
+    let config = new_config(alloc);
+    let steps = steps(alloc, text)?;
+    match trial(&config, inventory, steps.as_slice()) {
+        Ok(_) => Ok(None),
+        Err(
+            TrialFault::Refused {
+                step,
+                refusal: Refusal::Limit(limit),
+            },
+        ) => Ok(Some((step, limit))),
+        Err(_) => Err(Fail::from("another refusal")),
+    }
+}
+
+fn is_limited(alloc: Global, case: Long) -> Result<bool, Fail> {
+    let inventory = stock(alloc)?;
+    let text = long_text(alloc, case)?;
+    Ok(limit(alloc, &inventory, text.as_str())? == case.3)
+}
+
+#[test]
+fn limits(rt: HostRuntime) -> Result<(), Fail> {
+    for case in LONG {
+        assert!(rt; is_limited(rt.alloc(), case)?);
+    }
+    Ok(())
+}
