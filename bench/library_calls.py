@@ -21,6 +21,7 @@ CASES = [
     ("clash-many", 2048, 1, "the same among so many of one host each, on 32 targets with 256 units"),
     ("paths", 1024, 3, "all paths of so many hosts are listed, 64 each"),
     ("trial", 1024, 20, "the trial of a plan of 200 steps where there are so many storage groups of 16 nexuses each"),
+    ("trial-paths", 1024, 10, "the same where so many hosts have 64 paths each"),
     ("host", 2048, 50, "a host is put where so many hosts hold a port each"),
     ("volume", 4096, 5000, "a volume is put where there are so many"),
     ("policy", 256, 5, "such a policy is read"),
@@ -41,14 +42,14 @@ def timed(case, size, turns):
 def main():
     if not PROGRAM.exists():
         sys.exit("build the program first: (cd crates/fab_bench && rt run -- activate 1024 1)")
-    print(f"{'case':<10}{'size':>8}{'microseconds':>14}{'to half':>9}")
+    print(f"{'case':<12}{'size':>8}{'microseconds':>14}{'to half':>9}")
     for case, whole, turns, meaning in CASES:
         print(f"# {meaning}")
         half = None
         for size in (whole // 4, whole // 2, whole):
             nanos = timed(case, size, turns)
             ratio = "" if half is None else f"{nanos / half:.2f}"
-            print(f"{case:<10}{size:>8}{nanos / 1e3:>14.2f}{ratio:>9}")
+            print(f"{case:<12}{size:>8}{nanos / 1e3:>14.2f}{ratio:>9}")
             half = nanos
 
 

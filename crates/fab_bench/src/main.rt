@@ -39,6 +39,7 @@ fn run<R: Clock + AllocGlobal>(rt: &R, case: &str, size: u64, turns: u64) -> Res
         "clash-many" => timed(rt, turns, clashes::many_groups(alloc, size)),
         "paths" => timed(rt, turns, paths::world_of_paths(alloc, size)),
         "trial" => timed(rt, turns, trials::plan_on_groups(alloc, size)),
+        "trial-paths" => timed(rt, turns, trials::plan_on_paths(alloc, size)),
         "host" => timed(rt, turns, holders::host_put(alloc, size)),
         "volume" => timed(rt, turns, holders::volume_put(alloc, size)),
         _ => bail!("no such case"),

@@ -27,18 +27,24 @@ const VOLUMES: u64 = 2;
 /// How many paths a host has: from each of its ports to each target of an array, at each unit.
 const PATHS: usize = 64;
 
+/// An inventory, and a configuration beside it.
+#[derive(Drop)]
+pub struct Reached {
+    pub inventory: Inventory<Global>,
+    pub config: Config<Global>,
+}
+
 /// A world, and how many paths it has.
 #[derive(Drop)]
 pub struct Listing {
     alloc: Global,
-    inventory: Inventory<Global>,
-    config: Config<Global>,
+    world: Reached,
     paths: usize,
 }
 
 impl Turn for Listing {
     fn turn(&mut self) -> bool {
-        match plain_paths(self.alloc, &self.inventory, &self.config) {
+        match plain_paths(self.alloc, &self.world.inventory, &self.world.config) {
             Ok(paths) => paths.len() == self.paths,
             Err(_) => false,
         }
@@ -219,33 +225,48 @@ fn zoning_of(alloc: Global, hosts: u64) -> Result<Zoning<Global>> {
     Ok(zoning)
 }
 
-/// A world where so many hosts have 64 paths each, 1 to 1024 of them.
-pub fn world_of_paths(alloc: Global, size: u64) -> Result<Listing> {
-    let hosts = size.clamp(1, 1024);
-    let inventory = stock(alloc, hosts)?;
-    let mapping = Mapping::new(alloc);
+/// How many hosts a world of this size has: 1 to 1024.
+fn hosts_of(size: u64) -> u64 {
+    size.clamp(1, 1024)
+}
+
+/// The inventory of so many hosts, and the mapping that gives each the volumes of an array.
+fn made(alloc: Global, hosts: u64) -> Result<Making> {
     let mut making = Making {
         alloc,
-        inventory,
-        mapping,
+        inventory: stock(alloc, hosts)?,
+        mapping: Mapping::new(alloc),
     };
     for host in 0..hosts {
         making.put_group(host, host % ARRAYS)?;
     }
+    Ok(making)
+}
+
+/// Where so many hosts have 64 paths each, 1 to 1024 of them: each host has two ports, a zone, and a
+/// storage group `g0` and on; each of 64 arrays has 16 targets.
+pub fn world_of_hosts(alloc: Global, size: u64) -> Result<Reached> {
+    let hosts = hosts_of(size);
     let Making {
         alloc,
         inventory,
         mapping,
-    } = making;
+    } = made(alloc, hosts)?;
     let config = Config {
         a: zoning_of(alloc, hosts)?,
         b: Zoning::new(alloc, Fabric::B),
         mapping,
     };
+    Ok(Reached { inventory, config })
+}
+
+/// The paths of such a world.
+pub fn world_of_paths(alloc: Global, size: u64) -> Result<Listing> {
+    let world = world_of_hosts(alloc, size)?;
+    let hosts = usize::try_from(hosts_of(size)).unwrap_or(0);
     Ok(Listing {
         alloc,
-        inventory,
-        config,
-        paths: usize::try_from(hosts).unwrap_or(0).saturating_mul(PATHS),
+        world,
+        paths: hosts.saturating_mul(PATHS),
     })
 }
