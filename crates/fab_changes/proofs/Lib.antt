@@ -1,0 +1,6 @@
+pub mod Picked
+pub mod KeysListed
+pub mod PlacedNames
+pub mod KeysAdded
+pub mod PlansKept
+pub mod PlansPlaced

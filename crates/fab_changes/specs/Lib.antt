@@ -1,0 +1,5 @@
+pub mod Keys
+pub mod Positions
+pub mod Standing
+pub mod Kept
+pub mod Placed

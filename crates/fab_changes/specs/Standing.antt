@@ -1,0 +1,35 @@
+-- Which rows of plans, of approvals and of changes to undo stand in a world.
+use Rattle.std.specs.Prelude.{Option, None, Some}
+use Rattle.std.specs.FinMap as map
+use Rattle.fab_maps.specs.Firsts.{HasAt}
+use Rattle.fab_rows.specs.PlanEntries.{PlanEntry}
+use Rattle.fab_rows.specs.declared.record_row.ApprovalRow.{ApprovalRow}
+use Rattle.fab_rows.specs.declared.record_row.UndoRow.{UndoRow}
+use Rattle.fab_changes.specs.Positions.{IsPosition}
+use Rattle.fab_store_base.specs.PlanRows.{IsRowOf, IsApprovalOf, IsChanged}
+use Rattle.fab_world.specs.PlanRecords.{PlanRecord}
+use Rattle.fab_world.specs.Worlds.{WorldRows}
+
+-- the row is that of the plan of its name, at the plan's position
+pub record IsPlanRow (w : WorldRows) (r : PlanEntry) : Type 0 where
+  pub plan : HasAt (map.get w.plans) (IsRowOf r) r.name
+  pub position : IsPosition w.order r.name r.position
+
+-- the caller approved the plan, the last time at this revision
+abbrev pub IsApprovalRow : WorldRows → ApprovalRow → Type 0
+IsApprovalRow w r = HasAt (map.get w.plans) (IsApprovalOf r) r.plan
+
+-- the plan is active, and its activation took the row away, or added it
+abbrev pub IsUndoRow : WorldRows → UndoRow → Type 0
+IsUndoRow w r = HasAt (map.get w.plans) (λ (p : PlanRecord). IsChanged p.standing r.sign r.row) r.plan
+
+-- ---- rows of one, and not of another
+
+-- the row does not stand in the other, if one is given
+abbrev pub Misses : {W R : Type 0} → (W → R → Type 0) → Option W → R → Type 0
+Misses Stands None r = Unit {0}
+Misses Stands (Some other) r = ¬ Stands other r
+
+-- the row stands in the one, and not in the other
+abbrev pub Lacking : {W R : Type 0} → (W → R → Type 0) → Option W → W → R → Type 0
+Lacking Stands other w r = Stands w r × Misses Stands other r
