@@ -4,3 +4,4 @@ pub mod PlacedNames
 pub mod KeysAdded
 pub mod PlansKept
 pub mod PlansPlaced
+pub mod WorldPlans

@@ -3,3 +3,4 @@ pub mod Positions
 pub mod Standing
 pub mod Kept
 pub mod Placed
+pub mod PlanTables

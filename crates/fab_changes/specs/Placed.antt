@@ -1,6 +1,7 @@
 -- Plans with their positions among the activations in force, and the rows that they have.
 use Rattle.std.specs.Prelude.{ℕ, ◌≡◌, ◌⊎◌, List, [], ◌∷◌, ◌++◌, Option, None, Some, unwrap_or}
 use Rattle.std.specs.BTreeMap.{get}
+use Rattle.std.specs.FinMap as map
 use Rattle.fab_maps.specs.Firsts.{HasAt}
 use Rattle.fab_names.specs.Orders.{name_cmp}
 use Rattle.fab_rows.specs.PlanEntries.{PlanEntry}
@@ -9,6 +10,9 @@ use Rattle.fab_steps.specs.Plans.{Spells, IsWithinLimits, plan_text}
 use Rattle.fab_store_base.specs.PlanRows.{IsRowOf}
 use Rattle.fab_world.specs.PlanRecords.{PlanRecord}
 use Rattle.fab_world.specs.Plans.{state_of}
+use Rattle.fab_world.specs.Worlds.{WorldRows}
+use Rattle.fab_changes.specs.Positions.{ArePositions}
+use Rattle.fab_changes.specs.Standing.{IsPlanRow, Misses}
 
 -- the position of the name, or 0
 abbrev pub position_in : {A : Type 0} → PlacedPlans A → List ℕ → ℕ
@@ -18,6 +22,11 @@ position_in placed name = unwrap_or (get name_cmp placed.positions.now name) 0
 pub record IsPlacedRow {A : Type 0} (placed : PlacedPlans A) (r : PlanEntry) : Type 0 where
   pub plan : HasAt (get name_cmp placed.plans.now) (IsRowOf r) r.name
   pub position : r.position ≡ position_in placed r.name
+
+-- the plans are those of the world, at their positions
+pub record Places {A : Type 0} (placed : PlacedPlans A) (w : WorldRows) : Type 0 where
+  pub plans : get name_cmp placed.plans.now ≡ map.get w.plans
+  pub positions : ArePositions w.order (get name_cmp placed.positions.now)
 
 -- plans of one name, at these positions, have one row
 pub record HaveOneRow (p : PlanRecord) (k : ℕ) (q : PlanRecord) (l : ℕ) : Type 0 where
@@ -48,3 +57,7 @@ pub record IsListed {A : Type 0} (other : Option (PlacedPlans A)) (name : List �
 -- the row is put behind the others, where P holds
 abbrev pub Pushes : Type 0 → PlanEntry → List PlanEntry → List PlanEntry → Type 0
 Pushes P r old new = (P × (new ≡ old ++ r ∷ [])) ⊎ ((¬ P) × (new ≡ old))
+
+-- the row is placed, and does not stand in the other world, if one is given
+abbrev pub IsPlacedLacking : {A : Type 0} → Option WorldRows → PlacedPlans A → PlanEntry → Type 0
+IsPlacedLacking other placed r = IsPlacedRow placed r × Misses IsPlanRow other r

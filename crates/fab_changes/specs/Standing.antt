@@ -5,7 +5,7 @@ use Rattle.fab_maps.specs.Firsts.{HasAt}
 use Rattle.fab_rows.specs.PlanEntries.{PlanEntry}
 use Rattle.fab_rows.specs.declared.record_row.ApprovalRow.{ApprovalRow}
 use Rattle.fab_rows.specs.declared.record_row.UndoRow.{UndoRow}
-use Rattle.fab_changes.specs.Positions.{IsPosition}
+use Rattle.fab_changes.specs.Positions.{IsPosition, IsOrder}
 use Rattle.fab_store_base.specs.PlanRows.{IsRowOf, IsApprovalOf, IsChanged}
 use Rattle.fab_world.specs.PlanRecords.{PlanRecord}
 use Rattle.fab_world.specs.Worlds.{WorldRows}
@@ -22,6 +22,15 @@ IsApprovalRow w r = HasAt (map.get w.plans) (IsApprovalOf r) r.plan
 -- the plan is active, and its activation took the row away, or added it
 abbrev pub IsUndoRow : WorldRows → UndoRow → Type 0
 IsUndoRow w r = HasAt (map.get w.plans) (λ (p : PlanRecord). IsChanged p.standing r.sign r.row) r.plan
+
+-- each name is in the order of the world once, as in that of a sound world
+abbrev pub IsOrdered : WorldRows → Type 0
+IsOrdered w = IsOrder w.order
+
+-- the same, of the world if one is given
+abbrev pub AreOrdered : Option WorldRows → Type 0
+AreOrdered None = Unit {0}
+AreOrdered (Some w) = IsOrdered w
 
 -- ---- rows of one, and not of another
 

@@ -81,10 +81,10 @@ fn add_plans<A: Allocator + Copy>(
 ///
 /// # Errors
 /// `AllocError` where there is no memory.
-pub fn approvals_without<A: Allocator + Copy>(
+pub fn approvals_without<'a, A: Allocator + Copy>(
     alloc: A,
-    without: Option<&BTreeMap<Name, KeptPlan<A>, A>>,
-    plans: &BTreeMap<Name, KeptPlan<A>, A>,
+    without: Option<&'a BTreeMap<Name, KeptPlan<A>, A>>,
+    plans: &'a BTreeMap<Name, KeptPlan<A>, A>,
 ) -> Result<Vec<ApprovalRow, A>, AllocError>
     ensures { IfOk result (λ rows. IsListOf approval_order (Lacking spec.IsApprovalIn (option_copied without.entry) plans.now) rows.items) }
 {

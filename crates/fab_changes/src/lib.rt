@@ -7,11 +7,8 @@ mod kept;
 mod listed;
 mod placed;
 mod plan_rows;
+mod plans;
 mod positions;
 mod undo;
 
-pub use approvals::approvals_without;
-pub use placed::PlacedPlans;
-pub use plan_rows::plan_rows_without;
-pub use positions::positions_of;
-pub use undo::undo_without;
+pub use plans::{PlanTables, plan_tables};

@@ -74,10 +74,10 @@ fn push_row<A: Allocator + Copy>(
 ///
 /// # Errors
 /// `AllocError` where there is no memory.
-pub fn plan_rows_without<A: Allocator + Copy>(
+pub fn plan_rows_without<'a, A: Allocator + Copy>(
     alloc: A,
-    other: Option<&PlacedPlans<'_, A>>,
-    placed: &PlacedPlans<'_, A>,
+    other: Option<&'a PlacedPlans<'a, A>>,
+    placed: &'a PlacedPlans<'a, A>,
 ) -> Result<Vec<PlanRow<A>, A>, AllocError>
     ensures { IfOk result (λ rows. IsListOf plan_order (Lacking spec.IsPlacedRow (option_copied other.entry) placed.now) rows.items) }
 {

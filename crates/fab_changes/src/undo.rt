@@ -71,10 +71,10 @@ fn add_plans<A: Allocator + Copy>(
 ///
 /// # Errors
 /// `AllocError` where there is no memory.
-pub fn undo_without<A: Allocator + Copy>(
+pub fn undo_without<'a, A: Allocator + Copy>(
     alloc: A,
-    without: Option<&BTreeMap<Name, KeptPlan<A>, A>>,
-    plans: &BTreeMap<Name, KeptPlan<A>, A>,
+    without: Option<&'a BTreeMap<Name, KeptPlan<A>, A>>,
+    plans: &'a BTreeMap<Name, KeptPlan<A>, A>,
 ) -> Result<Vec<UndoRow, A>, AllocError>
     ensures { IfOk result (λ rows. IsListOf undo_order (Lacking spec.IsUndoIn (option_copied without.entry) plans.now) rows.items) }
 {

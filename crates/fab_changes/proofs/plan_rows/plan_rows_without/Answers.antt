@@ -27,7 +27,7 @@ loop-name-preserved g c =
     let es = placed.plans.now.entries in
     let entry : List ℕ × PlanRecord = (c.in-Some.name.now, c.in-Some.kept.now) in
     let next = rest_more deref_pair c.loop-name.name-iterator c.next.new.self c.next.result (c.in-Some.name, c.in-Some.kept) c.in-Some.is c.next.ensures.steps in
-    let sorted = subst (λ (xs : List (List ℕ × PlanRecord)). IsStrictlySortedBy name_cmp (keys_of xs)) (i.1 ∙ ap (λ (xs : List (List ℕ × PlanRecord)). i.0 ++ xs) next) c.into_iter-name-iterator.ensures.into_iter_gives.5 in
+    let sorted = subst (λ (xs : List (List ℕ × PlanRecord)). IsStrictlySortedBy name_cmp (keys_of xs)) {y = i.0 ++ entry ∷ c.next.new.self} (i.1 ∙ ap (λ (xs : List (List ℕ × PlanRecord)). i.0 ++ xs) next) c.into_iter-name-iterator.ensures.into_iter_gives.5 in
     let pushed = subst (λ (k : ℕ). Pushes (IsOwnRow o entry.0 entry.1 k) (plan_row entry.0 entry.1 k) c.loop-name.rows.items c.push_row.new.rows.items) c.position_in.ensures c.in_ok-push_row.ensures in (
       i.0 ++ entry ∷ [],
       walked es i.0 c.loop-name.name-iterator c.next.new.self entry i.1 next,
