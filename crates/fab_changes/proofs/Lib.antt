@@ -5,3 +5,4 @@ pub mod KeysAdded
 pub mod PlansKept
 pub mod PlansPlaced
 pub mod WorldPlans
+pub mod PartsTold

@@ -54,12 +54,16 @@ module _ {A : Type 0} (o : Option (PlacedPlans A)) (placed : PlacedPlans A) wher
   own_misses : (other : Option (PlacedPlans A)) (name : List ℕ) (p : PlanRecord) (k : ℕ) → Spells (plan_text p.steps) p.steps → Differs other name p k → Misses IsPlacedRow other (plan_row name p k)
   own_misses None name p k spelt d = tt
   own_misses (Some w) name p k spelt d = λ h.
-      let q = h.plan in d (q.0, q.1, record {
-        author = sym q.2.author;
-        steps = one_plan (lines_of (plan_text p.steps)) p.steps q.0.steps spelt.lines q.2.text.spells.lines;
-        state = sym q.2.state;
-        position = h.position;
-      })
+      let q = h.plan in d (
+        q.0,
+        q.1,
+        record {
+          author = sym q.2.author;
+          steps = one_plan (lines_of (plan_text p.steps)) p.steps q.0.steps spelt.lines q.2.text.spells.lines;
+          state = sym q.2.state;
+          position = h.position;
+        },
+      )
 
   -- and a row that is none of another's differs
   misses_own : (other : Option (PlacedPlans A)) (r : PlanEntry) (p : PlanRecord) (k : ℕ) → IsRowOf r p → r.position ≡ k → Misses IsPlacedRow other r → Differs other r.name p k

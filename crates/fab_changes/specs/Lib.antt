@@ -4,3 +4,4 @@ pub mod Standing
 pub mod Kept
 pub mod Placed
 pub mod PlanTables
+pub mod Tables

@@ -83,7 +83,14 @@ pub fn plan_rows_without<'a, A: Allocator + Copy>(
 {
     let mut rows = Vec::new(alloc);
     for (name, kept) in placed.plans {
-        push_row(alloc, &mut rows, other, name, kept, position_in(placed, name))?;
+        push_row(
+            alloc,
+            &mut rows,
+            other,
+            name,
+            kept,
+            position_in(placed, name),
+        )?;
     }
     Ok(rows)
 }

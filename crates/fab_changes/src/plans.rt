@@ -111,7 +111,7 @@ pub fn plan_tables<'a, A: Allocator + Copy>(
     without: Option<&'a World<A>>,
     world: &'a World<A>,
 ) -> Result<PlanTables<A>, AllocError>
-    ensures { IfOk result (λ tables. IsOrdered world.now → AreOrdered (option_copied without.entry) → ArePlanTables (option_copied without.entry) world.now tables) }
+    ensures { IfOk result (ArePlanTables (option_copied without.entry) world.now) }
 {
     let plans = plans_of(alloc, without, world)?;
     let approvals = approvals_of(alloc, without, world)?;

@@ -8,7 +8,7 @@ use Rattle.fab_maps.proofs.Walks.{walked, walk_end}
 use Rattle.fab_names.specs.Orders.{name_cmp}
 use Rattle.fab_rows.specs.PlanEntries.{PlanEntry}
 use Rattle.fab_world.specs.PlanRecords.{PlanRecord}
-use Rattle.fab_changes.specs.Placed.{IsOwnRow, plan_row, Pushes}
+use Rattle.fab_changes.specs.Placed.{position_in, IsOwnRow, plan_row, Pushes}
 use Rattle.fab_changes.proofs.Picked.{picked_none}
 use Rattle.fab_changes.proofs.PlansPlaced.{IsOwn, row_at, SoFar, one_more, rows_told}
 use Rattle.fab_changes.proofs.plan_rows.plan_rows_without.Goals as goal
@@ -28,7 +28,7 @@ loop-name-preserved g c =
     let entry : List ℕ × PlanRecord = (c.in-Some.name.now, c.in-Some.kept.now) in
     let next = rest_more deref_pair c.loop-name.name-iterator c.next.new.self c.next.result (c.in-Some.name, c.in-Some.kept) c.in-Some.is c.next.ensures.steps in
     let sorted = subst (λ (xs : List (List ℕ × PlanRecord)). IsStrictlySortedBy name_cmp (keys_of xs)) {y = i.0 ++ entry ∷ c.next.new.self} (i.1 ∙ ap (λ (xs : List (List ℕ × PlanRecord)). i.0 ++ xs) next) c.into_iter-name-iterator.ensures.into_iter_gives.5 in
-    let pushed = subst (λ (k : ℕ). Pushes (IsOwnRow o entry.0 entry.1 k) (plan_row entry.0 entry.1 k) c.loop-name.rows.items c.push_row.new.rows.items) c.position_in.ensures c.in_ok-push_row.ensures in (
+    let pushed = subst (λ (k : ℕ). Pushes (IsOwnRow o entry.0 entry.1 k) (plan_row entry.0 entry.1 k) c.loop-name.rows.items c.push_row.new.rows.items) {y = position_in placed entry.0} c.position_in.ensures c.in_ok-push_row.ensures in (
       i.0 ++ entry ∷ [],
       walked es i.0 c.loop-name.name-iterator c.next.new.self entry i.1 next,
       one_more o placed i.0 c.next.new.self entry c.loop-name.rows.items c.push_row.new.rows.items sorted pushed i.2,

@@ -11,6 +11,6 @@ returns g c =
     let rows = changed_of (Some c.args.plan.now) c.args.added in
     let others = changed_of (option_copied c.args.other) c.args.added in
     let only = c.in_ok-only.only in
-    let left = subst (λ (xs : List ConfigRow). (r : ConfigRow) → HasRow only r ↔ IsOnlyIn rows xs r) c.changed_of-others.ensures
-    (subst (λ (xs : List ConfigRow). (r : ConfigRow) → HasRow only r ↔ IsOnlyIn xs c.changed_of-others.result.now r) c.changed_of-rows.ensures c.in_ok-only.ensures) in
+    let left = subst (λ (xs : List ConfigRow). (r : ConfigRow) → HasRow only r ↔ IsOnlyIn rows xs r) {y = others} c.changed_of-others.ensures
+    (subst (λ (xs : List ConfigRow). (r : ConfigRow) → HasRow only r ↔ IsOnlyIn xs c.changed_of-others.result.now r) {y = rows} c.changed_of-rows.ensures c.in_ok-only.ensures) in
     keys_as c.args.name.now c.args.added (HasRow only) (IsOnlyIn rows others) (HasUndo c.args.keys.now) (HasUndo c.add_keys.new.keys) left c.in_ok-add_keys.ensures
