@@ -1,0 +1,16 @@
+//! Tests of worlds from the rows of their tables: rows that come back, and the table that damaged
+//! rows name. Nothing here is part of the product.
+#![tactic(auto)]
+
+#[cfg(test)]
+mod damages;
+#[cfg(test)]
+mod edits;
+#[cfg(test)]
+mod lines;
+#[cfg(test)]
+mod records;
+#[cfg(test)]
+mod stock;
+#[cfg(test)]
+mod tables;
