@@ -6,6 +6,7 @@ use crate::worlds::{I1, TP1, TP2, name, new_config, port, steps, stock, take};
 use fab_inventory::Inventory;
 use fab_mapping::Nexus;
 use fab_plans::{Item, Refusal, StepLimit, TrialFault, trial};
+use fab_plans_base::Step;
 use fab_reach::Config;
 use std::alloc::{AllocError, Global};
 use std::test::Fail;
@@ -244,15 +245,13 @@ fn long_text(alloc: Global, case: Long) -> Result<String, AllocError> {
     Ok(text)
 }
 
-/// The step at which a limit refuses the plan of a text on a new configuration, and the limit.
-fn limit(
-    alloc: Global,
+/// The step at which a limit refuses the steps, and the limit.
+fn limit_of(
     inventory: &Inventory<Global>,
-    text: &str,
+    config: &Config<Global>,
+    steps: &[Step<Global>],
 ) -> Result<Option<(usize, StepLimit)>, Fail> {
-    let config = new_config(alloc);
-    let steps = steps(alloc, text)?;
-    match trial(&config, inventory, steps.as_slice()) {
+    match trial(config, inventory, steps) {
         Ok(_) => Ok(None),
         Err(
             TrialFault::Refused {
@@ -262,6 +261,27 @@ fn limit(
         ) => Ok(Some((step, limit))),
         Err(_) => Err(Fail::from("another refusal")),
     }
+}
+
+/// The same of the steps of a text.
+fn limit_of_text(
+    alloc: Global,
+    inventory: &Inventory<Global>,
+    config: &Config<Global>,
+    text: &str,
+) -> Result<Option<(usize, StepLimit)>, Fail> {
+    let steps = steps(alloc, text)?;
+    limit_of(inventory, config, steps.as_slice())
+}
+
+/// The same on a new configuration.
+fn limit(
+    alloc: Global,
+    inventory: &Inventory<Global>,
+    text: &str,
+) -> Result<Option<(usize, StepLimit)>, Fail> {
+    let config = new_config(alloc);
+    limit_of_text(alloc, inventory, &config, text)
 }
 
 fn is_limited(alloc: Global, case: Long) -> Result<bool, Fail> {

@@ -2,8 +2,10 @@
 
 use crate::texts::NO_ZONE;
 use crate::worlds::{name, new_config, steps, stock};
+use fab_inventory::Inventory;
 use fab_names::Name;
 use fab_plans::{ApprovalFault, Plan, Staged, TrialFault};
+use fab_reach::Config;
 use std::alloc::Global;
 use std::collections::BTreeMap;
 use std::test::Fail;
@@ -125,13 +127,32 @@ fn is_rolled_back(staged: Staged<Global>) -> Result<bool, Fail> {
     Ok(undo == UNDO && is_as(&rolled_back.plan, LAST)?)
 }
 
-/// Whether the trial of a plan is refused at its third step.
+/// Whether the trial of a plan on a configuration is refused at its third step.
+fn is_refused_on(
+    inventory: &Inventory<Global>,
+    config: &Config<Global>,
+    staged: &Staged<Global>,
+) -> bool {
+    match staged.outcome(config, inventory) {
+        Err(TrialFault::Refused { step: 3, .. }) => true,
+        _ => false,
+    }
+}
+
+/// The same on a new configuration.
+fn is_refused_beside(
+    alloc: Global,
+    inventory: &Inventory<Global>,
+    staged: &Staged<Global>,
+) -> bool {
+    let config = new_config(alloc);
+    is_refused_on(inventory, &config, staged)
+}
+
+/// The same beside the inventory.
 fn is_refused(alloc: Global, staged: &Staged<Global>) -> Result<bool, Fail> {
     let inventory = stock(alloc)?;
-    match staged.outcome(&new_config(alloc), &inventory) {
-        Err(TrialFault::Refused { step: 3, .. }) => Ok(true),
-        _ => Ok(false),
-    }
+    Ok(is_refused_beside(alloc, &inventory, staged))
 }
 
 /// Whether a plan whose trial was refused leads on with all that it had.
