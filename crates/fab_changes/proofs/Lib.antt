@@ -6,3 +6,4 @@ pub mod PlansKept
 pub mod PlansPlaced
 pub mod WorldPlans
 pub mod PartsTold
+pub mod PlansWhole

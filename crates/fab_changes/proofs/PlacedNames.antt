@@ -72,7 +72,7 @@ swapped_has j (m ∷ ns) k n h = elim (first_or_later (j, m) (k, n) (numbered (j
   | inr there ↦ later (m, j) (n, k) (swapped (j + 1) ns) (swapped_has (j + 1) ns k n there)
 ]
 
-one_place : (order : List (List ℕ)) → IsOrder order → (n : List ℕ) (k l : ℕ) → Contains (numbered 1 order) (k, n) → Contains (numbered 1 order) (l, n) → k ≡ l
+pub one_place : (order : List (List ℕ)) → IsOrder order → (n : List ℕ) (k l : ℕ) → Contains (numbered 1 order) (k, n) → Contains (numbered 1 order) (l, n) → k ≡ l
 one_place order once n k l h g =
     let names = subst (λ ns. IsDistinct (eq_by_cmp name_cmp) ns) (sym (names_swapped 1 order)) once in
     let at = λ (m : ℕ) (c : Contains (numbered 1 order) (m, n)). lookup-from_Contains (eq_by_cmp_equiv name_total) n m (swapped 1 order) names (swapped_has 1 order m n c) in
@@ -87,7 +87,7 @@ placed_name j (m ∷ ns) n k h = elim (first_or_later (j, m) (k, n) (numbered (j
 ]
 
 -- and a name of the order has a place
-place_of : (j : ℕ) (order : List (List ℕ)) (n : List ℕ) → Contains order n → (k : ℕ) × Contains (numbered j order) (k, n)
+pub place_of : (j : ℕ) (order : List (List ℕ)) (n : List ℕ) → Contains order n → (k : ℕ) × Contains (numbered j order) (k, n)
 place_of j [] n h = absurd (omega (arith, h.1))
 place_of j (m ∷ ns) n h = elim (first_or_later m n ns h) [
   | inl is ↦ (j, (0, omega arith, ap (λ (x : List ℕ). (j, x)) is))

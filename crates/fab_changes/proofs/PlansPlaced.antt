@@ -1,8 +1,9 @@
 -- The rows of plans at their positions, as they are listed plan by plan.
-use Rattle.std.proofs.Common.{◌≡◌, ◌↔◌, ℕ, List, [], ◌∷◌, ◌++◌, Contains, Option, None, Some, inl, inr, refl, sym, ap, ◌∙◌, subst}
+use Rattle.std.proofs.Common.{◌≡◌, ◌↔◌, ℕ, List, [], ◌∷◌, ◌++◌, Contains, Option, None, Some, inl, inr, refl, sym, ap, ◌∙◌, subst, arith}
 use Rattle.std.specs.BTreeMap.{IsOrdered, get}
 use Rattle.std.specs.List.Sorted.{IsStrictlySortedBy}
 use Rattle.std.specs.Map.{keys_of}
+use Rattle.std.proofs.lemmas.List.Elements.{Contains-push_cases}
 use Rattle.fab_maps.specs.Firsts.{HasAt}
 use Rattle.fab_maps.specs.Lists.{IsListOf}
 use Rattle.fab_names.specs.Orders.{name_cmp}
@@ -16,7 +17,7 @@ use Rattle.fab_store_base.specs.PlanRows.{IsTextOf, IsRowOf}
 use Rattle.fab_world.specs.PlanRecords.{PlanRecord}
 use Rattle.fab_changes.specs.Keys.{plan_order}
 use Rattle.fab_changes.specs.Standing.{Misses, Lacking}
-use Rattle.fab_changes.specs.Placed.{position_in, IsPlacedRow, HaveOneRow, plan_row, Differs, IsOwnRow, IsListed, Pushes}
+use Rattle.fab_changes.specs.Placed.{position_in, IsPlacedRow, HaveOneRow, plan_row, Differs, IsOwnRow, IsListed, HaveTexts, Pushes}
 use Rattle.fab_changes.specs.declared.placed.PlacedPlans.{PlacedPlans}
 use Rattle.fab_changes.proofs.Picked.{Picked, picked_more, picked_skip}
 use Rattle.fab_changes.proofs.PlansKept.{entry_of}
@@ -99,3 +100,21 @@ module _ {A : Type 0} (o : Option (PlacedPlans A)) (placed : PlacedPlans A) wher
           let own : IsOwn e = record { spelt = subst (λ t. Spells t p.steps) row.text.printed row.text.spells; differs = misses_own o r p (position_in placed r.name) row h.0.position h.1 } in
           let same : row_at e ≡ r = λ i. record { name = r.name; author = row.author i; text = sym row.text.printed i; state = row.state i; position = sym h.0.position i } in
           subst (Contains rows) same (so.complete e there own)
+
+-- ---- the texts of the plans so far
+
+module _ {A : Type 0} (o : Option (PlacedPlans A)) (placed : PlacedPlans A) where
+  abbrev pub IsSpelt : List ℕ × PlanRecord → Type 0
+  IsSpelt e = IsListed o e.0 e.1 (position_in placed e.0) → Spells (plan_text e.1.steps) e.1.steps
+
+  abbrev pub SpeltSoFar : List (List ℕ × PlanRecord) → Type 0
+  SpeltSoFar before = (e : List ℕ × PlanRecord) → Contains before e → IsSpelt e
+
+  pub none_spelt : SpeltSoFar []
+  none_spelt e h = absurd (omega (arith, h.1))
+
+  pub one_spelt : (before : List (List ℕ × PlanRecord)) (e : List ℕ × PlanRecord) → IsSpelt e → SpeltSoFar before → SpeltSoFar (before ++ e ∷ [])
+  one_spelt before e here so d h = elim (Contains-push_cases before e d h) [ inl there ↦ so d there | inr is ↦ subst IsSpelt is here ]
+
+  pub all_spelt : (es : List (List ℕ × PlanRecord)) → IsOrdered name_cmp placed.plans.now → es ≡ placed.plans.now.entries → SpeltSoFar es → HaveTexts o placed
+  all_spelt es ordered is so n p at = so (n, p) (subst (λ xs. Contains xs (n, p)) (sym is) ((entry_of name_total name_exact placed.plans.now ordered n p).0 at))

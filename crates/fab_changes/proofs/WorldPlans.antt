@@ -1,5 +1,5 @@
 -- The rows of the plans of worlds.
-use Rattle.std.proofs.Common.{◌≡◌, ◌↔◌, ℕ, List, Option, None, Some, Result, Ok, Err, IfOk, sym, ap, ◌∙◌, subst}
+use Rattle.std.proofs.Common.{◌≡◌, ◌↔◌, ℕ, List, Option, None, Some, Result, Ok, Err, IfOk, OnOk, sym, ap, ◌∙◌, subst}
 use Rattle.std.specs.BTreeMap.{BTreeMap, get}
 use Rattle.std.specs.FinMap as map
 use Rattle.fab_maps.specs.Firsts.{HasAt}
@@ -16,9 +16,9 @@ use Rattle.fab_world.specs.PlanRecords.{PlanRecord}
 use Rattle.fab_world.specs.Worlds.{WorldRows}
 use Rattle.fab_changes.specs.Keys.{plan_order, approval_order, undo_order}
 use Rattle.fab_changes.specs.Kept.{PlanTree, IsApprovalIn, IsUndoIn}
-use Rattle.fab_changes.specs.Placed.{position_in, Places, IsPlacedRow, IsPlacedLacking}
+use Rattle.fab_changes.specs.Placed.{position_in, Places, IsPlacedRow, IsPlacedLacking, HaveTexts, AllHaveTexts}
 use Rattle.fab_changes.specs.Positions.{ArePositions, IsOrder}
-use Rattle.fab_changes.specs.Standing.{IsPlanRow, IsApprovalRow, IsUndoRow, IsOrdered, AreOrdered, Misses, Lacking}
+use Rattle.fab_changes.specs.Standing.{IsPlanRow, IsApprovalRow, IsUndoRow, IsOrdered, AreOrdered, AllHaveRows, Misses, Lacking}
 use Rattle.fab_changes.specs.declared.placed.PlacedPlans.{PlacedPlans}
 use Rattle.fab_changes.proofs.PlacedNames.{found_position, position_found}
 
@@ -85,3 +85,25 @@ module _ {R : Type 0} (O : R → R → Rattle.std.specs.declared.cmp.Ordering.Or
 pub ok_as : {X E : Type 0} {P Q : X → Type 0} (r : Result X E) → ((x : X) → P x → Q x) → IfOk r P → IfOk r Q
 ok_as (Ok x) f h = f x h
 ok_as (Err e) f h = h
+
+-- ---- plans that have rows
+
+-- where no other world is given
+pub texts_all : {A : Type 0} (placed : PlacedPlans A) (o : Option WorldRows) → o ≡ None → HaveTexts None placed → AllHaveTexts o placed
+texts_all placed o is h = subst (λ (x : Option WorldRows). AllHaveTexts x placed) (sym is) h
+
+-- and where one is
+pub texts_some : {A : Type 0} (placed : PlacedPlans A) (o : Option WorldRows) (w : WorldRows) → o ≡ Some w → AllHaveTexts o placed
+texts_some placed o w is = subst (λ (x : Option WorldRows). AllHaveTexts x placed) (sym is) tt
+
+pub world_texts : {A : Type 0} (placed : PlacedPlans A) (w : WorldRows) (o : Option WorldRows) → get name_cmp placed.plans.now ≡ map.get w.plans → AllHaveTexts o placed → AllHaveRows o w
+world_texts placed w (Some other) is h = tt
+world_texts placed w None is h = λ n p at within. h n p (ap (λ (look : List ℕ → Option PlanRecord). look n) is ∙ at) (record { within = within; differs = tt })
+
+pub on_as : {X E : Type 0} {P Q : Type 0} (r : Result X E) → (P → Q) → OnOk r P → OnOk r Q
+on_as (Ok x) f h = f h
+on_as (Err e) f h = h
+
+pub on_any : {X E : Type 0} {Q : Type 0} (r : Result X E) → Q → OnOk r Q
+on_any (Ok x) q = q
+on_any (Err e) q = tt

@@ -54,6 +54,10 @@ pub record IsListed {A : Type 0} (other : Option (PlacedPlans A)) (name : List �
   pub within : IsWithinLimits p.steps
   pub differs : Differs other name p k
 
+-- the printed form of the steps of each listed plan spells them
+abbrev pub HaveTexts : {A : Type 0} → Option (PlacedPlans A) → PlacedPlans A → Type 0
+HaveTexts other placed = (n : List ℕ) (p : PlanRecord) → get name_cmp placed.plans.now n ≡ Some p → IsListed other n p (position_in placed n) → Spells (plan_text p.steps) p.steps
+
 -- the row is put behind the others, where P holds
 abbrev pub Pushes : Type 0 → PlanEntry → List PlanEntry → List PlanEntry → Type 0
 Pushes P r old new = (P × (new ≡ old ++ r ∷ [])) ⊎ ((¬ P) × (new ≡ old))
@@ -61,3 +65,8 @@ Pushes P r old new = (P × (new ≡ old ++ r ∷ [])) ⊎ ((¬ P) × (new ≡ ol
 -- the row is placed, and does not stand in the other world, if one is given
 abbrev pub IsPlacedLacking : {A : Type 0} → Option WorldRows → PlacedPlans A → PlanEntry → Type 0
 IsPlacedLacking other placed r = IsPlacedRow placed r × Misses IsPlanRow other r
+
+-- where no other world is given, of each plan that is within the limits
+abbrev pub AllHaveTexts : {A : Type 0} → Option WorldRows → PlacedPlans A → Type 0
+AllHaveTexts None placed = HaveTexts None placed
+AllHaveTexts (Some other) placed = Unit {0}

@@ -1,11 +1,12 @@
 -- Which rows of plans, of approvals and of changes to undo stand in a world.
-use Rattle.std.specs.Prelude.{Option, None, Some}
+use Rattle.std.specs.Prelude.{ℕ, ◌≡◌, List, Option, None, Some}
 use Rattle.std.specs.FinMap as map
 use Rattle.fab_maps.specs.Firsts.{HasAt}
 use Rattle.fab_rows.specs.PlanEntries.{PlanEntry}
 use Rattle.fab_rows.specs.declared.record_row.ApprovalRow.{ApprovalRow}
 use Rattle.fab_rows.specs.declared.record_row.UndoRow.{UndoRow}
 use Rattle.fab_changes.specs.Positions.{IsPosition, IsOrder}
+use Rattle.fab_steps.specs.Plans.{Spells, IsWithinLimits, plan_text}
 use Rattle.fab_store_base.specs.PlanRows.{IsRowOf, IsApprovalOf, IsChanged}
 use Rattle.fab_world.specs.PlanRecords.{PlanRecord}
 use Rattle.fab_world.specs.Worlds.{WorldRows}
@@ -31,6 +32,17 @@ IsOrdered w = IsOrder w.order
 abbrev pub AreOrdered : Option WorldRows → Type 0
 AreOrdered None = Unit {0}
 AreOrdered (Some w) = IsOrdered w
+
+-- ---- plans that have rows
+
+-- the printed form of the steps of each plan that is within the limits spells them: so it has a row
+abbrev pub HaveRows : WorldRows → Type 0
+HaveRows w = (n : List ℕ) (p : PlanRecord) → map.get w.plans n ≡ Some p → IsWithinLimits p.steps → Spells (plan_text p.steps) p.steps
+
+-- the same, where no other world is given
+abbrev pub AllHaveRows : Option WorldRows → WorldRows → Type 0
+AllHaveRows None w = HaveRows w
+AllHaveRows (Some other) w = Unit {0}
 
 -- ---- rows of one, and not of another
 

@@ -20,7 +20,7 @@ use Rattle.fab_row_lists.specs.Inventories.{port_order, holder_order, volume_ord
 use Rattle.fab_row_lists.specs.Paths.{IsPathRow, path_row_order}
 use Rattle.fab_world.specs.Worlds.{WorldRows, records_of}
 use Rattle.fab_changes.specs.Keys.{plan_order, approval_order, undo_order}
-use Rattle.fab_changes.specs.Standing.{IsPlanRow, IsApprovalRow, IsUndoRow, IsOrdered, AreOrdered, Lacking}
+use Rattle.fab_changes.specs.Standing.{IsPlanRow, IsApprovalRow, IsUndoRow, IsOrdered, AreOrdered, AllHaveRows, Lacking}
 use Rattle.fab_changes.specs.declared.parts.Parts.{Parts}
 use Rattle.fab_changes.specs.declared.parts.PartChanges.{PartChanges}
 use Rattle.fab_changes.specs.declared.tables.Changes.{Changes}
@@ -58,7 +58,7 @@ count_order (Revision m) (Revision n) = nat_cmp m n
 
 -- each list has the rows of its table that stand in the world, and not in the other if one is given:
 -- each once, in their order, and no others; the rows of plans where each name is in the orders once,
--- as in those of sound worlds
+-- as in those of sound worlds; where no other world is given, each plan within its limits has a row
 pub record AreRows {A : Type 0} (other : Option WorldRows) (w : WorldRows) (t : TableRows A) : Type 0 where
   pub counts : IsListOf count_order (Lacking IsCountRow other w) t.counts.items
   pub ports : IsListOf port_order (Lacking IsPortRow other w) t.ports.items
@@ -69,6 +69,7 @@ pub record AreRows {A : Type 0} (other : Option WorldRows) (w : WorldRows) (t : 
   pub approvals : IsListOf approval_order (Lacking IsApprovalRow other w) t.approvals.items
   pub undo : IsListOf undo_order (Lacking IsUndoRow other w) t.undo.items
   pub paths : IsListOf path_row_order (Lacking IsRowOfPath other w) t.paths.items
+  pub texts : AllHaveRows other w
 
 -- the rows that stand before and not after are removed, and those that stand after and not before are
 -- added

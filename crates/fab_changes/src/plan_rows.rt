@@ -60,7 +60,8 @@ fn push_row<A: Allocator + Copy>(
     kept: &KeptPlan<A>,
     position: u64,
 ) -> Result<(), AllocError>
-    ensures { OnOk result (spec.Pushes (spec.IsOwnRow (option_copied other.entry) name.now kept.now position) (spec.plan_row name.now kept.now position) rows.old.items rows.new.items) }
+    ensures row { OnOk result (spec.Pushes (spec.IsOwnRow (option_copied other.entry) name.now kept.now position) (spec.plan_row name.now kept.now position) rows.old.items rows.new.items) }
+    ensures spelt { OnOk result (spec.IsListed (option_copied other.entry) name.now kept.now position → Spells (plan_text kept.now.steps) kept.now.steps) }
 {
     if !is_listed(other, name, kept, position) {
         return Ok(());
@@ -79,7 +80,8 @@ pub fn plan_rows_without<'a, A: Allocator + Copy>(
     other: Option<&'a PlacedPlans<'a, A>>,
     placed: &'a PlacedPlans<'a, A>,
 ) -> Result<Vec<PlanRow<A>, A>, AllocError>
-    ensures { IfOk result (λ rows. IsListOf plan_order (Lacking spec.IsPlacedRow (option_copied other.entry) placed.now) rows.items) }
+    ensures rows { IfOk result (λ rows. IsListOf plan_order (Lacking spec.IsPlacedRow (option_copied other.entry) placed.now) rows.items) }
+    ensures texts { OnOk result (spec.HaveTexts (option_copied other.entry) placed.now) }
 {
     let mut rows = Vec::new(alloc);
     for (name, kept) in placed.plans {

@@ -1,11 +1,11 @@
 //! The rows of the three tables of plans, but for those that stand in another world.
-ghost use Rattle.std.specs.Prelude.{Some, IfOk};
+ghost use Rattle.std.specs.Prelude.{Some, IfOk, OnOk};
 ghost use Rattle.std.specs.Option.{option_copied};
 ghost use Rattle.fab_maps.specs.Lists.{IsListOf};
 ghost use Rattle.fab_changes.specs.Keys.{plan_order, approval_order, undo_order};
-ghost use Rattle.fab_changes.specs.Placed.{IsPlacedLacking};
+ghost use Rattle.fab_changes.specs.Placed.{IsPlacedLacking, AllHaveTexts};
 ghost use Rattle.fab_changes.specs.PlanTables.{ArePlanTables};
-ghost use Rattle.fab_changes.specs.Standing.{IsPlanRow, IsApprovalRow, IsUndoRow, IsOrdered, AreOrdered, Lacking};
+ghost use Rattle.fab_changes.specs.Standing.{IsPlanRow, IsApprovalRow, IsUndoRow, IsOrdered, AreOrdered, AllHaveRows, Lacking};
 
 use crate::approvals::approvals_without;
 use crate::placed::PlacedPlans;
@@ -47,7 +47,8 @@ fn plans_from<'a, A: Allocator + Copy>(
     placed: &'a PlacedPlans<'a, A>,
     without: Option<&'a World<A>>,
 ) -> Result<Vec<PlanRow<A>, A>, AllocError>
-    ensures { IfOk result (λ rows. AreOrdered (option_copied without.entry) → IsListOf plan_order (IsPlacedLacking (option_copied without.entry) placed.now) rows.items) }
+    ensures rows { IfOk result (λ rows. AreOrdered (option_copied without.entry) → IsListOf plan_order (IsPlacedLacking (option_copied without.entry) placed.now) rows.items) }
+    ensures texts { OnOk result (AllHaveTexts (option_copied without.entry) placed.now) }
 {
     match without {
         Some(other) => plans_not_in(alloc, placed, other),
@@ -61,7 +62,8 @@ fn plans_of<'a, A: Allocator + Copy>(
     without: Option<&'a World<A>>,
     world: &'a World<A>,
 ) -> Result<Vec<PlanRow<A>, A>, AllocError>
-    ensures { IfOk result (λ rows. IsOrdered world.now → AreOrdered (option_copied without.entry) → IsListOf plan_order (Lacking IsPlanRow (option_copied without.entry) world.now) rows.items) }
+    ensures rows { IfOk result (λ rows. IsOrdered world.now → AreOrdered (option_copied without.entry) → IsListOf plan_order (Lacking IsPlanRow (option_copied without.entry) world.now) rows.items) }
+    ensures texts { OnOk result (AllHaveRows (option_copied without.entry) world.now) }
 {
     let positions = positions_of(alloc, world.order.as_slice())?;
     let placed = PlacedPlans {

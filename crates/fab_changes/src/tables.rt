@@ -1,7 +1,10 @@
 //! The rows of all tables of a world.
 ghost use Rattle.std.specs.Prelude.{None, IfOk, IfErr, OnOk};
+ghost use Rattle.std.specs.FinMap as map;
 ghost use Rattle.std.specs.Option.{option_copied};
 ghost use Rattle.fab_row_lists.specs.Paths.{HasFewPaths, PathsFail};
+ghost use Rattle.fab_store_base.specs.PlanRows.{ArePlans};
+ghost use Rattle.fab_world.specs.Soundness.{IsSound};
 ghost use Rattle.fab_world.specs.Worlds.{records_of};
 ghost use Rattle.fab_changes.specs.Tables.{AreRows, AreParts};
 
@@ -55,6 +58,8 @@ pub fn tables_from<'a, A: Allocator + Copy>(
 /// `TooMany` where the world has more paths than there may be, and only there; `Memory`.
 pub fn rows_of<A: Allocator + Copy>(alloc: A, world: &World<A>) -> Result<TableRows<A>, PathsFault>
     ensures ok { IfOk result (AreRows None world.now) }
+    // In a sound world each plan has its row, and the order is told by the positions.
+    ensures plans { IfOk result (λ rows. IsSound world.now → ArePlans rows.plans.items rows.approvals.items rows.undo.items (map.get world.now.plans) world.now.order) }
     ensures few { OnOk result (HasFewPaths (records_of world.now)) }
     ensures err { IfErr result (PathsFail (records_of world.now)) }
 {
