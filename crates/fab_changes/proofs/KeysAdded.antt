@@ -1,9 +1,8 @@
 -- Keys of rows, as they are gathered.
-use Rattle.std.proofs.Common.{◌≡◌, ◌↔◌, ◌<◌, ℕ, List, [], ◌∷◌, length, map, Contains, Bool, true, false, IsTrue, inl, inr, refl, sym, ap, ◌∙◌, subst, arith}
+use Rattle.std.proofs.Common.{◌≡◌, ◌↔◌, ℕ, List, [], Contains, Bool, true, false, refl, sym, ap, subst}
 use Rattle.std.specs.Ordering.{nat_cmp, bool_cmp, then_cmp, on}
 use Rattle.std.specs.Cmp.{IsTotalOrder, bool_cmp_total, nat_cmp_total, then_total, on_total}
-use Rattle.std.specs.declared.cmp.Ordering.TheVariants.{Equal}
-use Rattle.std.specs.BTreeSet.{BTreeSet, contains}
+use Rattle.std.specs.BTreeSet.{BTreeSet}
 use Rattle.std.specs.FinSet as set
 use Rattle.std.proofs.lemmas.Map.Lookups.{exact_pairs}
 use Rattle.std.proofs.lemmas.Map.Views.{btree_set_contains_iff}
@@ -18,7 +17,7 @@ use Rattle.fab_rows.specs.declared.record_row.Sign.TheVariants.{Taken, Added}
 use Rattle.fab_rows.specs.RowOrder.{row_cmp}
 use Rattle.fab_rows.proofs.OrderOfRows.{row_total, row_exact}
 use Rattle.fab_rows.proofs.RowLists.{Without}
-use Rattle.fab_changes.specs.Keys.{ApprovalKey, approval_cmp, UndoKey, undo_cmp, is_added, sign_of, HasRow, HasUndo, IsOnlyIn, IsKeyOf}
+use Rattle.fab_changes.specs.Keys.{ApprovalKey, approval_cmp, UndoKey, undo_cmp, is_added, sign_of, HasRow, IsOnlyIn, IsKeyOf}
 
 pub approval_total : IsTotalOrder approval_cmp
 approval_total = then_total (on_total (λ (e : ApprovalKey). e.0) name_total) (on_total (λ (e : ApprovalKey). e.1) (then_total (on_total (λ (e : List ℕ × ℕ). e.0) name_total) (on_total (λ (e : List ℕ × ℕ). e.1) nat_cmp_total)))

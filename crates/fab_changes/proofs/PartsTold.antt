@@ -1,29 +1,24 @@
 -- Tables of worlds: counts, inventories, configurations and paths.
-use Rattle.std.proofs.Common.{◌≡◌, ◌<◌, ℕ, List, [], ◌∷◌, length, Contains, Option, None, Some, Bool, true, false, cond, nat_eq, inl, inr, refl, sym, ap, ◌∙◌, subst, arith}
+use Rattle.std.proofs.Common.{◌≡◌, ℕ, List, [], ◌∷◌, Contains, None, Some, Bool, true, false, cond, nat_eq, inl, inr, refl, sym, ap, ◌∙◌, subst, arith}
 use mathlib.Core.Bool.{true≢false}
-use Rattle.std.specs.declared.cmp.Ordering.{Ordering}
 use Rattle.std.specs.List.Sorted.{IsStrictlySortedBy}
 use Rattle.std.proofs.lemmas.Bool.Decides.{nat_tests}
-use Rattle.fab_inventory.specs.declared.port.Port.{Port}
 use Rattle.fab_inventory.specs.Inventories.{InventoryRows}
 use Rattle.fab_maps.specs.Lists.{IsListOf}
 use Rattle.fab_maps.proofs.Filters.{list_as}
-use Rattle.fab_reach.specs.Records.{ConfigRows, Records}
+use Rattle.fab_reach.specs.Records.{ConfigRows}
 use Rattle.fab_rows.specs.Differences.{StandsOnlyIn}
 use Rattle.fab_rows.specs.RowOrder.{row_order}
 use Rattle.fab_rows.specs.Standing.{IsKnown, Stands}
-use Rattle.fab_rows.specs.declared.config_row.ConfigRow.{ConfigRow}
-use Rattle.fab_rows.specs.declared.inventory_row.InventoryRow.{InventoryRow}
 use Rattle.fab_rows.specs.declared.inventory_row.InventoryRow.TheVariants as row
 use Rattle.fab_rows.specs.declared.table_rows.CountRow.{CountRow}
 use Rattle.fab_rows.specs.declared.table_rows.CountRow.TheVariants.{Schema, Revision}
 use Rattle.fab_rows.specs.declared.table_rows.TheConstants.{SCHEMA}
 use Rattle.fab_row_lists.specs.Inventories.{AreListsOf, IsKnownOnlyIn}
 use Rattle.fab_row_lists.specs.Paths.{IsPathRow, IsPathRowOnlyIn, path_row_order}
-use Rattle.fab_row_lists.specs.declared.inventories.InventoryLists.{InventoryLists}
 use Rattle.fab_world.specs.Worlds.{WorldRows, records_of}
 use Rattle.fab_changes.specs.Standing.{Lacking}
-use Rattle.fab_changes.specs.Tables.{IsCountRow, count_order, IsConfigRow, IsRowOfPath, AreParts}
+use Rattle.fab_changes.specs.Tables.{IsCountRow, count_order, AreParts}
 use Rattle.fab_changes.specs.declared.parts.Parts.{Parts}
 use Rattle.fab_changes.proofs.Picked.{first_or_later}
 

@@ -13,7 +13,6 @@ use Rattle.std.specs.Map.{keys_of}
 use Rattle.std.proofs.lemmas.Bool.Decides.{nat_tests}
 use Rattle.std.proofs.lemmas.Map.Keys.{IsDistinct-from_sorted}
 use Rattle.std.proofs.lemmas.Map.Views.{Contains-from_lookup, lookup-from_Contains}
-use Rattle.fab_maps.specs.Firsts.{HasAt}
 use Rattle.fab_maps.specs.Lists.{IsListOf}
 use Rattle.fab_maps.proofs.SeenMaps.{looked_up}
 use Rattle.fab_names.specs.Orders.{name_cmp}
@@ -24,7 +23,7 @@ use Rattle.fab_rows.proofs.RowsGathered.{adds_both}
 use Rattle.fab_rows.specs.declared.config_row.ConfigRow.{ConfigRow}
 use Rattle.fab_rows.specs.declared.record_row.ApprovalRow.{ApprovalRow}
 use Rattle.fab_rows.specs.declared.record_row.UndoRow.{UndoRow}
-use Rattle.fab_store_base.specs.PlanRows.{IsApprovalOf, IsChanged}
+use Rattle.fab_store_base.specs.PlanRows.{IsChanged}
 use Rattle.fab_world.specs.PlanRecords.{Standing, staged, active, rolled_back, withdrawn, PlanRecord}
 use Rattle.fab_changes.specs.Keys.{ApprovalKey, approval_of, approval_key, approval_cmp, approval_order, HasApproval, UndoKey, undo_of, undo_key, undo_cmp, undo_order, sign_of, HasUndo, IsOnlyIn, IsKeyOf}
 use Rattle.fab_changes.specs.Kept.{PlanTree, plan_in, IsApprovalIn, IsApproved, IsNewApproval, IsGivenKey, IsApprovalKey, IsApprovalOfSome, IsUndoIn, changed_in, changed_of, IsUndoKey, IsUndoOfSome}

@@ -1,10 +1,9 @@
 -- The rows of plans at their positions, as they are listed plan by plan.
-use Rattle.std.proofs.Common.{◌≡◌, ◌↔◌, ℕ, List, [], ◌∷◌, ◌++◌, Contains, Option, None, Some, inl, inr, refl, sym, ap, ◌∙◌, subst, arith}
-use Rattle.std.specs.BTreeMap.{IsOrdered, get}
+use Rattle.std.proofs.Common.{◌≡◌, ℕ, List, [], ◌∷◌, ◌++◌, Contains, Option, None, Some, inl, inr, refl, sym, ap, ◌∙◌, subst, arith}
+use Rattle.std.specs.BTreeMap.{IsOrdered}
 use Rattle.std.specs.List.Sorted.{IsStrictlySortedBy}
 use Rattle.std.specs.Map.{keys_of}
 use Rattle.std.proofs.lemmas.List.Elements.{Contains-push_cases}
-use Rattle.fab_maps.specs.Firsts.{HasAt}
 use Rattle.fab_maps.specs.Lists.{IsListOf}
 use Rattle.fab_names.specs.Orders.{name_cmp}
 use Rattle.fab_names.proofs.OrderLaws.{name_total, name_exact}
@@ -17,7 +16,7 @@ use Rattle.fab_store_base.specs.PlanRows.{IsTextOf, IsRowOf}
 use Rattle.fab_world.specs.PlanRecords.{PlanRecord}
 use Rattle.fab_changes.specs.Keys.{plan_order}
 use Rattle.fab_changes.specs.Standing.{Misses, Lacking}
-use Rattle.fab_changes.specs.Placed.{position_in, IsPlacedRow, HaveOneRow, plan_row, Differs, IsOwnRow, IsListed, HaveTexts, Pushes}
+use Rattle.fab_changes.specs.Placed.{position_in, IsPlacedRow, plan_row, Differs, IsOwnRow, IsListed, HaveTexts, Pushes}
 use Rattle.fab_changes.specs.declared.placed.PlacedPlans.{PlacedPlans}
 use Rattle.fab_changes.proofs.Picked.{Picked, picked_more, picked_skip}
 use Rattle.fab_changes.proofs.PlansKept.{entry_of}

@@ -1,5 +1,5 @@
 -- The rows of the plans of a sound world are those that its plans are told by.
-use Rattle.std.proofs.Common.{◌≡◌, ◌<◌, ◌≤◌, ℕ, ◌⊎◌, List, length, get_or, slice_get, Contains, All, Option, None, Some, is_some, Bool, true, false, inl, inr, refl, sym, ap, ◌∙◌, subst, arith}
+use Rattle.std.proofs.Common.{◌≡◌, ◌<◌, ℕ, List, get_or, slice_get, Contains, Option, None, Some, is_some, Bool, true, false, inl, inr, refl, sym, ap, ◌∙◌, subst, arith}
 use mathlib.Core.Bool.{true≢false}
 use Rattle.std.specs.declared.cmp.Ordering.TheVariants.{Less, Equal}
 use Rattle.std.specs.Cmp.{tied_itself}
@@ -7,8 +7,7 @@ use Rattle.std.specs.FinMap as map
 use Rattle.std.proofs.lemmas.Bool.{cases_lt}
 use Rattle.std.proofs.lemmas.List.Elements.{All-contains_itself, All-weaker}
 use Rattle.std.proofs.lemmas.Map.Keys.{Less-from_sorted}
-use Rattle.std.proofs.lemmas.Option.{slice_get_within, get_or_from_slice_get, same_Some}
-use Rattle.fab_maps.specs.Firsts.{HasAt}
+use Rattle.std.proofs.lemmas.Option.{slice_get_within, get_or_from_slice_get}
 use Rattle.fab_maps.specs.Lists.{IsListOf}
 use Rattle.fab_names.specs.Orders.{name_cmp}
 use Rattle.fab_names.proofs.OrderLaws.{name_total}
@@ -20,14 +19,14 @@ use Rattle.fab_store_base.specs.Orders as orders
 use Rattle.fab_store_base.specs.Orders.{numbered, IsOrderOf, IsPlaced}
 use Rattle.fab_store_base.specs.PlanRows.{IsRowOf, HaveNames, ArePlanRows, ArePlans}
 use Rattle.fab_world.specs.PlanRecords.{Standing, staged, active, rolled_back, withdrawn, PlanRecord}
-use Rattle.fab_world.specs.Plans.{Change, state_of, undo_of, IsActive}
+use Rattle.fab_world.specs.Plans.{state_of, undo_of}
 use Rattle.fab_world.specs.Soundness.{IsSound}
 use Rattle.fab_world.specs.Worlds.{WorldRows}
 use Rattle.fab_changes.specs.Keys.{plan_order, approval_order, undo_order}
 use Rattle.fab_changes.specs.Placed.{plan_row}
 use Rattle.fab_changes.specs.Positions.{IsPosition}
 use Rattle.fab_changes.specs.Standing.{IsPlanRow, IsApprovalRow, IsUndoRow, HaveRows, Lacking}
-use Rattle.fab_changes.proofs.PlacedNames.{one_place, placed_name, place_of}
+use Rattle.fab_changes.proofs.PlacedNames.{placed_name, place_of}
 
 -- a plan is active exactly where its state is so called
 active_state : (s : Standing) → is_some (undo_of s) ≡ true → state_of s ≡ state.Active

@@ -9,16 +9,13 @@ use Rattle.fab_maps.proofs.SeenMaps.{same_look_ups}
 use Rattle.fab_names.specs.Orders.{name_cmp}
 use Rattle.fab_names.proofs.OrderLaws.{name_total}
 use Rattle.fab_rows.specs.PlanEntries.{PlanEntry}
-use Rattle.fab_rows.specs.declared.record_row.ApprovalRow.{ApprovalRow}
-use Rattle.fab_rows.specs.declared.record_row.UndoRow.{UndoRow}
-use Rattle.fab_store_base.specs.PlanRows.{IsRowOf, IsApprovalOf, IsChanged}
+use Rattle.fab_store_base.specs.PlanRows.{IsRowOf}
 use Rattle.fab_world.specs.PlanRecords.{PlanRecord}
 use Rattle.fab_world.specs.Worlds.{WorldRows}
-use Rattle.fab_changes.specs.Keys.{plan_order, approval_order, undo_order}
-use Rattle.fab_changes.specs.Kept.{PlanTree, IsApprovalIn, IsUndoIn}
-use Rattle.fab_changes.specs.Placed.{position_in, Places, IsPlacedRow, IsPlacedLacking, HaveTexts, AllHaveTexts}
-use Rattle.fab_changes.specs.Positions.{ArePositions, IsOrder}
-use Rattle.fab_changes.specs.Standing.{IsPlanRow, IsApprovalRow, IsUndoRow, IsOrdered, AreOrdered, AllHaveRows, Misses, Lacking}
+use Rattle.fab_changes.specs.Keys.{plan_order}
+use Rattle.fab_changes.specs.Kept.{PlanTree}
+use Rattle.fab_changes.specs.Placed.{Places, IsPlacedRow, IsPlacedLacking, HaveTexts, AllHaveTexts}
+use Rattle.fab_changes.specs.Standing.{IsPlanRow, IsOrdered, AllHaveRows, Lacking}
 use Rattle.fab_changes.specs.declared.placed.PlacedPlans.{PlacedPlans}
 use Rattle.fab_changes.proofs.PlacedNames.{found_position, position_found}
 

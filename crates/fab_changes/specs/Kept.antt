@@ -1,5 +1,5 @@
 -- What plans that are kept by name say of rows, plan by plan: words of the private functions.
-use Rattle.std.specs.Prelude.{ℕ, ◌≡◌, List, [], Contains, Option, None, Some, Bool, true, false}
+use Rattle.std.specs.Prelude.{ℕ, ◌≡◌, List, [], Option, None, Some, Bool, true, false}
 use Rattle.std.specs.BTreeMap.{BTreeMap, get}
 use Rattle.std.specs.FinMap as map
 use Rattle.fab_maps.specs.Firsts.{HasAt}

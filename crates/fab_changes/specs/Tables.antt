@@ -1,5 +1,5 @@
 -- The rows of all tables that stand in a world, and those in which two worlds differ.
-use Rattle.std.specs.Prelude.{ℕ, ◌≡◌, Option, Some}
+use Rattle.std.specs.Prelude.{◌≡◌, Option, Some}
 use Rattle.std.specs.declared.cmp.Ordering.{Ordering}
 use Rattle.std.specs.declared.cmp.Ordering.TheVariants.{Less, Greater}
 use Rattle.std.specs.Ordering.{nat_cmp}

@@ -1,5 +1,5 @@
 -- A step is what its first word and its parts say.
-use Rattle.std.proofs.Common.{ℕ, ◌≡◌, ◌≤◌, ◌<◌, ◌+◌, List, [], length, take, get_or, refl, sym, ap, ◌∙◌}
+use Rattle.std.proofs.Common.{ℕ, ◌≡◌, List, refl, sym, ◌∙◌}
 use Rattle.fab_names.specs.declared.fabric.Fabric.TheVariants.{A}
 use Rattle.fab_names.specs.declared.member.Member.{Member}
 use Rattle.fab_steps.specs.Forms.{keyword_of}

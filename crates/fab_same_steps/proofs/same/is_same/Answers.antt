@@ -1,6 +1,6 @@
 use Rattle.std.proofs.Common.{◌≡◌, sym, ap, ◌∙◌, rules}
 use Rattle.fab_steps.specs.Forms.{keyword_of}
-use Rattle.fab_same_steps.specs.Parts.{singles_of, members_of, names_of}
+use Rattle.fab_same_steps.specs.Parts.{singles_of, names_of}
 use Rattle.fab_same_steps.proofs.Rebuilt.{same_step}
 use Rattle.fab_same_steps.proofs.same.is_same.Goals as goal
 
