@@ -22,6 +22,7 @@ CASES = [
     ("paths", 1024, 3, "all paths of so many hosts are listed, 64 each"),
     ("trial", 1024, 20, "the trial of a plan of 200 steps where there are so many storage groups of 16 nexuses each"),
     ("trial-paths", 1024, 10, "the same where so many hosts have 64 paths each"),
+    ("world-of", 256, 1, "the world of the rows of 16 times so many ports and volumes, 256 times so many units and paths"),
     ("host", 2048, 50, "a host is put where so many hosts hold a port each"),
     ("volume", 4096, 5000, "a volume is put where there are so many"),
     ("policy", 256, 5, "such a policy is read"),

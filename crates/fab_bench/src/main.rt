@@ -7,9 +7,11 @@
 mod clashes;
 mod holders;
 mod names;
+mod openings;
 mod paths;
 mod plans;
 mod policies;
+mod sites;
 mod timing;
 mod trials;
 mod zonings;
@@ -38,6 +40,7 @@ fn run<R: Clock + AllocGlobal>(rt: &R, case: &str, size: u64, turns: u64) -> Res
         "clash-wide" => timed(rt, turns, clashes::wide_groups(alloc, size)),
         "clash-many" => timed(rt, turns, clashes::many_groups(alloc, size)),
         "paths" => timed(rt, turns, paths::world_of_paths(alloc, size)),
+        "world-of" => timed(rt, turns, openings::rows_of_world(alloc, size)),
         "trial" => timed(rt, turns, trials::plan_on_groups(alloc, size)),
         "trial-paths" => timed(rt, turns, trials::plan_on_paths(alloc, size)),
         "host" => timed(rt, turns, holders::host_put(alloc, size)),

@@ -1,7 +1,8 @@
 //! The trial of a plan on a world with storage groups, or with paths.
 use crate::clashes::world_of_groups;
 use crate::holders::Stock;
-use crate::paths::{Reached, world_of_hosts};
+use crate::paths::world_of_hosts;
+use crate::sites::Reached;
 use crate::timing::Turn;
 use anyhow::{Result, bail};
 use fab_names::Fabric;
