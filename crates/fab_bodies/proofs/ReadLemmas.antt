@@ -1,5 +1,5 @@
 -- Items that spell world-wide names.
-use Rattle.std.proofs.Common.{◌≡◌, ℕ, zero, suc, ◌+◌, ◌<◌, ◌≤◌, List, [], ◌∷◌, ◌++◌, length, get_or, drop, refl, sym, ap, ◌∙◌, subst, append_assoc, add-one, arith}
+use Rattle.std.proofs.Common.{◌≡◌, ◌≢◌, ℕ, zero, suc, ◌+◌, ◌<◌, ◌≤◌, List, [], ◌∷◌, ◌++◌, length, get_or, drop, refl, sym, ap, ◌∙◌, subst, append_assoc, add-one, arith}
 use Rattle.std.specs.Prelude.{codes, Result, Ok, Err, IfErr, Some, None, slice_get, string_bytes, String, ◌-◌, option_and_then}
 use Rattle.std.proofs.Common.{Global}
 use Rattle.serde_json.specs.Data.{Data, unsigned, negative, float, null, boolean, number, string, array, object, Items, no_items, item, Members, no_members, member}
@@ -11,6 +11,9 @@ use Rattle.std.proofs.lemmas.Map.Text.{is_eq-slice_cmp}
 use Rattle.std.proofs.lemmas.Slice.Eq.{bytes_eq-Decides}
 use Rattle.fab_names.specs.Names.{IsNameText}
 use Rattle.fab_names.specs.WorldWideNames.{SpellsWwn}
+use Rattle.serde_json.specs.Read.{read}
+use Rattle.json.specs.Json as json
+use Rattle.json.specs.Lex as lex
 use Rattle.serde_json.specs.View.{view, items_view, members_view}
 use Rattle.serde_json.specs.declared.value.Value.{Value}
 use Rattle.fab_inventory.specs.Limits.{most_ports_of_holder}
@@ -281,3 +284,11 @@ no-holder text v d s has is none ps t h =
     let e : Some v ≡ Some (object (member (codes "ports") h.first (member (codes "tenant") h.second no_members))) = sym has.1 ∙ h.is.1 in
     let same : h.first ≡ d = cc in
     none ps (subst (λ (x : Data). ArePorts x ps) same h.are_ports)
+
+-- no value is read of the empty text
+empty-none : read [] ≡ None
+unfolding json.value lex.lex lex.punctuate
+empty-none = refl
+
+pub not-empty : (text : List ℕ) (v : Data) → HasValue text v → text ≢ []
+not-empty text v h e = let k : None ≡ Some v = sym empty-none ∙ subst (λ (t : List ℕ). read t ≡ Some v) e h.1 in cc

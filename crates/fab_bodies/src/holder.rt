@@ -1,6 +1,6 @@
 //! The body of a host or an array.
 
-ghost use Rattle.std.specs.Prelude.{ℕ, ◌≡◌, List, MatchOption, IfOk, IfErr};
+ghost use Rattle.std.specs.Prelude.{ℕ, ◌≡◌, ◌≢◌, [], List, MatchOption, IfOk, IfErr};
 ghost use Rattle.serde_json.specs.Data.{Data, object, member, no_members};
 ghost use Rattle.serde_json.specs.View.{view, items_view};
 ghost use Rattle.fab_bodies.specs.Values.{SpellsPorts, ArePorts};
@@ -36,6 +36,7 @@ pub fn read_holder<A: Allocator>(
 ) -> Result<HolderBody<A>, BodyFault>
     ensures ok { IfOk result (λ body. SpellsHolder text.now body.ports.items body.tenant) }
     ensures err { IfErr result (IsFault (SpellsNoHolder text.now)) }
+    ensures empty { IfErr result (λ fault. fault ≡ BodyFault.Memory → text.now ≢ []) }
 {
     let value = match value_of(global, text) {
         Ok(value) => value,

@@ -1,6 +1,6 @@
 //! The values that bodies are made of.
 
-ghost use Rattle.std.specs.Prelude.{ℕ, ◌≡◌, List, Some, MatchOption, IfOk, IfErr, IsTrue, IsUtf8, ◌↔◌, string_bytes};
+ghost use Rattle.std.specs.Prelude.{ℕ, ◌≡◌, ◌≢◌, [], List, Some, MatchOption, IfOk, IfErr, IsTrue, IsUtf8, ◌↔◌, string_bytes};
 ghost use Rattle.serde_json.specs.Read.{read};
 ghost use Rattle.serde_json.specs.View.{view};
 ghost use Rattle.fab_bodies.specs.Values.{IsCapacity, IsName, IsPort};
@@ -19,6 +19,7 @@ use std::alloc::Global;
 pub fn value_of(global: Global, text: &[u8]) -> Result<Value, BodyFault>
     ensures ok { IfOk result (λ value. HasValue text.now (view value)) }
     ensures err { IfErr result (IsFault (HasNoValue text.now)) }
+    ensures empty { IfErr result (λ fault. fault ≡ BodyFault.Memory → text.now ≢ []) }
 {
     match Value::from_slice(global, text) {
         Ok(value) => Ok(value),

@@ -1,6 +1,6 @@
 //! The body of a volume.
 
-ghost use Rattle.std.specs.Prelude.{ℕ, ◌≡◌, MatchOption, codes, IfOk, IfErr};
+ghost use Rattle.std.specs.Prelude.{ℕ, ◌≡◌, ◌≢◌, [], MatchOption, codes, IfOk, IfErr};
 ghost use Rattle.serde_json.specs.Data.{Data, object, member, no_members};
 ghost use Rattle.serde_json.specs.View.{view};
 ghost use Rattle.fab_bodies.specs.Bodies.{SpellsVolume, SpellsNoVolume, IsFault};
@@ -22,6 +22,7 @@ use std::alloc::Global;
 pub fn read_volume(global: Global, text: &[u8]) -> Result<Volume, BodyFault>
     ensures ok { IfOk result (SpellsVolume text.now) }
     ensures err { IfErr result (IsFault (SpellsNoVolume text.now)) }
+    ensures empty { IfErr result (λ fault. fault ≡ BodyFault.Memory → text.now ≢ []) }
 {
     let value = match value_of(global, text) {
         Ok(value) => value,
