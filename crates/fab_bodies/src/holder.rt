@@ -7,7 +7,7 @@ ghost use Rattle.fab_bodies.specs.Values.{SpellsPorts, ArePorts};
 ghost use Rattle.fab_bodies.specs.Bodies.{SpellsHolder, SpellsNoHolder, IsFault};
 
 use crate::fault::BodyFault;
-use crate::values::{is_key, name_in, port_in, value_of};
+use crate::values::{has_keys, is_key, name_in, port_in, value_of};
 use fab_inventory::MOST_PORTS_OF_HOLDER;
 use fab_names::{Name, Wwn};
 use serde_json::Value;
@@ -63,7 +63,7 @@ fn two_members<'v>(value: &'v Value, first: &str, second: &str) -> Option<(&'v V
     let Some(map) = value.as_object() else {
         return None;
     };
-    if map.len() != 2 {
+    if !has_keys(map, 2) {
         return None;
     }
     let Some((one, a)) = map.first_key_value() else {

@@ -1,7 +1,6 @@
 //! The values that bodies are made of.
 
-ghost use Rattle.std.specs.Prelude.{ℕ, ◌≡◌, ◌≢◌, [], List, Some, MatchOption, IfOk, IfErr, IsTrue, IsUtf8, ◌↔◌, string_bytes};
-ghost use Rattle.serde_json.specs.Read.{read};
+ghost use Rattle.std.specs.Prelude.{ℕ, ◌≡◌, ◌≢◌, [], List, length, MatchOption, IfOk, IfErr, IsTrue, ◌↔◌, string_bytes};
 ghost use Rattle.serde_json.specs.View.{view};
 ghost use Rattle.fab_bodies.specs.Values.{IsCapacity, IsName, IsPort};
 ghost use Rattle.fab_bodies.specs.Bodies.{HasValue, HasNoValue, IsFault};
@@ -9,7 +8,7 @@ ghost use Rattle.fab_bodies.specs.Bodies.{HasValue, HasNoValue, IsFault};
 use crate::fault::BodyFault;
 use fab_inventory::MOST_BYTES;
 use fab_names::{Name, Wwn};
-use serde_json::Value;
+use serde_json::{Map, Value};
 use std::alloc::Global;
 
 /// The value that a text is.
@@ -31,6 +30,13 @@ pub fn value_of(global: Global, text: &[u8]) -> Result<Value, BodyFault>
             }
         }
     }
+}
+
+/// Whether a map has so many keys.
+pub fn has_keys(map: &Map<String, Value>, count: usize) -> bool
+    ensures { IsTrue result ↔ (length map.now.entries ≡ count) }
+{
+    map.len() == count
 }
 
 /// Whether a key is this text.

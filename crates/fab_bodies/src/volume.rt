@@ -6,7 +6,7 @@ ghost use Rattle.serde_json.specs.View.{view};
 ghost use Rattle.fab_bodies.specs.Bodies.{SpellsVolume, SpellsNoVolume, IsFault};
 
 use crate::fault::BodyFault;
-use crate::values::{capacity_in, is_key, name_in, value_of};
+use crate::values::{capacity_in, has_keys, is_key, name_in, value_of};
 use fab_inventory::Volume;
 use serde_json::Value;
 use std::alloc::Global;
@@ -56,7 +56,7 @@ fn volume_members(value: &Value) -> Option<(&Value, &Value, &Value)>
     let Some(map) = value.as_object() else {
         return None;
     };
-    if map.len() != 3 {
+    if !has_keys(map, 3) {
         return None;
     }
     let Some((one, a)) = map.first_key_value() else {
