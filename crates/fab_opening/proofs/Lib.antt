@@ -1,2 +1,3 @@
 pub mod OneWorld
 pub mod WorldMade
+pub mod RowsBack
