@@ -1,4 +1,4 @@
--- Items that spell world-wide names.
+-- What values spell, and which members an object has.
 use Rattle.std.proofs.Common.{◌≡◌, ◌≢◌, ℕ, zero, suc, ◌+◌, ◌<◌, ◌≤◌, List, [], ◌∷◌, ◌++◌, length, get_or, drop, refl, sym, ap, ◌∙◌, subst, append_assoc, add-one, arith}
 use Rattle.std.specs.Prelude.{codes, Result, Ok, Err, IfErr, Some, None, slice_get, string_bytes, String, ◌-◌, option_and_then}
 use Rattle.std.proofs.Common.{Global}

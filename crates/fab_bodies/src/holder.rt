@@ -23,12 +23,15 @@ pub struct HolderBody<A: Allocator> {
 }
 
 /// Reads the body of a host or an array: `{"ports":[..],"tenant":..}`, an object with just these
-/// keys, whose ports are at most 64 texts of world-wide names and whose tenant is a name.
+/// keys, whose ports are at most 64 texts of world-wide names, equal ones counted, and whose tenant
+/// is a name.
 ///
-/// `alloc` is for the ports, and `global` for what `serde_json` makes on the way.
+/// `alloc` is for the ports, and `global` for what `serde_json` makes on the way, of which nothing
+/// is left.
 ///
 /// # Errors
-/// `Bad` where the text spells no such body, also where it is not UTF-8 or no JSON; `Memory`.
+/// `Bad` where the text spells no such body, also where it is not UTF-8 or no JSON. `Memory` where
+/// there was none, and never for an empty text. No port is left of what was read.
 pub fn read_holder<A: Allocator>(
     alloc: A,
     global: Global,

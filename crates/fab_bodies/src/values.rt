@@ -14,7 +14,7 @@ use std::alloc::Global;
 /// The value that a text is.
 ///
 /// # Errors
-/// `Bad` where it is none, or `Memory`.
+/// `Bad` where it is none, or `Memory`, and never that for an empty text.
 pub fn value_of(global: Global, text: &[u8]) -> Result<Value, BodyFault>
     ensures ok { IfOk result (λ value. HasValue text.now (view value)) }
     ensures err { IfErr result (IsFault (HasNoValue text.now)) }

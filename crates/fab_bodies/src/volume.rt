@@ -15,10 +15,12 @@ use std::alloc::Global;
 /// keys, whose array and tenant are names, and whose bytes are a number from 1 to
 /// 9223372036854775807 that is written whole, without a fraction or an exponent.
 ///
-/// `global` is for what `serde_json` makes on the way. The volume itself takes no memory.
+/// `global` is for what `serde_json` makes on the way, of which nothing is left. The volume itself
+/// takes no memory.
 ///
 /// # Errors
-/// `Bad` where the text spells no such body, also where it is not UTF-8 or no JSON; `Memory`.
+/// `Bad` where the text spells no such body, also where it is not UTF-8 or no JSON. `Memory` where
+/// there was none, and never for an empty text.
 pub fn read_volume(global: Global, text: &[u8]) -> Result<Volume, BodyFault>
     ensures ok { IfOk result (SpellsVolume text.now) }
     ensures err { IfErr result (IsFault (SpellsNoVolume text.now)) }
