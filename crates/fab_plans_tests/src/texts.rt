@@ -1,4 +1,4 @@
-//! The plan texts of the worked rows.
+//! The texts of the worked plans.
 
 /// The first host gets the first volume: a zone by an alias, and an exposed storage group.
 pub const FIRST: &str = "alias.put A disk wwpn=50:00:00:00:00:00:00:01
