@@ -1,0 +1,2 @@
+pub mod TenantSets
+pub mod UsersFound

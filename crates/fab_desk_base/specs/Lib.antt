@@ -1,0 +1,10 @@
+pub mod Commands
+pub mod Tenants
+pub mod Users
+pub mod UserSearch
+pub mod Effects
+pub mod Refusals
+pub mod Touching
+pub mod Acts
+pub mod Showing
+pub mod Answers

@@ -1,0 +1,97 @@
+//! What a caller asks of the desk.
+
+use fab_inventory::{HolderKind, PortRow, Volume};
+use fab_names::{Fabric, Name, Wwn};
+use fab_steps::Step;
+use std::alloc::Allocator;
+
+/// A command: a change of the world, a dry run of one, or a read.
+///
+/// The first three changes have values that a body gives. A body gives at most 64 ports (equal
+/// ones counted), a capacity of 1 to 9223372036854775807 bytes, and 1 to 200 steps whose printed
+/// form has at most 65536 bytes; a command with other values is answered as a bad body.
+#[derive(Drop)]
+pub enum Command<A: Allocator + Copy> {
+    /// Takes over the whole list of the ports that are logged in at a fabric.
+    Import {
+        fabric: Fabric,
+        rows: Vec<PortRow, A>,
+    },
+    /// Makes or replaces a host or an array, with just these ports.
+    PutHolder {
+        kind: HolderKind,
+        name: Name,
+        tenant: Name,
+        ports: Vec<Wwn, A>,
+    },
+    /// Makes or replaces a volume.
+    PutVolume {
+        name: Name,
+        volume: Volume,
+    },
+    /// Drops a host or an array.
+    DropHolder {
+        kind: HolderKind,
+        name: Name,
+    },
+    /// Drops a volume.
+    DropVolume {
+        name: Name,
+    },
+    /// Stages a plan of these steps, with the caller as its author.
+    Stage {
+        plan: Name,
+        steps: Vec<Step<A>, A>,
+    },
+    /// Withdraws a staged plan.
+    Withdraw {
+        plan: Name,
+    },
+    /// Approves a staged plan at the present revision.
+    Approve {
+        plan: Name,
+    },
+    /// Tells what the activation of the plan would gain and lose now, and changes nothing.
+    DryRun {
+        plan: Name,
+    },
+    /// Carries out the steps of a staged plan, whole or not at all.
+    Activate {
+        plan: Name,
+    },
+    /// Puts back the configuration from before the activation of the plan.
+    Rollback {
+        plan: Name,
+    },
+    /// Shows something.
+    Show(Query),
+}
+
+/// What a read asks for. A read meets no rule of the policy and changes nothing.
+#[derive(Clone, Copy, Debug, PartialEq, Eq, Drop)]
+pub enum Query {
+    /// The paths whose initiator the host holds.
+    Paths { host: Name },
+    /// Whether two ports may communicate, and why.
+    Joined { port: Wwn, other: Wwn },
+    /// A port: its node, and where it is logged in.
+    Port { name: Wwn },
+    /// A host or an array, with its ports.
+    Holder { kind: HolderKind, name: Name },
+    /// A volume.
+    Volume { name: Name },
+    /// A host group, with its hosts.
+    HostGroup { name: Name },
+    /// A storage group, with its parts.
+    Group { name: Name },
+    /// A plan, with its approvals and its text.
+    Plan { name: Name },
+    /// An alias, with its members.
+    Alias { fabric: Fabric, name: Name },
+    /// A zone, with its members.
+    Zone { fabric: Fabric, name: Name },
+    /// A zone set, with its zones.
+    Set { fabric: Fabric, name: Name },
+    /// What is active in a fabric, and what its default zone permits.
+    Active { fabric: Fabric },
+}

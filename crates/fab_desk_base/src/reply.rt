@@ -1,0 +1,141 @@
+//! What the desk answers.
+
+use crate::DeskFault;
+use fab_inventory::{HolderKind, Volume};
+use fab_names::{Fabric, Member, Name, Place, Wwn};
+use fab_policy::Approval;
+use fab_reach::{Delta, Path};
+use fab_rows::PlanState;
+use fab_zoning::DefaultFlag;
+use std::alloc::Allocator;
+
+/// What the desk answers to a command.
+#[derive(Drop)]
+pub enum Reply<A: Allocator + Copy> {
+    /// An import, a put or a drop was done: the revision after it.
+    Changed {
+        revision: u64,
+    },
+    /// The plan is staged, with so many steps, 1 to 200.
+    Staged {
+        plan: Name,
+        steps: usize,
+    },
+    /// The plan is withdrawn.
+    Withdrawn {
+        plan: Name,
+    },
+    /// The plan has approvals of so many callers; the present revision.
+    Approved {
+        plan: Name,
+        approvals: usize,
+        revision: u64,
+    },
+    /// What the activation of the plan would gain and lose.
+    Tried {
+        plan: Name,
+        delta: Delta<A>,
+    },
+    /// What the activation or the rollback of the plan gained and lost, and the revision after it.
+    Reconfigured {
+        plan: Name,
+        delta: Delta<A>,
+        revision: u64,
+    },
+    /// What a read asked for.
+    Shown(Shown<A>),
+    /// The command was refused.
+    Refused(DeskFault),
+}
+
+/// Why two ports may communicate.
+#[derive(Clone, Copy, Debug, PartialEq, Eq, Drop)]
+pub enum Joint {
+    /// The first zone by name of the active set that has both.
+    Zone(Name),
+    /// The default zone has both, and permits it.
+    Default,
+}
+
+/// A zone of an active set, with its members in order, each once.
+#[derive(Drop)]
+pub struct ZoneMembers<A: Allocator + Copy> {
+    pub name: Name,
+    pub members: Vec<Member, A>,
+}
+
+/// What a read shows. Lists are in order and have each item once: names by their bytes,
+/// world-wide names and units as numbers, members by their kind and then by number or name.
+#[derive(Drop)]
+pub enum Shown<A: Allocator + Copy> {
+    /// The paths of a host.
+    Paths {
+        host: Name,
+        paths: Vec<Path, A>,
+    },
+    /// Why the two ports may communicate, or that they may not.
+    Joined(Option<Joint>),
+    /// A port, the Node_Name of its node, and where it is logged in, if anywhere.
+    Port {
+        name: Wwn,
+        node: Wwn,
+        at: Option<(Fabric, Place)>,
+    },
+    /// A host or an array, and the ports that it holds.
+    Holder {
+        kind: HolderKind,
+        name: Name,
+        tenant: Name,
+        ports: Vec<Wwn, A>,
+    },
+    /// A volume.
+    Volume {
+        name: Name,
+        volume: Volume,
+    },
+    /// A host group, and its hosts.
+    HostGroup {
+        name: Name,
+        tenant: Name,
+        hosts: Vec<Name, A>,
+    },
+    /// A storage group, its host groups, its targets, and its volumes by their logical unit
+    /// numbers.
+    Group {
+        name: Name,
+        tenant: Name,
+        array: Name,
+        exposed: bool,
+        host_groups: Vec<Name, A>,
+        targets: Vec<Wwn, A>,
+        units: Vec<(u16, Name), A>,
+    },
+    /// A plan, its approvals by the names of the callers, and the printed form of its steps.
+    Plan {
+        name: Name,
+        author: Name,
+        state: PlanState,
+        approvals: Vec<Approval, A>,
+        text: String<A>,
+    },
+    /// An alias or a zone, and its members.
+    Members {
+        fabric: Fabric,
+        name: Name,
+        members: Vec<Member, A>,
+    },
+    /// A zone set, and its zones.
+    Set {
+        fabric: Fabric,
+        name: Name,
+        zones: Vec<Name, A>,
+    },
+    /// The active set of a fabric, if there is one, what the default zone permits, and the zones
+    /// that are active, as they were when the set was activated.
+    Active {
+        fabric: Fabric,
+        active: Option<Name>,
+        flag: DefaultFlag,
+        zones: Vec<ZoneMembers<A>, A>,
+    },
+}
