@@ -1,5 +1,5 @@
 -- Sets of tenants that grow.
-use Rattle.std.proofs.Common.{◌≡◌, ℕ, List, [], Bool, true, cond, Some, ◌⊎◌, inl, inr, sym, ap, ◌∙◌}
+use Rattle.std.proofs.Common.{◌≡◌, ℕ, List, true, cond, Some, ◌⊎◌, inl, inr, sym, ap, ◌∙◌}
 use Rattle.std.specs.BTreeMap.{is_at}
 use Rattle.std.specs.BTreeSet.{BTreeSet, contains}
 use Rattle.std.specs.FinMap as map

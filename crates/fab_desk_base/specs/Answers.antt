@@ -1,7 +1,6 @@
 -- What is answered to whom, and which world follows.
 use Rattle.std.specs.Prelude.{ℕ, ◌≡◌, ◌⊎◌, List, [], ◌∷◌, length, slice_get, Some, true}
 use Rattle.std.specs.FinMap as map
-use Rattle.fab_inventory.specs.declared.holder.HolderKind.{HolderKind}
 use Rattle.fab_inventory.specs.Inventories.{kind_of}
 use Rattle.fab_policy.specs.declared.act.Need.{Need}
 use Rattle.fab_policy.specs.declared.act.Verdict.TheVariants.{Allowed, Denied}
@@ -17,7 +16,6 @@ use Rattle.fab_desk_base.specs.Refusals.{IsRefused, IsEffect}
 use Rattle.fab_desk_base.specs.Showing.{IsOpenTo, Shows}
 use Rattle.fab_desk_base.specs.declared.command.Command.{Command}
 use Rattle.fab_desk_base.specs.declared.command.Command.TheVariants as command
-use Rattle.fab_desk_base.specs.declared.command.Query.{Query}
 use Rattle.fab_desk_base.specs.declared.fault.DeskFault.{DeskFault}
 use Rattle.fab_desk_base.specs.declared.fault.DeskFault.TheVariants as fault
 use Rattle.fab_desk_base.specs.declared.reply.Reply.{Reply}

@@ -1,5 +1,5 @@
 -- What reads show, and to whom.
-use Rattle.std.specs.Prelude.{ℕ, ◌≡◌, List, [], ◌∷◌, All, Any, Contains, Option, None, Some, Bool, true, IsSome, string_bytes}
+use Rattle.std.specs.Prelude.{ℕ, ◌≡◌, List, [], ◌∷◌, All, Any, Option, None, Some, true, IsSome, string_bytes}
 use Rattle.std.specs.List.Sorted.{IsStrictlySortedBy}
 use Rattle.std.specs.Ordering.{nat_cmp}
 use Rattle.std.specs.FinMap as map
@@ -11,13 +11,11 @@ use Rattle.fab_names.specs.declared.fabric.Fabric.{Fabric}
 use Rattle.fab_names.specs.declared.member.Member.{Member}
 use Rattle.fab_inventory.specs.declared.holder.HolderKind.{HolderKind}
 use Rattle.fab_inventory.specs.declared.holder.HolderKind.TheVariants as kind
-use Rattle.fab_inventory.specs.declared.holder.Volume.{Volume}
 use Rattle.fab_inventory.specs.declared.port.Known.{Known}
 use Rattle.fab_inventory.specs.declared.port.Port.{Port}
 use Rattle.fab_inventory.specs.Holders.{Holds}
 use Rattle.fab_zoning.specs.Joins.{Joined, IsFirstZone, InDefaultZone}
 use Rattle.fab_zoning.specs.Rows.{Rows}
-use Rattle.fab_zoning.specs.Zonings.{FabricZoning}
 use Rattle.fab_mapping_base.specs.Groups.{HostGroupRows, StorageGroupRows}
 use Rattle.fab_reach.specs.Orders as paths
 use Rattle.fab_reach.specs.Reach.{IsPort, ReachesFrom}

@@ -1,5 +1,5 @@
 -- Whose things a command touches.
-use Rattle.std.specs.Prelude.{ℕ, ◌≡◌, ◌⊎◌, List, Contains, Some}
+use Rattle.std.specs.Prelude.{ℕ, ◌≡◌, ◌⊎◌, List, Contains}
 use Rattle.fab_inventory.specs.declared.holder.HolderKind.TheVariants as kind
 use Rattle.fab_reach.specs.Books.{IsGained}
 use Rattle.fab_reach.specs.Records.{Records}
