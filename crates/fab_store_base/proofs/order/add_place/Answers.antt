@@ -1,4 +1,4 @@
-use Rattle.std.proofs.Common.{refl, sym, ap}
+use Rattle.std.proofs.Common.{sym, ap}
 use Rattle.fab_rows.specs.PlanEntries.{PlanEntry}
 use Rattle.fab_store_base.proofs.Orders.{active_added}
 use Rattle.fab_store_base.proofs.order.add_place.Goals as goal

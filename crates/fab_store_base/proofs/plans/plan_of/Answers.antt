@@ -1,5 +1,4 @@
 use Rattle.std.proofs.Common.{List, MatchOption, sym, ap, ◌∙◌, subst}
-use Rattle.fab_rows.specs.PlanEntries.{PlanEntry}
 use Rattle.fab_steps.specs.Steps.{PlanStep}
 use Rattle.fab_world.specs.PlanRecords.{PlanRecord}
 use Rattle.fab_store_base.specs.Parts.{standing_in, IsMadeOf}
