@@ -5,19 +5,16 @@ use Rattle.std.specs.Option.{option_and_then, option_to_list}
 use Rattle.std.proofs.lemmas.List.Elements.{Contains-append_cases, Contains-push_cases}
 use Rattle.std.proofs.lemmas.List.Sorted.{IsPermutation-reverse, Contains-permutation}
 use Rattle.fab_maps.specs.Firsts.{HasAt}
-use Rattle.fab_names.specs.Orders.{name_cmp}
 use Rattle.fab_names.proofs.OrderLaws.{name_total, name_exact}
 use Rattle.fab_inventory.specs.Inventories.{InventoryRows}
 use Rattle.fab_inventory.specs.declared.port.Port.{Port}
-use Rattle.fab_load.specs.Configs.{AreConfigRows}
-use Rattle.fab_load.specs.Inventories.{AreAll, AreInventoryRows}
+use Rattle.fab_load.specs.Inventories.{AreInventoryRows}
 use Rattle.fab_row_lists.specs.Paths.{ArePathRows}
 use Rattle.fab_plans_base.proofs.Unique.{one_plan}
 use Rattle.fab_reach.specs.Records.{ConfigRows}
 use Rattle.fab_reach.specs.Soundness.{HasSoundZonings}
 use Rattle.fab_rows.proofs.Determined.{one_list, one_config, one_inventory}
 use Rattle.fab_rows.specs.PlanEntries.{PlanEntry}
-use Rattle.fab_rows.specs.RowOrder.{row_order}
 use Rattle.fab_rows.specs.Standing.{IsKnown}
 use Rattle.fab_rows.specs.declared.config_row.ConfigRow.{ConfigRow}
 use Rattle.fab_rows.specs.declared.inventory_row.InventoryRow.{InventoryRow}

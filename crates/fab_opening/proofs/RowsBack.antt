@@ -1,5 +1,5 @@
 -- The rows that stand in a world are its rows.
-use Rattle.std.proofs.Common.{◌≡◌, List}
+use Rattle.std.proofs.Common.{List}
 use Rattle.std.specs.declared.cmp.Ordering.{Ordering}
 use Rattle.std.specs.Prelude.{None}
 use Rattle.std.specs.FinMap as map

@@ -24,7 +24,6 @@ use Rattle.fab_rows.specs.declared.table_rows.CountRow.{CountRow}
 use Rattle.fab_rows.specs.declared.table_rows.TableRows.{TableRows}
 use Rattle.fab_store_base.specs.PlanRows.{ArePlans, ListInOrder}
 use Rattle.fab_world.specs.PlanRecords.{PlanRecord}
-use Rattle.fab_world.specs.Worlds.{WorldRows}
 use Rattle.fab_opening.specs.Tables.{IsCount, IsMadeOfTables, HasNoWorld}
 
 -- of equal lists the same is true
