@@ -113,7 +113,7 @@ undone_are now taken added s t u x none a w b r =
 
 -- ---- a row stands, or it does not
 
-abbrev Decided : Type 0 → Type 0
+abbrev pub Decided : Type 0 → Type 0
 Decided P = P ⊎ (P → ⊥)
 
 bool_decided : (b : Bool) → Decided (b ≡ true)
@@ -170,7 +170,7 @@ setting_decided : (c : ConfigRows) (r : SettingRow) → Decided (IsSetting c r)
 setting_decided c (ActiveSet f n) = options_decided (zoning_at c f).active n
 setting_decided c (DefaultZone f p) = bools_decided (permits (zoning_at c f).flag) p
 
-stands_decided : (c : ConfigRows) (r : ConfigRow) → Decided (Stands c r)
+pub stands_decided : (c : ConfigRows) (r : ConfigRow) → Decided (Stands c r)
 stands_decided c (config.Setting r) = setting_decided c r
 stands_decided c (config.Zoning r) = item_decided (zoning_at c r.fabric) r.item
 stands_decided c (config.Active r) = bool_decided (set.contains (zoning_at c r.fabric).rows (r.zone, r.member))

@@ -14,4 +14,5 @@ pub use any_plan::{AnyPlan, KeptPlan};
 pub use history::{earlier, has_sound_history};
 pub use kept::is_active_at;
 pub use limits::{MOST_CHANGES, MOST_PLANS};
+pub use present::has_few_paths;
 pub use world::World;

@@ -50,8 +50,12 @@ fn is_sound_alone<A: Allocator + Copy>(config: &Config<A>) -> Result<bool, Alloc
     Ok(clash.is_none())
 }
 
-/// Whether there are no more paths than there may be.
-fn has_few_paths<A: Allocator + Copy>(
+/// Whether there are no more paths than there may be. It takes memory for the paths, at most one
+/// pair's past the limit.
+///
+/// # Errors
+/// `AllocError` where there is no memory.
+pub fn has_few_paths<A: Allocator + Copy>(
     alloc: A,
     inventory: &Inventory<A>,
     config: &Config<A>,
