@@ -1,2 +1,1 @@
-pub mod TenantSets
 pub mod UsersFound

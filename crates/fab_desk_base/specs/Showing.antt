@@ -95,13 +95,13 @@ ShowsVolume w n _ = ⊥
 
 -- the host group
 abbrev pub ShowsHostGroup : {A : Type 0} → WorldRows → List ℕ → Shown A → Type 0
-ShowsHostGroup w n (shown.HostGroup name t hosts) = (g : HostGroupRows) × (map.get w.config.mapping.host_groups n ≡ Some g) × (name ≡ n) × (t ≡ g.tenant) × (hosts.items ≡ set.items g.hosts)
+ShowsHostGroup w n (shown.HostGroup name t hosts) = (g : HostGroupRows) × (map.get w.config.mapping.host_groups n ≡ Some g) × (name ≡ n) × (t ≡ g.tenant) × IsListOf name_cmp (λ h. set.contains g.hosts h ≡ true) hosts.items
 ShowsHostGroup w n _ = ⊥
 
 -- the parts that a storage group has
 pub record AreParts (g : StorageGroupRows) (host_groups : List (List ℕ)) (targets : List ℕ) (units : List (ℕ × List ℕ)) : Type 0 where
-  pub host_groups_are : host_groups ≡ set.items g.host_groups
-  pub targets_are : targets ≡ set.items g.targets
+  pub host_groups_are : IsListOf name_cmp (λ h. set.contains g.host_groups h ≡ true) host_groups
+  pub targets_are : IsListOf nat_cmp (λ t. set.contains g.targets t ≡ true) targets
   pub units_are : units ≡ map.entries g.units
 
 -- the storage group
@@ -123,12 +123,12 @@ ShowsPlan w n _ = ⊥
 
 -- the alias or the zone, of these of the fabric
 abbrev pub ShowsMembers : {A : Type 0} → MapOfSets name_cmp member_cmp → Fabric → List ℕ → Shown A → Type 0
-ShowsMembers m f n (shown.Members fabric name members) = (s : set.FinSet member_cmp) × (map.get m n ≡ Some s) × (fabric ≡ f) × (name ≡ n) × (members.items ≡ set.items s)
+ShowsMembers m f n (shown.Members fabric name members) = (s : set.FinSet member_cmp) × (map.get m n ≡ Some s) × (fabric ≡ f) × (name ≡ n) × IsListOf member_cmp (λ m. set.contains s m ≡ true) members.items
 ShowsMembers m f n _ = ⊥
 
 -- the zone set
 abbrev pub ShowsSet : {A : Type 0} → WorldRows → Fabric → List ℕ → Shown A → Type 0
-ShowsSet w f n (shown.Set fabric name zones) = (s : set.FinSet name_cmp) × (map.get (zoning_at w.config f).sets n ≡ Some s) × (fabric ≡ f) × (name ≡ n) × (zones.items ≡ set.items s)
+ShowsSet w f n (shown.Set fabric name zones) = (s : set.FinSet name_cmp) × (map.get (zoning_at w.config f).sets n ≡ Some s) × (fabric ≡ f) × (name ≡ n) × IsListOf name_cmp (λ z. set.contains s z ≡ true) zones.items
 ShowsSet w f n _ = ⊥
 
 -- some active row is of the zone

@@ -1,5 +1,5 @@
 -- Whose things are.
-use Rattle.std.specs.Prelude.{ℕ, ◌≡◌, ◌⊎◌, List, Contains, Some, IsTrue}
+use Rattle.std.specs.Prelude.{ℕ, ◌≡◌, ◌⊎◌, List, Some, IsTrue}
 use Rattle.std.specs.BTreeSet.{BTreeSet, contains}
 use Rattle.std.specs.FinMap as map
 use Rattle.fab_names.specs.Orders.{name_cmp}
@@ -12,7 +12,6 @@ use Rattle.fab_mapping.specs.Mappings.{MappingRows}
 use Rattle.fab_reach.specs.Records.{Records}
 use Rattle.fab_reach.specs.Reach.{IsInitiatorOf}
 use Rattle.fab_reach.specs.declared.path.Path.{Path}
-use Rattle.fab_rows.specs.declared.record_row.PathRow.{PathRow}
 
 -- something that has a tenant, by its name
 pub data Thing : Type 0 where
@@ -47,14 +46,6 @@ IsTenantOf w (storage_group n) t = IsGroupOf w.config.mapping n t
 -- the host of the path, or its volume, is the tenant's
 abbrev pub IsPathOf : Records → Path → List ℕ → Type 0
 IsPathOf w x t = ((h : List ℕ) × IsInitiatorOf w x.initiator h × IsHolderOf w.inventory kind.Host h t) ⊎ IsVolumeOf w.inventory x.volume t
-
--- the host of the row, or the volume of its path, is the tenant's
-abbrev pub IsRowOf : InventoryRows → PathRow → List ℕ → Type 0
-IsRowOf v r t = IsHolderOf v kind.Host r.host t ⊎ IsVolumeOf v r.path.volume t
-
--- the host or the volume of some row is the tenant's
-abbrev pub IsSomeRowOf : InventoryRows → List PathRow → List ℕ → Type 0
-IsSomeRowOf v rows t = (r : PathRow) × Contains rows r × IsRowOf v r t
 
 -- the set has the name
 abbrev pub Has : BTreeSet (List ℕ) → List ℕ → Type 0

@@ -7,11 +7,9 @@
 mod command;
 mod fault;
 mod reply;
-mod tenants;
 mod users;
 
 pub use command::{Command, Query};
 pub use fault::{DeskFault, DeskLimit};
 pub use reply::{Joint, Reply, Shown, ZoneMembers};
-pub use tenants::tenants_of_paths;
 pub use users::{holder_user, leaving_target, moved_volume_user, volume_user};

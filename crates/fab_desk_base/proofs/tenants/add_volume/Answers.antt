@@ -1,6 +1,0 @@
-use Rattle.std.proofs.Common.{sym}
-use Rattle.fab_desk_base.proofs.TenantSets.{volume_added}
-use Rattle.fab_desk_base.proofs.tenants.add_volume.Goals as goal
-
-pub returns : goal.returns
-returns g c = volume_added c.args.inventory.now c.args.volume.now c.in-Some.known c.args.tenants.now c.insert.new.self (sym c.in-Some.ensures.volume) c.in_ok-insert.ensures.updates.0
