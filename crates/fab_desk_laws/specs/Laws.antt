@@ -1,0 +1,53 @@
+-- Words of the laws of what the desk answers.
+use Rattle.std.specs.Prelude.{ℕ, ◌≡◌, ◌≤◌, ◌↔◌, List, Contains, None, IsSome, true}
+use Rattle.fab_policy_base.specs.Policies.{RuleRow, PolicyRows}
+use Rattle.fab_policy_base.specs.declared.policy.Action.{Action}
+use Rattle.fab_policy_base.specs.declared.policy.Action.TheVariants as action
+use Rattle.fab_reach.specs.declared.book.Delta.{Delta}
+use Rattle.fab_world.specs.Worlds.{WorldRows}
+use Rattle.fab_world.specs.declared.limits.TheConstants.{MOST_CHANGES}
+use Rattle.fab_desk_base.specs.Commands.{is_counted}
+use Rattle.fab_desk_base.specs.declared.command.Command.{Command}
+use Rattle.fab_desk_base.specs.declared.fault.DeskFault.{DeskFault}
+use Rattle.fab_desk_base.specs.declared.reply.Reply.{Reply}
+use Rattle.fab_desk_base.specs.declared.reply.Reply.TheVariants as reply
+
+-- ---- limits
+
+-- the revision counts the command, and there were as many changes as there may be
+abbrev pub HasManyChanges : {A : Type 0} → WorldRows → Command A → Type 0
+HasManyChanges w c = (is_counted c ≡ true) × (MOST_CHANGES ≤ w.revision)
+
+-- ---- one answer
+
+-- the command is refused
+abbrev pub IsRefusal : {A : Type 0} → Reply A → Type 0
+IsRefusal r = (f : DeskFault) × (r ≡ reply.Refused f)
+
+-- the answers lead to one world, and refuse both or none
+pub record Agree {A : Type 0} (r s : Reply A) (a b : WorldRows) : Type 0 where
+  pub world : a ≡ b
+  pub refused : IsRefusal r ↔ IsRefusal s
+
+-- ---- a dry run and an activation
+
+-- the lists are the same
+abbrev pub AreSameLists : {A : Type 0} → Delta A → Delta A → Type 0
+AreSameLists d e = (d.gained.items ≡ e.gained.items) × (d.lost.items ≡ e.lost.items)
+
+-- the dry run of the plan tells just what its activation gains and loses
+abbrev pub TellsActivation : {A : Type 0} → List ℕ → Reply A → Reply A → Type 0
+TellsActivation {A} n r s = (d : Delta A) × (e : Delta A) × (revision : ℕ) × (r ≡ reply.Tried n d) × (s ≡ reply.Reconfigured n e revision) × AreSameLists d e
+
+-- ---- confinement
+
+-- some rule for the action, whatever the fabric, asks that what is touched is the caller's own
+abbrev pub IsScoped : PolicyRows → Action → Type 0
+IsScoped p a = (r : RuleRow) × Contains p.rules r × Contains r.actions a × (r.fabric ≡ None) × IsSome r.scope
+
+-- each action by which paths may come and go is scoped
+pub record ConfinesPaths (p : PolicyRows) : Type 0 where
+  pub imports : IsScoped p action.Import
+  pub inventory : IsScoped p action.Inventory
+  pub activations : IsScoped p action.Activate
+  pub rollbacks : IsScoped p action.Rollback
