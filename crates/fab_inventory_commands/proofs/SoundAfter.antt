@@ -1,0 +1,32 @@
+-- A world with another inventory, by one change more.
+use Rattle.std.proofs.Common.{◌≡◌, ◌<◌, List, arith, subst}
+use Rattle.fab_inventory.specs.Inventories as inventories
+use Rattle.fab_mapping.specs.Mappings.{MappingRows}
+use Rattle.fab_mapping.specs.Soundness.{Fits}
+use Rattle.fab_world.specs.Soundness.{IsSound}
+use Rattle.fab_world.specs.Worlds.{WorldRows}
+use Rattle.fab_world.specs.declared.limits.TheConstants.{MOST_CHANGES}
+use Rattle.fab_desk_base.specs.Effects.{counted, with_inventory}
+use Rattle.fab_desk_base.specs.Refusals.{HasManyPaths}
+
+-- it is sound where the inventory is, and the configuration fits it
+pub sound_after : (w : WorldRows) (v : inventories.InventoryRows) → inventories.IsSound v → Fits v w.config.mapping → IsSound w → ¬ HasManyPaths (counted (with_inventory v w)) → w.revision < MOST_CHANGES → IsSound (counted (with_inventory v w))
+sound_after w v sound fits before few lt = record {
+  inventory = sound;
+  config = before.config;
+  fits = fits;
+  few_paths = few;
+  few_plans = before.few_plans;
+  plans = before.plans;
+  order = before.order;
+  earlier = before.earlier;
+  few_changes = omega (arith, lt);
+}
+
+-- what is said of a list and of an inventory is said of the same ones
+pub said_of : {X : Type 0} {xs ys : List X} {u v : inventories.InventoryRows} (P : List X → inventories.InventoryRows → Type 0) → xs ≡ ys → u ≡ v → P xs u → P ys v
+said_of {ys = ys} {u = u} P p q h = subst (P ys) q (subst (λ zs. P zs u) p h)
+
+-- what is said of the parts of a world is said of the world's
+pub said_beside : {inside w : WorldRows} {m : MappingRows} → inside ≡ w → m ≡ inside.config.mapping → (P : inventories.InventoryRows → MappingRows → Type 0) → P inside.inventory m → P w.inventory w.config.mapping
+said_beside {inside = inside} {w = w} same mapped P h = subst (λ (x : WorldRows). P x.inventory x.config.mapping) same (subst (P inside.inventory) mapped h)
