@@ -1,0 +1,10 @@
+mod Checks
+mod WorldParts
+mod Undos
+mod PlanPut
+mod Copies
+mod Turns
+mod Orders
+mod Activations
+mod Rollbacks
+mod Stagings
