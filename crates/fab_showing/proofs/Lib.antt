@@ -1,0 +1,4 @@
+pub mod SetItems
+pub mod Entries
+pub mod Lists
+pub mod Zones
