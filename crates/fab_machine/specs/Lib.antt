@@ -1,0 +1,4 @@
+pub mod Limits
+pub mod Proposals
+pub mod Reports
+pub mod Trials

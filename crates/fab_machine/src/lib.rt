@@ -1,0 +1,23 @@
+//! The desk as a machine over its world: what is answered to a request, and the change that is ready
+//! to be taken over. It knows no store and no wire.
+//!
+//! `propose` is lent the world and changes nothing. What it hands out is the answer, or a change for
+//! which all memory is taken; a store may stand between the two. `take_over` needs no memory and can
+//! not fail.
+#![tactic(auto)]
+
+mod answers;
+mod bodies;
+mod change;
+mod effects;
+mod finish;
+mod limits;
+mod proposing;
+mod report;
+mod steps;
+mod verdicts;
+
+pub use answers::{Asked, answer, answer_all};
+pub use change::{Change, take_over};
+pub use proposing::{Proposal, propose};
+pub use report::Report;
