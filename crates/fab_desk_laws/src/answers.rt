@@ -10,7 +10,7 @@ ghost use Rattle.fab_desk_laws.specs.Laws.{Agree};
 use fab_desk_base::{Command, Reply};
 use std::alloc::Allocator;
 
-/// A command has one effect in a world at most, whoever is its caller.
+/// A command of a caller has one effect in a world at most.
 pub fn one_effect<A: Allocator + Copy>(command: &Command<A>)
     ensures { (w : WorldRows) (caller : List ℕ) (a b : WorldRows) → IsEffect w caller command.now a → IsEffect w caller command.now b → a ≡ b }
 {
