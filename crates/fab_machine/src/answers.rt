@@ -47,8 +47,8 @@ pub fn answer<A: Allocator + Copy, B: PathBook<A>>(
 /// Room for all replies is taken first.
 ///
 /// # Errors
-/// `AllocError` where there is no memory for the replies: then none was answered, and nothing is
-/// changed.
+/// `AllocError` where there is no memory for the replies: then none was answered, the world is as it
+/// was, and the book stands at it.
 pub fn answer_all<'a, A: Allocator + Copy, B: PathBook<A>>(
     alloc: A,
     world: &mut World<A>,
