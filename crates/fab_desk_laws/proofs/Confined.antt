@@ -15,7 +15,7 @@ use Rattle.fab_policy.specs.declared.act.Verdict.TheVariants.{Allowed}
 use Rattle.fab_reach.specs.Records.{Records}
 use Rattle.fab_world.specs.Worlds.{WorldRows, records_of}
 use Rattle.fab_desk_base.specs.Acts.{IsJudged}
-use Rattle.fab_desk_base.specs.Answers.{IsKept, IsCarriedOut, IsOutcomeFor, IsAnswerTo, Request, IsStep}
+use Rattle.fab_desk_base.specs.Answers.{IsCarriedOut, Request, IsStep}
 use Rattle.fab_desk_base.specs.Commands.{action_of}
 use Rattle.fab_steps.specs.Steps.{PlanStep}
 use Rattle.fab_desk_base.specs.Effects.{StageMakes}
@@ -23,10 +23,9 @@ use Rattle.fab_desk_base.specs.Refusals.{IsEffect}
 use Rattle.fab_desk_base.specs.Touching.{MovesPathOf}
 use Rattle.fab_desk_base.specs.declared.command.Command.{Command}
 use Rattle.fab_desk_base.specs.declared.command.Command.TheVariants.{Import, PutHolder, PutVolume, DropHolder, DropVolume, Stage, Withdraw, Approve, DryRun, Activate, Rollback, Show}
-use Rattle.fab_desk_base.specs.declared.fault.DeskFault.{DeskFault}
-use Rattle.fab_desk_base.specs.declared.fault.DeskFault.TheVariants as fault
 use Rattle.fab_desk_base.specs.declared.reply.Reply.{Reply}
 use Rattle.fab_desk_laws.specs.Laws.{IsScoped, ConfinesPaths}
+use Rattle.fab_desk_laws.proofs.Ends.{kept_or_done}
 
 -- nothing moves where the records stay
 pub still : (w v : Records) (t : List ℕ) → v ≡ w → ¬ MovesPathOf w v t
@@ -55,10 +54,6 @@ module _ {A : Type 0} (p : PolicyRows) (w : WorldRows) (id : ℕ) (caller : List
       let touched = (act.touched t).1 (inr (inr (effect, is, moves))) in
       own_seen (slice_get p.callers id) a.touched.now t (ap (λ i. is_own a.touched.now (slice_get p.callers i)) (sym act.caller_is) ∙ own) touched
 
-  -- a world that is left as it was
-  kept_still : (q : DeskFault) (r : Reply A) (new : WorldRows) → IsKept w q r new → (t : List ℕ) → ¬ MovesPathOf (records_of w) (records_of new) t
-  kept_still q r new kept t = still (records_of w) (records_of new) t (ap records_of kept.1)
-
 -- a plan that is staged leaves the records as they were
 staged_still : (w : WorldRows) (n author : List ℕ) (steps : List PlanStep) (effect : WorldRows) → StageMakes w author n steps effect → records_of effect ≡ records_of w
 staged_still w n author steps effect (inl h) = ap records_of h.1
@@ -83,38 +78,10 @@ module _ {A : Type 0} (p : PolicyRows) (confines : ConfinesPaths p) (w : WorldRo
   carried_out (DryRun n) r new h t moves = absurd (still (records_of w) (records_of new) t (ap records_of h.left) moves)
   carried_out (Show q) r new h t moves = absurd h.report
 
-  -- what is turned down leaves all as it was
-  outcome : (c : Command A) (r : Reply A) (new : WorldRows) → IsOutcomeFor p w id caller moment c r new → (t : List ℕ) → MovesPathOf (records_of w) (records_of new) t → sees p id t ≡ true
-  outcome (Show q) r new h t moves = absurd (still (records_of w) (records_of new) t (ap records_of h.3) moves)
-  outcome (Import f rows) r new (inl h) t moves = absurd (kept_still p w id caller moment (Import f rows) h.0 r new h.2 t moves)
-  outcome (Import f rows) r new (inr h) t moves = carried_out (Import f rows) r new h t moves
-  outcome (PutHolder kind n o ports) r new (inl h) t moves = absurd (kept_still p w id caller moment (PutHolder kind n o ports) h.0 r new h.2 t moves)
-  outcome (PutHolder kind n o ports) r new (inr h) t moves = carried_out (PutHolder kind n o ports) r new h t moves
-  outcome (PutVolume n x) r new (inl h) t moves = absurd (kept_still p w id caller moment (PutVolume n x) h.0 r new h.2 t moves)
-  outcome (PutVolume n x) r new (inr h) t moves = carried_out (PutVolume n x) r new h t moves
-  outcome (DropHolder kind n) r new (inl h) t moves = absurd (kept_still p w id caller moment (DropHolder kind n) h.0 r new h.2 t moves)
-  outcome (DropHolder kind n) r new (inr h) t moves = carried_out (DropHolder kind n) r new h t moves
-  outcome (DropVolume n) r new (inl h) t moves = absurd (kept_still p w id caller moment (DropVolume n) h.0 r new h.2 t moves)
-  outcome (DropVolume n) r new (inr h) t moves = carried_out (DropVolume n) r new h t moves
-  outcome (Stage n steps) r new (inl h) t moves = absurd (kept_still p w id caller moment (Stage n steps) h.0 r new h.2 t moves)
-  outcome (Stage n steps) r new (inr h) t moves = carried_out (Stage n steps) r new h t moves
-  outcome (Withdraw n) r new (inl h) t moves = absurd (kept_still p w id caller moment (Withdraw n) h.0 r new h.2 t moves)
-  outcome (Withdraw n) r new (inr h) t moves = carried_out (Withdraw n) r new h t moves
-  outcome (Approve n) r new (inl h) t moves = absurd (kept_still p w id caller moment (Approve n) h.0 r new h.2 t moves)
-  outcome (Approve n) r new (inr h) t moves = carried_out (Approve n) r new h t moves
-  outcome (DryRun n) r new (inl h) t moves = absurd (kept_still p w id caller moment (DryRun n) h.0 r new h.2 t moves)
-  outcome (DryRun n) r new (inr h) t moves = carried_out (DryRun n) r new h t moves
-  outcome (Activate n) r new (inl h) t moves = absurd (kept_still p w id caller moment (Activate n) h.0 r new h.2 t moves)
-  outcome (Activate n) r new (inr h) t moves = carried_out (Activate n) r new h t moves
-  outcome (Rollback n) r new (inl h) t moves = absurd (kept_still p w id caller moment (Rollback n) h.0 r new h.2 t moves)
-  outcome (Rollback n) r new (inr h) t moves = carried_out (Rollback n) r new h t moves
-
-  answer : (c : Command A) (r : Reply A) (new : WorldRows) → IsAnswerTo p w id caller moment c r new → (t : List ℕ) → MovesPathOf (records_of w) (records_of new) t → sees p id t ≡ true
-  answer c r new (inl h) t moves = absurd (kept_still p w id caller moment c (fault.BadBody 0) r new h.1 t moves)
-  answer c r new (inr (inl h)) t moves = absurd (kept_still p w id caller moment c fault.NotFound r new h.2 t moves)
-  answer c r new (inr (inr h)) t moves = outcome c r new h.2 t moves
-
 -- the caller at the place has the token
 pub confined : {A : Type 0} (p : PolicyRows) → ConfinesPaths p → (w : WorldRows) (q : Request A) (r : Reply A) (new : WorldRows) → IsStep p w q r new → (id : ℕ) → HasToken p q.token id → (t : List ℕ) → MovesPathOf (records_of w) (records_of new) t → sees p id t ≡ true
 confined p confines w q r new (inl h) id has t moves = absurd (h.0 id has)
-confined p confines w q r new (inr (i, caller, only, row, h)) id has t moves = ap (λ j. sees p j t) (only.only id has) ∙ answer p confines w i caller.name q.moment q.command r new h t moves
+confined p confines w q r new (inr (i, caller, only, row, h)) id has t moves = ap (λ j. sees p j t) (only.only id has) ∙ elim (kept_or_done p w i caller.name q.moment q.command r new h) [
+  | inl same ↦ absurd (still (records_of w) (records_of new) t (ap records_of same) moves)
+  | inr done ↦ carried_out p confines w i caller.name q.moment q.command r new done t moves
+]

@@ -4,4 +4,6 @@ pub mod Tried
 pub mod OneVerdict
 pub mod OneAnswer
 pub mod SameLists
+pub mod Ends
 pub mod Confined
+pub mod KeptHosts

@@ -1,9 +1,7 @@
 -- From what the records say of a command to its effect, and to what refuses it.
-use Rattle.std.proofs.Common.{ℕ, ◌≡◌, ◌≤◌, ◌<◌, ◌↔◌, List, true, refl, subst, arith}
+use Rattle.std.proofs.Common.{ℕ, ◌≡◌, ◌<◌, ◌↔◌, List, refl, subst, arith}
 use Rattle.fab_inventory.specs.declared.holder.HolderKind.TheVariants as kind
 use Rattle.fab_world.specs.Worlds.{WorldRows}
-use Rattle.fab_world.specs.declared.limits.TheConstants.{MOST_CHANGES}
-use Rattle.fab_desk_base.specs.Commands.{is_counted}
 use Rattle.fab_desk_base.specs.Refusals.{Check, plan_state, own_name, records, others, free_ports, no_user, no_volume, not_author, last_in_force, nothing_gone, steps_done, room, few_paths, few_changes, place_of, FailsWith, HasManyPaths, MakesManyPaths, Fails, IsFirstFault, IsDone}
 use Rattle.fab_desk_base.specs.Trying.{IsOfRecords, IsMade}
 use Rattle.fab_desk_base.specs.declared.command.Command.{Command}
