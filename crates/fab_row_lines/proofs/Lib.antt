@@ -1,0 +1,15 @@
+pub mod Distinct
+pub mod Listed
+pub mod Shown
+pub mod OnlyIn
+pub mod KeysOfRows
+pub mod KeysOfParts
+pub mod OneKey
+pub mod Positions
+pub mod UnitsOfRows
+pub mod InRange
+pub mod Written
+pub mod Moves
+pub mod LinesHeld
+pub mod PlansTold
+pub mod WorldOpened

@@ -1,0 +1,13 @@
+-- Paths that are added, line by line.
+use Rattle.std.proofs.Common.{◌≡◌, refl, sym, ap, ◌∙◌, subst}
+use Rattle.fab_lines.proofs.UniqueConfig.{one_path}
+use Rattle.fab_lines.specs.RecordLines.{PathColumns, ShowsPath}
+use Rattle.fab_reach.proofs.Adding.{adds_as}
+use Rattle.fab_reach.specs.Adding.{Adds}
+use Rattle.fab_reach.specs.declared.path.Path.{Path}
+use Rattle.fab_rows.specs.declared.record_row.PathRow.{PathRow}
+use Rattle.fab_row_lines_base.specs.Paths.{ShowsPathOf}
+
+-- the path of a line
+pub path_added : (l : PathColumns) (r : PathRow) (old new : Path → Type 0) → ShowsPath l r → Adds (λ x. x ≡ r.path) old new → Adds (ShowsPathOf l) old new
+path_added l r old new shows = adds_as (λ x. x ≡ r.path) (ShowsPathOf l) old new (λ x is. (r, shows, sym is)) (λ x s. sym s.2 ∙ ap (λ (y : PathRow). y.path) (one_path l s.0 r s.1 shows))

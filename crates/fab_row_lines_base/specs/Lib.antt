@@ -1,0 +1,4 @@
+pub mod Rows
+pub mod Listing
+pub mod Reading
+pub mod Paths

@@ -1,0 +1,26 @@
+-- What a call of a store tells where it gives nothing.
+use Rattle.std.specs.Prelude.{◌≡◌, ◌⊎◌, ◌<◌, ◌^◌, ◌-◌, ℕ}
+use Rattle.fab_changes.specs.Standing.{HaveRows}
+use Rattle.fab_rows.specs.declared.table_rows.TheConstants.{SCHEMA}
+use Rattle.fab_tables.specs.Tables.{Tables}
+use Rattle.fab_world.specs.Soundness.{IsSound}
+use Rattle.fab_world.specs.Worlds.{WorldRows}
+use Rattle.fab_stores.specs.declared.faults.OpenFault.{OpenFault}
+use Rattle.fab_stores.specs.declared.faults.OpenFault.TheVariants.{Damaged, NewerSchema, Store, Memory}
+use Rattle.fab_stores.specs.Worlds.{HoldsWorld, TellsSchema, IsWritten}
+
+-- the count of refused calls rose, or stands at its greatest value
+abbrev pub Rises : ℕ → ℕ → Type 0
+Rises old new = (old < new) ⊎ (new ≡ 2 ^ 64 - 1)
+
+-- a refused call is counted
+abbrev pub IsCounted : ℕ → ℕ → OpenFault → Type 0
+IsCounted old new Store = Rises old new
+IsCounted old new _ = Unit {0}
+
+-- no sound world whose rows are all written in lines has the rows; a newer schema is told
+abbrev pub OpensNot : Tables → OpenFault → Type 0
+OpensNot t (Damaged table) = (w : WorldRows) → IsWritten w → HaveRows w → HoldsWorld t w → ¬ IsSound w
+OpensNot t (NewerSchema n) = TellsSchema t n × (SCHEMA < n)
+OpensNot t Store = Unit {0}
+OpensNot t Memory = Unit {0}
