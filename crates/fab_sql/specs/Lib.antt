@@ -1,0 +1,9 @@
+pub mod Cells
+pub mod Laws
+pub mod NewDesk
+pub mod Reading
+pub mod Rows
+pub mod Schema
+pub mod Statements
+pub mod States
+pub mod Trees

@@ -1,0 +1,18 @@
+//! The SQL of the twelve tables: their statements, one transaction of changes, reads of whole tables,
+//! and the tables of a new desk.
+#![tactic(auto)]
+
+mod changes;
+mod line;
+mod lines;
+mod making;
+mod read;
+mod shape;
+mod texts;
+mod values;
+
+pub use changes::apply;
+pub use line::Line;
+pub use making::init;
+pub use read::{ReadFault, read_all, read_paths_of};
+pub use shape::has_tables;

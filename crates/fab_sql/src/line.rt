@@ -1,0 +1,299 @@
+//! How lines are read from rows that a query showed.
+ghost use Rattle.std.specs.Prelude.{◌≡◌, IfOk};
+ghost use Rattle.sqlite.specs.Order.{Row as Cells};
+ghost use Rattle.fab_load.specs.declared.fault.Table.{Table as AnyTable};
+ghost use Rattle.fab_sql.specs.Trees.{show_of};
+
+use fab_lines::{
+    ActiveLine, ApprovalLine, GroupLine, HolderLine, MetaLine, PartLine, PathLine, PlanLine,
+    PortLine, VolumeLine, ZoningLine,
+};
+use fab_tables::Table;
+use fab_undo_lines::UndoLine;
+use sqlite::{Error, Row};
+use std::alloc::Global;
+
+/// A line of one table.
+pub trait Line: Sized + Drop {
+    // Its table.
+    ghost place: { AnyTable };
+
+    // Its row, by the columns of its table.
+    ghost row: { Self → Cells };
+
+    /// The table.
+    fn table() -> Table
+        ensures { result ≡ place };
+
+    /// The line of a row that is shown behind its rowid.
+    ///
+    /// # Errors
+    /// Where a column is not of the line's type, or there is no memory.
+    fn read(shown: &Row) -> Result<Self, Error>
+        ensures { IfOk result (λ line. show_of place shown.now ≡ row line) };
+}
+
+impl Line for MetaLine<Global> {
+    ghost use Rattle.fab_load.specs.declared.fault.Table.TheVariants as table;
+    ghost use Rattle.fab_tables.specs.Columns.{meta_row};
+
+    ghost place = { table.Meta };
+
+    ghost row = { meta_row };
+
+    fn table() -> Table {
+        Table::Meta
+    }
+
+    fn read(shown: &Row) -> Result<Self, Error> {
+        Ok(MetaLine {
+            key: shown.get(1)?,
+            value: shown.get(2)?,
+        })
+    }
+}
+
+impl Line for PortLine<Global> {
+    ghost use Rattle.fab_load.specs.declared.fault.Table.TheVariants as table;
+    ghost use Rattle.fab_tables.specs.Columns.{port_row};
+
+    ghost place = { table.Ports };
+
+    ghost row = { port_row };
+
+    fn table() -> Table {
+        Table::Ports
+    }
+
+    fn read(shown: &Row) -> Result<Self, Error> {
+        Ok(PortLine {
+            wwpn: shown.get(1)?,
+            wwnn: shown.get(2)?,
+            fabric: shown.get(3)?,
+            domain: shown.get(4)?,
+            slot: shown.get(5)?,
+            holder: shown.get(6)?,
+        })
+    }
+}
+
+impl Line for HolderLine<Global> {
+    ghost use Rattle.fab_load.specs.declared.fault.Table.TheVariants as table;
+    ghost use Rattle.fab_tables.specs.Columns.{holder_row};
+
+    ghost place = { table.Holders };
+
+    ghost row = { holder_row };
+
+    fn table() -> Table {
+        Table::Holders
+    }
+
+    fn read(shown: &Row) -> Result<Self, Error> {
+        Ok(HolderLine {
+            name: shown.get(1)?,
+            kind: shown.get(2)?,
+            tenant: shown.get(3)?,
+        })
+    }
+}
+
+impl Line for VolumeLine<Global> {
+    ghost use Rattle.fab_load.specs.declared.fault.Table.TheVariants as table;
+    ghost use Rattle.fab_tables.specs.Columns.{volume_row};
+
+    ghost place = { table.Volumes };
+
+    ghost row = { volume_row };
+
+    fn table() -> Table {
+        Table::Volumes
+    }
+
+    fn read(shown: &Row) -> Result<Self, Error> {
+        Ok(VolumeLine {
+            name: shown.get(1)?,
+            array: shown.get(2)?,
+            tenant: shown.get(3)?,
+            bytes: shown.get(4)?,
+        })
+    }
+}
+
+impl Line for ZoningLine<Global> {
+    ghost use Rattle.fab_load.specs.declared.fault.Table.TheVariants as table;
+    ghost use Rattle.fab_tables.specs.Columns.{zoning_row};
+
+    ghost place = { table.Zoning };
+
+    ghost row = { zoning_row };
+
+    fn table() -> Table {
+        Table::Zoning
+    }
+
+    fn read(shown: &Row) -> Result<Self, Error> {
+        Ok(ZoningLine {
+            fabric: shown.get(1)?,
+            kind: shown.get(2)?,
+            name: shown.get(3)?,
+            item: shown.get(4)?,
+        })
+    }
+}
+
+impl Line for ActiveLine<Global> {
+    ghost use Rattle.fab_load.specs.declared.fault.Table.TheVariants as table;
+    ghost use Rattle.fab_tables.specs.Columns.{active_row};
+
+    ghost place = { table.Active };
+
+    ghost row = { active_row };
+
+    fn table() -> Table {
+        Table::Active
+    }
+
+    fn read(shown: &Row) -> Result<Self, Error> {
+        Ok(ActiveLine {
+            fabric: shown.get(1)?,
+            zone: shown.get(2)?,
+            member: shown.get(3)?,
+        })
+    }
+}
+
+impl Line for GroupLine<Global> {
+    ghost use Rattle.fab_load.specs.declared.fault.Table.TheVariants as table;
+    ghost use Rattle.fab_tables.specs.Columns.{group_row};
+
+    ghost place = { table.Groups };
+
+    ghost row = { group_row };
+
+    fn table() -> Table {
+        Table::Groups
+    }
+
+    fn read(shown: &Row) -> Result<Self, Error> {
+        Ok(GroupLine {
+            kind: shown.get(1)?,
+            name: shown.get(2)?,
+            tenant: shown.get(3)?,
+            array: shown.get(4)?,
+            exposed: shown.get(5)?,
+        })
+    }
+}
+
+impl Line for PartLine<Global> {
+    ghost use Rattle.fab_load.specs.declared.fault.Table.TheVariants as table;
+    ghost use Rattle.fab_tables.specs.Columns.{part_row};
+
+    ghost place = { table.GroupParts };
+
+    ghost row = { part_row };
+
+    fn table() -> Table {
+        Table::GroupParts
+    }
+
+    fn read(shown: &Row) -> Result<Self, Error> {
+        Ok(PartLine {
+            kind: shown.get(1)?,
+            name: shown.get(2)?,
+            part: shown.get(3)?,
+            item: shown.get(4)?,
+            volume: shown.get(5)?,
+        })
+    }
+}
+
+impl Line for PlanLine<Global> {
+    ghost use Rattle.fab_load.specs.declared.fault.Table.TheVariants as table;
+    ghost use Rattle.fab_tables.specs.Columns.{plan_row};
+
+    ghost place = { table.Plans };
+
+    ghost row = { plan_row };
+
+    fn table() -> Table {
+        Table::Plans
+    }
+
+    fn read(shown: &Row) -> Result<Self, Error> {
+        Ok(PlanLine {
+            name: shown.get(1)?,
+            author: shown.get(2)?,
+            text: shown.get(3)?,
+            state: shown.get(4)?,
+            position: shown.get(5)?,
+        })
+    }
+}
+
+impl Line for ApprovalLine<Global> {
+    ghost use Rattle.fab_load.specs.declared.fault.Table.TheVariants as table;
+    ghost use Rattle.fab_tables.specs.Columns.{approval_row};
+
+    ghost place = { table.Approvals };
+
+    ghost row = { approval_row };
+
+    fn table() -> Table {
+        Table::Approvals
+    }
+
+    fn read(shown: &Row) -> Result<Self, Error> {
+        Ok(ApprovalLine {
+            plan: shown.get(1)?,
+            caller: shown.get(2)?,
+            revision: shown.get(3)?,
+        })
+    }
+}
+
+impl Line for UndoLine<Global> {
+    ghost use Rattle.fab_load.specs.declared.fault.Table.TheVariants as table;
+    ghost use Rattle.fab_tables.specs.Columns.{undo_row};
+
+    ghost place = { table.Undo };
+
+    ghost row = { undo_row };
+
+    fn table() -> Table {
+        Table::Undo
+    }
+
+    fn read(shown: &Row) -> Result<Self, Error> {
+        Ok(UndoLine {
+            plan: shown.get(1)?,
+            sign: shown.get(2)?,
+            entry: shown.get(3)?,
+        })
+    }
+}
+
+impl Line for PathLine<Global> {
+    ghost use Rattle.fab_load.specs.declared.fault.Table.TheVariants as table;
+    ghost use Rattle.fab_tables.specs.Columns.{path_row};
+
+    ghost place = { table.Paths };
+
+    ghost row = { path_row };
+
+    fn table() -> Table {
+        Table::Paths
+    }
+
+    fn read(shown: &Row) -> Result<Self, Error> {
+        Ok(PathLine {
+            host: shown.get(1)?,
+            fabric: shown.get(2)?,
+            initiator: shown.get(3)?,
+            target: shown.get(4)?,
+            volume: shown.get(5)?,
+            lun: shown.get(6)?,
+        })
+    }
+}

@@ -1,0 +1,5 @@
+pub mod Left
+pub mod Told
+pub mod Written
+pub mod PathsTold
+pub mod Names

@@ -1,0 +1,17 @@
+use Rattle.std.proofs.Common.{ℕ, ◌≡◌, List, Bor, sym, ◌∙◌, subst, arith}
+use Rattle.std.proofs.lemmas.Bool.{not-true}
+use Rattle.std.specs.Cmp.Lexicographic.{slice_cmp}
+use Rattle.std.specs.Ordering.{nat_cmp}
+use Rattle.fab_store.proofs.Names.{AreNamed, named_next, equal_text}
+use Rattle.fab_store.proofs.opening.are_once.Goals as goal
+
+pub loop-line-preserved : goal.loop-line-preserved
+loop-line-preserved c =
+    let name_of = λ (k : Bor (List ℕ)). k.now in
+    let cmp = λ (a b : Bor (List ℕ)). slice_cmp nat_cmp a.now b.now in
+    let text = c.as_str.ensures.value in
+    let view = c.line.view_is in
+    let named : c.as_str.result.now ≡ c.line-item.result.name = cc in
+    let new = not-true _ (sym c.in_ok-insert.ensures.added ∙ c.if-not-branch.false) in
+    subst (AreNamed name_of _) (sym c.in_ok-insert.ensures.keys)
+    (named_next cmp name_of equal_text c.args.lines.now c.loop-line.line-index c.line-item.result c.loop-line.names.keys c.as_str.result (omega arith) c.line-item.is named new c.loop-line.invariant)

@@ -1,0 +1,15 @@
+use Rattle.std.proofs.Common.{subst}
+use Rattle.fab_row_lines_base.specs.Listing.{AreDistinct}
+use Rattle.fab_store.specs.Loading.{TellNewer}
+use Rattle.fab_store.proofs.Written.{written, damaged, newer}
+use Rattle.fab_store.proofs.opening.open_lines.Goals as goal
+
+pub returns-in-Some-clause-fault : goal.returns-in-Some-clause-fault
+returns-in-Some-clause-fault g c = newer c.args.lines.now c.in-Some.schema (subst (λ lines. TellNewer lines c.in-Some.schema) c.as_slice.ensures.value c.in-Some.ensures)
+
+pub returns-in-Ok-clause-world : goal.returns-in-Ok-clause-world
+returns-in-Ok-clause-world g c = (c.in-Ok.ensures.sound, written g.row.A.Denot c.in-Ok.world c.in-Ok.ensures.lined)
+
+pub returns-in-Ok-true-clause-fault : goal.returns-in-Ok-true-clause-fault
+returns-in-Ok-true-clause-fault g c =
+    damaged g.row.A.Denot c.args.lines.now c.in-Err-Damaged.table (subst AreDistinct c.as_slice-in-Err-Damaged.ensures.value (c.in-Ok-true.ensures c.in-Ok-true.field-0-test)) (rw c.in-Err-Damaged.field-0-is at c.in-Err-Damaged.ensures.err)

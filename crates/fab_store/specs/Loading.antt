@@ -1,0 +1,14 @@
+-- What settings tell of a newer schema.
+use Rattle.std.specs.Prelude.{ℕ, ◌<◌, List, Contains}
+use Rattle.fab_lines.specs.MetaLines.{MetaColumns, ShowsMeta}
+use Rattle.fab_lines.specs.declared.meta_lines.MetaRow.TheVariants as meta
+use Rattle.fab_rows.specs.declared.table_rows.TheConstants.{SCHEMA}
+
+-- the line tells this schema, which is newer
+pub record TellsNewer (l : MetaColumns) (n : ℕ) : Type 0 where
+  pub shows : ShowsMeta l (meta.Schema n)
+  pub newer : SCHEMA < n
+
+-- one of the lines does
+abbrev pub TellNewer : List MetaColumns → ℕ → Type 0
+TellNewer lines n = (l : MetaColumns) × Contains lines l × TellsNewer l n

@@ -1,0 +1,10 @@
+//! The tables of a desk in a SQLite database.
+#![tactic(auto)]
+
+mod lots;
+mod opening;
+mod paths;
+mod reading;
+mod store;
+
+pub use store::SqlStore;

@@ -1,0 +1,110 @@
+//! The world that the tables of a database have.
+ghost use Rattle.std.specs.Prelude.{IfOk, IfErr, IfSome, OnOk, IsTrue};
+ghost use Rattle.sqlite.specs.Held.{state};
+ghost use Rattle.sqlite.specs.State.{HasCleanDisk};
+ghost use Rattle.fab_row_lines.specs.Opened as opened;
+ghost use Rattle.fab_row_lines_base.specs.Listing.{AreDistinct};
+ghost use Rattle.fab_sql.specs.States.{IsDesk};
+ghost use Rattle.fab_sql.specs.Trees.{tables_of};
+ghost use Rattle.fab_stores.specs.Calls.{OpensNot};
+ghost use Rattle.fab_stores.specs.Worlds.{HoldsWorld, IsWritten};
+ghost use Rattle.fab_world.specs.Soundness.{IsSound};
+ghost use Rattle.fab_store.specs.Loading.{TellsNewer, TellNewer};
+ghost use Rattle.fab_store.specs.Reads.{OnlyReads, SeesSame, AreTablesOf};
+
+use crate::reading::read_tables;
+use fab_lines::{MetaLine, MetaRow, PlanLine};
+use fab_load::LoadFault;
+use fab_row_lines::{TableLines, world_of_lines};
+use fab_rows::SCHEMA;
+use fab_sql::ReadFault;
+use fab_stores::OpenFault;
+use fab_world::World;
+use sqlite::{Alter, Connection};
+use std::alloc::{AllocError, Allocator, Global};
+use std::collections::BTreeSet;
+
+/// The schema that a setting tells, if it is newer.
+fn newer_in(line: &MetaLine<Global>) -> Option<u64>
+    ensures { IfSome result (TellsNewer line.now) }
+{
+    match line.read() {
+        Some(MetaRow::Schema(schema)) if schema > SCHEMA => Some(schema),
+        _ => None,
+    }
+}
+
+/// The newer schema that one of the settings tells.
+fn newer_schema(lines: &[MetaLine<Global>]) -> Option<u64>
+    ensures { IfSome result (TellNewer lines.now) }
+{
+    for line in lines {
+        if let Some(schema) = newer_in(line) {
+            return Some(schema);
+        }
+    }
+    None
+}
+
+/// Whether no two lines have one name.
+fn are_once(alloc: Global, lines: &[PlanLine<Global>]) -> Result<bool, AllocError>
+    ensures { IfOk result (λ once. IsTrue once → AreDistinct lines.now) }
+{
+    let mut names = BTreeSet::new(alloc);
+    for line in lines {
+        if !names.insert(line.name.as_str())? {
+            return Ok(false);
+        }
+    }
+    Ok(true)
+}
+
+/// The world that the lines show.
+///
+/// # Errors
+/// As for a store's `load`. `Store` where nothing sound has the rows, and a plan stands twice.
+fn open_lines<A: Allocator + Copy>(
+    alloc: A,
+    heap: Global,
+    lines: &TableLines,
+) -> Result<World<A>, OpenFault>
+    ensures world { IfOk result (λ w. IsSound w × IsWritten w) }
+    ensures rows { IfOk result (HoldsWorld (opened.tables_of lines.now)) }
+    ensures fault { IfErr result (OpensNot (opened.tables_of lines.now)) }
+{
+    if let Some(schema) = newer_schema(lines.meta.as_slice()) {
+        return Err(OpenFault::NewerSchema(schema));
+    }
+    match world_of_lines(alloc, lines) {
+        Ok(world) => Ok(world),
+        Err(LoadFault::Memory) => Err(OpenFault::Memory),
+        Err(LoadFault::Damaged(table)) => match are_once(heap, lines.plans.as_slice()) {
+            Ok(true) => Err(OpenFault::Damaged(table)),
+            Ok(false) => Err(OpenFault::Store),
+            Err(AllocError) => Err(OpenFault::Memory),
+        },
+    }
+}
+
+/// The world that the tables have. The database is as it was.
+///
+/// # Errors
+/// As for a store's `load`.
+pub(crate) fn load_world<A: Allocator + Copy, S: Alter>(
+    alloc: A,
+    heap: Global,
+    conn: &mut Connection<S>,
+) -> Result<World<A>, OpenFault>
+    ensures only { OnlyReads (state S.Store conn.old) (state S.Store conn.new) }
+    ensures same { HasCleanDisk (state S.Store conn.new) → OnOk result (SeesSame (state S.Store conn.old) (state S.Store conn.new)) }
+    ensures desk { HasCleanDisk (state S.Store conn.new) → OnOk result (IsDesk (state S.Store conn.old).now) }
+    ensures world { IfOk result (λ w. IsSound w × IsWritten w) }
+    ensures rows { HasCleanDisk (state S.Store conn.new) → IfOk result (HoldsWorld (tables_of (state S.Store conn.old).now.trees)) }
+    ensures fault { HasCleanDisk (state S.Store conn.new) → IfErr result (OpensNot (tables_of (state S.Store conn.old).now.trees)) }
+{
+    match read_tables(conn, heap) {
+        Ok(lines) => open_lines(alloc, heap, &lines),
+        Err(ReadFault::Memory) => Err(OpenFault::Memory),
+        Err(_) => Err(OpenFault::Store),
+    }
+}

@@ -1,0 +1,155 @@
+//! The tables of a desk in a SQLite database.
+ghost use Rattle.std.specs.Prelude.{◌≡◌, ◌⊎◌, false, OnOk, OnErr, IsTrue};
+ghost use Rattle.sqlite.specs.Held.{state};
+ghost use Rattle.sqlite.specs.State.{HasCleanDisk};
+ghost use Rattle.fab_sql.specs.NewDesk.{IsNewDesk};
+ghost use Rattle.fab_sql.specs.States.{IsReady};
+ghost use Rattle.fab_sql.specs.Trees.{tables_of};
+ghost use Rattle.fab_stores.specs.Calls.{Rises};
+ghost use Rattle.fab_tables.specs.Tables.{Tables};
+ghost use Rattle.fab_store.specs.Laws.{Leaves};
+
+use crate::opening::load_world;
+use crate::paths::find_paths;
+use fab_names::Name;
+use fab_reach::Path;
+use fab_sql::{apply, init};
+use fab_stores::{LineChanges, OpenFault, Store, StoreFault};
+use fab_world::World;
+use sqlite::{Alter, Connection};
+use std::alloc::{Allocator, Global};
+
+/// A store over a connection.
+pub struct SqlStore<S: Alter> {
+    conn: Connection<S>,
+    /// Where lines are kept on their way.
+    heap: Global,
+    /// How many calls were refused.
+    refusals: u64,
+    ghost outside: { conn.in_transaction ≡ false },
+}
+
+/// The count of refused calls, with one more. At its greatest value it stays.
+fn raised(refusals: u64) -> u64
+    ensures { Rises refusals result }
+{
+    refusals.saturating_add(1)
+}
+
+// It is written out, so that a caller does not prove again how each part is dropped.
+impl<S: Alter + Drop> Drop for SqlStore<S> {
+    fn drop(self) {
+        let SqlStore {
+            conn: _,
+            heap: _,
+            refusals: _,
+        } = self;
+    }
+}
+
+impl<S: Alter> SqlStore<S> {
+    /// A store over the connection, in which no transaction runs. No call is made.
+    pub fn new(conn: Connection<S>, heap: Global) -> SqlStore<S>
+        requires { conn.in_transaction ≡ false }
+        ensures conn { result.conn ≡ conn }
+        ensures none { result.refusals ≡ 0 }
+    {
+        SqlStore {
+            conn,
+            heap,
+            refusals: 0,
+        }
+    }
+
+    /// Its connection.
+    pub fn into_connection(self) -> Connection<S>
+        ensures { result ≡ self.conn }
+    {
+        let SqlStore {
+            conn: inner,
+            heap: _,
+            refusals: _,
+        } = self;
+        inner
+    }
+
+    /// Makes the tables of a new desk, all or none.
+    ///
+    /// # Errors
+    /// `StoreFault` where there is a table already, or the store refused: the tables are those before, if
+    /// it is still open.
+    pub fn init(&mut self) -> Result<(), StoreFault>
+        ensures clean { HasCleanDisk (state S.Store self.new.conn) → HasCleanDisk (state S.Store self.old.conn) }
+        ensures done { HasCleanDisk (state S.Store self.new.conn) → OnOk result (IsTrue (state S.Store self.new.conn).is_open × IsReady (state S.Store self.new.conn) × IsNewDesk (tables_of (state S.Store self.new.conn).now.trees)) }
+        ensures failed { HasCleanDisk (state S.Store self.new.conn) → OnErr result (IsTrue (state S.Store self.new.conn).is_open → IsTrue (state S.Store self.old.conn).is_open × ((state S.Store self.new.conn).now ≡ (state S.Store self.old.conn).now)) }
+        ensures counted { OnErr result (Rises self.old.refusals self.new.refusals) }
+        ensures stop { HasCleanDisk (state S.Store self.new.conn) → (left : Tables) → Leaves (state S.Store self.new.conn).may_leave left → Leaves (state S.Store self.old.conn).may_leave left ⊎ IsNewDesk left }
+    {
+        let _outside = self.conn.is_autocommit();
+        match init(&mut self.conn, self.heap) {
+            Ok(()) => Ok(()),
+            Err(_) => {
+                self.refusals = raised(self.refusals);
+                Err(StoreFault)
+            }
+        }
+    }
+}
+
+impl<A: Allocator + Copy, S: Alter + Drop> Store<A> for SqlStore<S> {
+    ghost use Rattle.fab_store.specs.Laws.{settled_tables};
+
+    ghost is_clean = { λ s. HasCleanDisk (state S.Store s.conn) };
+
+    ghost is_open = { λ s. IsTrue (state S.Store s.conn).is_open };
+
+    ghost is_ready = { λ s. IsReady (state S.Store s.conn) };
+
+    ghost tables = { λ s. tables_of (state S.Store s.conn).now.trees };
+
+    ghost may_leave = { λ s. Leaves (state S.Store s.conn).may_leave };
+
+    ghost refused = { λ s. s.refusals };
+
+    ghost settled = { λ s left is_open ready may. settled_tables _ left is_open ready (λ db is leaves. S.Store.settled s.conn.store db is leaves) may };
+
+    fn refusals(&self) -> u64 {
+        self.refusals
+    }
+
+    fn load(&mut self, alloc: A) -> Result<World<A>, OpenFault> {
+        let _outside = self.conn.is_autocommit();
+        match load_world(alloc, self.heap, &mut self.conn) {
+            Ok(world) => Ok(world),
+            Err(OpenFault::Store) => {
+                self.refusals = raised(self.refusals);
+                Err(OpenFault::Store)
+            }
+            Err(fault) => Err(fault),
+        }
+    }
+
+    fn migrate(&mut self) -> Result<bool, OpenFault> {
+        Ok(false)
+    }
+
+    fn commit(&mut self, changes: &LineChanges<A>) -> Result<(), StoreFault> {
+        match apply(&mut self.conn, changes) {
+            Ok(()) => Ok(()),
+            Err(_) => {
+                self.refusals = raised(self.refusals);
+                Err(StoreFault)
+            }
+        }
+    }
+
+    fn paths_of(&mut self, alloc: A, host: &Name) -> Result<Vec<Path, A>, StoreFault> {
+        match find_paths(alloc, self.heap, &mut self.conn, host) {
+            Ok(paths) => Ok(paths),
+            Err(fault) => {
+                self.refusals = raised(self.refusals);
+                Err(fault)
+            }
+        }
+    }
+}
