@@ -4,21 +4,24 @@ ghost use Rattle.fab_world.specs.Soundness.{IsSound};
 ghost use Rattle.fab_world.specs.Worlds.{records_of};
 
 use crate::asks::{Ask, command};
-use crate::policy::policy;
+use crate::policies::policy;
 use crate::replies::tell;
 use fab_desk_base::Reply;
 use fab_machine::answer;
 use fab_policy::Policy;
 use fab_reach::{PathBook, PlainBook, View};
 use fab_world::World;
-use std::alloc::Global;
+use std::alloc::{Allocator, Global};
 use std::test::Fail;
 
 /// A token, a moment, what is asked, and the text of the reply.
 pub type Turn = (&'static str, u64, Ask, &'static str);
 
 /// Whether this is the text of the reply.
-fn is_told(alloc: Global, reply: &Reply<Global>, wanted: &str) -> Result<bool, Fail> {
+///
+/// # Errors
+/// Where there is no memory.
+pub fn is_told(alloc: Global, reply: &Reply<Global>, wanted: &str) -> Result<bool, Fail> {
     let mut text = String::new(alloc);
     tell(&mut text, reply)?;
     Ok(text.as_str() == wanted)
@@ -83,7 +86,11 @@ fn are_all_answered<B: PathBook<Global>>(
 }
 
 /// A book that stands at the world.
-fn opened<B: PathBook<Global>>(alloc: Global, world: &World<Global>) -> Result<B, Fail>
+///
+/// # Errors
+/// Where a host group has what is no host, or a storage group a target that its array does not hold,
+/// and where there is no memory.
+pub fn opened<A: Allocator + Copy, B: PathBook<A>>(alloc: A, world: &World<A>) -> Result<B, Fail>
     ensures { IfOk result (λ book. B.stands book (records_of world.now)) }
 {
     let view = View::of(&world.inventory, &world.config);
@@ -94,15 +101,17 @@ fn opened<B: PathBook<Global>>(alloc: Global, world: &World<Global>) -> Result<B
     Ok(book)
 }
 
-/// Whether a new desk with this policy answers each turn of these lists as it says.
+/// Whether a desk with this policy and this world answers each turn of these lists as it says.
 fn is_kept<B: PathBook<Global>>(
     alloc: Global,
     policy: &Policy,
+    world: &mut World<Global>,
     stages: &[&[Turn]],
-) -> Result<bool, Fail> {
-    let mut world = World::new(alloc);
-    let mut book: B = opened(alloc, &world)?;
-    are_all_answered(alloc, &mut world, &mut book, policy, stages)
+) -> Result<bool, Fail>
+    requires sound { IsSound world.old }
+{
+    let mut book: B = opened(alloc, world)?;
+    are_all_answered(alloc, world, &mut book, policy, stages)
 }
 
 /// Whether a new desk answers each turn of these lists as it says, one list after the other.
@@ -111,5 +120,23 @@ fn is_kept<B: PathBook<Global>>(
 /// Where a turn says no command, or there is no memory.
 pub fn holds(alloc: Global, stages: &[&[Turn]]) -> Result<bool, Fail> {
     let policy = policy(alloc)?;
-    is_kept::<PlainBook<Global>>(alloc, &policy, stages)
+    let mut world = World::new(alloc);
+    is_kept::<PlainBook<Global>>(alloc, &policy, &mut world, stages)
+}
+
+/// Whether a desk with this world answers each turn of these lists as it says, one list after the
+/// other.
+///
+/// # Errors
+/// Where the world is not sound, a turn says no command, or there is no memory.
+pub fn holds_in(
+    alloc: Global,
+    world: &mut World<Global>,
+    stages: &[&[Turn]],
+) -> Result<bool, Fail> {
+    if !world.is_sound(alloc)? {
+        return Err(Fail::from("world"));
+    }
+    let policy = policy(alloc)?;
+    is_kept::<PlainBook<Global>>(alloc, &policy, world, stages)
 }

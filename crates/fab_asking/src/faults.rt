@@ -91,7 +91,10 @@ fn tell_plan_fault(text: &mut String, fault: DeskFault) -> Result<(), AllocError
         DeskFault::OwnPlan => write!(text, "own-plan"),
         DeskFault::PortClash(port) => write!(text, "port-clash {port}"),
         DeskFault::Plan { step, refusal } => tell_step(text, step, refusal),
-        _ => write!(text, "memory, store or halted"),
+        DeskFault::Memory => write!(text, "memory"),
+        DeskFault::Store => write!(text, "store"),
+        DeskFault::Halted => write!(text, "halted"),
+        _ => Ok(()),
     }
 }
 

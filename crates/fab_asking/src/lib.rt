@@ -1,17 +1,21 @@
-//! A desk in memory that tests ask: commands as plain data, the texts of replies, and whether a new
-//! desk answers a list of commands as the list says. It is no part of the product.
+//! A desk in memory that tests ask: commands as plain data, the texts of replies, and whether a desk
+//! answers lists of commands as the lists say, one by one or all at once. It is no part of the
+//! product.
 #![tactic(auto)]
 
 mod asks;
 mod desk;
 mod faults;
-mod policy;
+mod lists;
+mod policies;
 mod replies;
 mod reports;
 mod stages;
 mod wide;
 
-pub use asks::{Ask, See};
-pub use desk::{Turn, holds};
+pub use asks::{Ask, See, command};
+pub use desk::{Turn, holds, holds_in, is_told, opened};
+pub use lists::holds_at_once;
+pub use policies::policy;
 pub use stages::{ADA, FIRST, FIRST_PLAN, I1, I2, I3, NO_PORTS, PORTS, SECOND, TP1, TP2, WORLD};
 pub use wide::Wide;

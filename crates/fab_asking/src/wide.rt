@@ -1,5 +1,5 @@
 //! As many paths as there may be, or more: a host of 64 ports, an array of 32, and a plan that maps
-//! one volume at some units over all of them.
+//! one volume at some units over all of them; and long lists of ports.
 ghost use Rattle.std.specs.Prelude.{◌<◌, ◌≤◌};
 
 use crate::asks::{name, port, stage};
@@ -14,6 +14,8 @@ use std::test::Fail;
 pub enum Wide {
     /// All ports, in fabric A.
     Ports,
+    /// So many ports, in fabric A, at most 65536: first those, and then more.
+    List(u64),
     /// The host of the first 64.
     Host,
     /// The array of the others.
@@ -25,8 +27,11 @@ pub enum Wide {
 /// The number of the first port.
 const FIRST: u64 = 0x1000_0000_0000_1000;
 
+/// How many ports there may be in a list.
+const MOST: u64 = 65536;
+
 fn listed(number: u64) -> Result<PortRow, Fail>
-    requires { number < 96 }
+    requires { number < MOST }
 {
     let name = port(FIRST + number)?;
     let node = port(0x2000_0000_0000_0001)?;
@@ -34,16 +39,21 @@ fn listed(number: u64) -> Result<PortRow, Fail>
     Ok(PortRow { name, node, place })
 }
 
-fn rows(alloc: Global) -> Result<Vec<PortRow, Global>, Fail> {
+fn rows(alloc: Global, count: u64) -> Result<Vec<PortRow, Global>, Fail>
+    requires { count ≤ MOST }
+{
     let mut rows = Vec::new(alloc);
-    for number in 0..96 {
+    for number in 0..count {
         rows.push(listed(number)?)?;
     }
     Ok(rows)
 }
 
-fn import(alloc: Global) -> Result<Command<Global>, Fail> {
-    let rows = rows(alloc)?;
+fn import(alloc: Global, count: u64) -> Result<Command<Global>, Fail> {
+    if count > MOST {
+        return Err(Fail::from("list"));
+    }
+    let rows = rows(alloc, count)?;
     let fabric = Fabric::A;
     Ok(Command::Import { fabric, rows })
 }
@@ -113,7 +123,8 @@ fn plan(alloc: Global, units: u64) -> Result<Command<Global>, Fail> {
 /// The command for a part.
 pub fn command_for(alloc: Global, part: Wide) -> Result<Command<Global>, Fail> {
     match part {
-        Wide::Ports => import(alloc),
+        Wide::Ports => import(alloc, 96),
+        Wide::List(count) => import(alloc, count),
         Wide::Host => host(alloc),
         Wide::Array => array(alloc),
         Wide::Plan(units) => plan(alloc, units),

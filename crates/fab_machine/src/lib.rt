@@ -18,6 +18,7 @@ mod steps;
 mod verdicts;
 
 pub use answers::{Asked, answer, answer_all};
-pub use change::{Change, take_over};
-pub use proposing::{Proposal, propose};
+pub use change::{Change, lists_of, take_over};
+pub use proposing::{Proposal, propose, sender_of};
 pub use report::Report;
+pub use verdicts::Sender;

@@ -144,7 +144,7 @@ fn answer_to<A: Allocator + Copy, B: PathBook<A>>(
 }
 
 /// The sender of a request: the one caller who has the token.
-fn sender_of(policy: &Policy, token: &str, moment: u64) -> Option<Sender>
+pub fn sender_of(policy: &Policy, token: &str, moment: u64) -> Option<Sender>
     ensures { IsSenderOf policy.now token.now moment result }
 {
     let Some(id) = policy.caller(token) else {

@@ -1,5 +1,5 @@
 //! Tests of plans: what plan texts make of a configuration beside an inventory, what refuses them,
-//! and the states of a plan. Nothing here is part of the product.
+//! the states of a plan, and which steps are the same. Nothing here is part of the product.
 #![tactic(auto)]
 
 #[cfg(test)]
@@ -8,6 +8,8 @@ mod facts;
 mod refusals;
 #[cfg(test)]
 mod rows;
+#[cfg(test)]
+mod same;
 #[cfg(test)]
 mod states;
 #[cfg(test)]

@@ -1,0 +1,45 @@
+//! Lists of requests are answered as the same requests one by one.
+
+use fab_asking::{ADA, Ask, FIRST, I1, SECOND, See, TP1, Turn, WORLD, holds, holds_at_once};
+use std::alloc::Global;
+use std::test::Fail;
+
+/// Requests that are answered by what those before them in the list left, refused ones among them.
+const MIXED: &[Turn] = &[
+    ("t-zed", 0, Ask::Show(See::Joined(I1, TP1)), "no-caller"),
+    (ADA, 0, Ask::Rollback("p1"), "not-last p2"),
+    (
+        ADA,
+        0,
+        Ask::Rollback("p2"),
+        "done p2 at 9
+-A 10:00:00:00:00:00:00:02 50:00:00:00:00:00:00:01 v2 0
+-A 10:00:00:00:00:00:00:03 50:00:00:00:00:00:00:01 v2 0",
+    ),
+    (ADA, 0, Ask::Show(See::Paths("db2")), "paths db2"),
+    (
+        ADA,
+        0,
+        Ask::Rollback("p1"),
+        "done p1 at 10
+-A 10:00:00:00:00:00:00:01 50:00:00:00:00:00:00:01 v1 0",
+    ),
+    (ADA, 0, Ask::Show(See::Joined(I1, TP1)), "apart"),
+    (ADA, 0, Ask::Rollback("p1"), "wrong-state rolled-back"),
+    (ADA, 0, Ask::DropVolume("v2"), "changed at 11"),
+    (ADA, 0, Ask::DropVolume("v2"), "not-found"),
+];
+
+/// The lists, an empty one among them.
+const LISTS: &[&[Turn]] = &[WORLD, FIRST, &[], SECOND, MIXED];
+
+/// Whether a desk answers the lists as they say, both one by one and at once.
+fn are_answered_alike(alloc: Global, lists: &[&[Turn]]) -> Result<bool, Fail> {
+    Ok(holds(alloc, lists)? && holds_at_once(alloc, lists)?)
+}
+
+#[test]
+fn lists_are_answered_as_their_requests(rt: HostRuntime) -> Result<(), Fail> {
+    assert!(rt; are_answered_alike(rt.alloc(), LISTS)?);
+    Ok(())
+}

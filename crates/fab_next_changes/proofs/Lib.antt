@@ -1,0 +1,12 @@
+pub mod Listed
+pub mod Sorted
+pub mod OnePlan
+pub mod Prefixes
+pub mod PathsTold
+pub mod UndoRows
+pub mod Quiet
+pub mod Given
+pub mod PlanPlaces
+pub mod PlansPut
+pub mod PlansTurned
+pub mod Together

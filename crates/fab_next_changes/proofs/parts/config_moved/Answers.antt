@@ -1,0 +1,17 @@
+use Rattle.std.proofs.Common.{◌≡◌, inl, inr, ap, sym, subst}
+use Rattle.fab_reach.specs.Records.{ConfigRows}
+use Rattle.fab_rows.specs.Differences.{IsDifference}
+use Rattle.fab_next.specs.Nexts.{next_world}
+use Rattle.fab_next_changes.proofs.parts.config_moved.Goals as goal
+
+pub returns-in-Same : goal.returns-in-Same
+returns-in-Same g c =
+    let w = c.args.world.now in
+    let stays : (next_world w c.args.next.now).config ≡ w.config = elim c.in-Same.is [
+      | inl e ↦ ap (λ n. (next_world w n).config) e
+      | inr more ↦ elim more [
+        | inl e ↦ ap (λ n. (next_world w n).config) e.1
+        | inr more ↦ elim more [ inl e ↦ ap (λ n. (next_world w n).config) e.3 | inr e ↦ ap (λ n. (next_world w n).config) e.2 ]
+      ]
+    ] in
+    subst (λ (d : ConfigRows). IsDifference w.config d c.same_config.result.taken.items c.same_config.result.added.items) (sym stays) (c.same_config.ensures w.config)

@@ -1,0 +1,127 @@
+//! Which steps are the same.
+
+use fab_plans_base::{Step, read_plan};
+use fab_same_steps::are_same;
+use std::alloc::Global;
+use std::test::Fail;
+
+/// Steps of each kind, no two of which are the same: most differ from the one before in one part.
+const DIFFERENT: &[&str] = &[
+    "alias.put A n wwpn=0000000000000001",
+    "alias.put B n wwpn=0000000000000001",
+    "alias.put A m wwpn=0000000000000001",
+    "alias.put A n wwpn=0000000000000002",
+    "alias.put A n wwnn=0000000000000001",
+    "alias.put A n dp=1,2",
+    "alias.put A n dp=1,3",
+    "alias.put A n dp=2,2",
+    "alias.put A n wwpn=0000000000000001 dp=1,2",
+    "alias.put A n dp=1,2 wwpn=0000000000000001",
+    "alias.drop A n",
+    "alias.drop B n",
+    "zone.put A n wwpn=0000000000000001",
+    "zone.put A n alias=a",
+    "zone.put A n alias=b",
+    "zone.put A n alias=a alias=a",
+    "zone.drop A n",
+    "zone.drop A m",
+    "set.put A n a",
+    "set.put A n a b",
+    "set.put A n b a",
+    "set.put B n a",
+    "set.drop A n",
+    "activate A n",
+    "activate B n",
+    "activate A m",
+    "deactivate A",
+    "deactivate B",
+    "default A permit",
+    "default A deny",
+    "default B permit",
+    "hg.put n t a",
+    "hg.put n t a b",
+    "hg.put n u a",
+    "hg.put m t a",
+    "hg.drop n",
+    "sg.new n t a",
+    "sg.new n t b",
+    "sg.new n u a",
+    "sg.new m t a",
+    "sg.drop n",
+    "sg.host n a",
+    "sg.host n b",
+    "sg.unhost n a",
+    "sg.target n 0000000000000001",
+    "sg.target n 0000000000000002",
+    "sg.untarget n 0000000000000001",
+    "sg.map n 0 v",
+    "sg.map n 1 v",
+    "sg.map n 0 w",
+    "sg.unmap n 0",
+    "sg.unmap n 1",
+    "sg.expose n",
+    "sg.expose m",
+    "sg.hide n",
+    "sg.hide n\nsg.hide n",
+    "sg.hide n\nsg.expose n",
+    "sg.expose n\nsg.hide n",
+];
+
+/// Two texts of the same steps.
+const EQUAL: &[(&str, &str)] = &[
+    (
+        "alias.put A n wwpn=50:00:00:00:00:00:00:AB\nsg.target g 0x50000000000000AB",
+        "alias.put A n wwpn=50000000000000ab\nsg.target g 50:00:00:00:00:00:00:ab\n",
+    ),
+    ("zone.put A z dp=1,2", "zone.put A z dp=01,002\n"),
+    ("sg.map g 0 v\nsg.unmap g 7", "sg.map g 00 v\nsg.unmap g 07"),
+];
+
+/// Whether the steps are the same as those of the text, either way round.
+fn are_like(alloc: Global, steps: &[Step<Global>], text: &str) -> Result<bool, Fail> {
+    let others = read_plan(alloc, text)?;
+    let others = others.as_slice();
+    let same = are_same(steps, others);
+    if same != are_same(others, steps) {
+        return Err(Fail::from("one way round alone"));
+    }
+    Ok(same)
+}
+
+/// Whether these steps are the same as those of the text at the place, and of no other.
+fn are_like_alone(alloc: Global, steps: &[Step<Global>], at: usize) -> Result<bool, Fail> {
+    for (place, text) in DIFFERENT.iter().enumerate() {
+        if are_like(alloc, steps, text)? != (place == at) {
+            return Ok(false);
+        }
+    }
+    Ok(true)
+}
+
+/// Whether the steps of the text at the place are the same as themselves alone.
+fn is_different(alloc: Global, at: usize, text: &str) -> Result<bool, Fail> {
+    let steps = read_plan(alloc, text)?;
+    are_like_alone(alloc, steps.as_slice(), at)
+}
+
+/// Whether two texts are of the same steps.
+fn are_equal(alloc: Global, texts: (&str, &str)) -> Result<bool, Fail> {
+    let steps = read_plan(alloc, texts.0)?;
+    are_like(alloc, steps.as_slice(), texts.1)
+}
+
+#[test]
+fn each_step_is_the_same_as_itself_alone(rt: HostRuntime) -> Result<(), Fail> {
+    for (at, text) in DIFFERENT.iter().enumerate() {
+        assert!(rt; is_different(rt.alloc(), at, text)?, "{text}");
+    }
+    Ok(())
+}
+
+#[test]
+fn spelling_makes_no_difference(rt: HostRuntime) -> Result<(), Fail> {
+    for texts in EQUAL {
+        assert!(rt; are_equal(rt.alloc(), *texts)?, "{}", texts.0);
+    }
+    Ok(())
+}
