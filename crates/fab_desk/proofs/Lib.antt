@@ -1,0 +1,3 @@
+pub mod Tied
+pub mod HostPaths
+pub mod AnsweredByDesk

@@ -1,0 +1,10 @@
+use Rattle.std.proofs.Common.{sym, subst}
+use Rattle.fab_desk.specs.Desks.{IsTied}
+use Rattle.fab_desk.proofs.Tied.{found_tied, ok_as}
+use Rattle.fab_desk.proofs.opening.opened.Goals as goal
+
+pub returns-in-Ok-clause-tied : goal.returns-in-Ok-clause-tied
+returns-in-Ok-clause-tied g c clean =
+    let ready = c.in-Ok.ensures.ready clean in
+    let tied = found_tied g.S.Store c.load.new.self c.in-Ok.world g.met.S.Store.settled ready.0 ready.1 c.in-Ok.ensures.world.1 (c.in-Ok.ensures.rows clean) in
+    ok_as c.ledger_of.result (λ ledger is. (ready.0, subst (IsTied g.S.Store c.load.new.self) (sym is) tied)) c.ledger_of.ensures.world

@@ -1,0 +1,27 @@
+//! A sound world, with a book of its paths.
+
+use fab_reach::PathBook;
+use fab_world::World;
+use std::alloc::Allocator;
+use std::marker::Model;
+
+/// A world with a book of its paths. A contract sees the world, which is sound, and at which the book
+/// stands.
+#[derive(Drop)]
+pub struct Ledger<A: Allocator + Copy, B: PathBook<A>> {
+    pub world: World<A>,
+    pub book: B,
+}
+
+impl<A: Allocator + Copy, B: PathBook<A>> Model for Ledger<A, B> {
+    ghost use Rattle.fab_world.specs.Soundness.{IsSound};
+    ghost use Rattle.fab_world.specs.Worlds.{WorldRows, records_of, world_code};
+
+    ghost Value = { WorldRows };
+
+    ghost coded = { world_code };
+
+    ghost view = { λ l. l.world };
+
+    ghost invariant = { λ l. IsSound l.world × B.stands l.book (records_of l.world) };
+}

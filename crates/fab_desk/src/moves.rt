@@ -1,0 +1,38 @@
+//! The lines that a change removes and adds.
+ghost use Rattle.std.specs.Prelude.{IfOk};
+ghost use Rattle.fab_desk_base.specs.Answers.{IsMove};
+ghost use Rattle.fab_desk_laws.specs.Keeping.{KeepsHosts};
+ghost use Rattle.fab_next.specs.Nexts.{next_world, Suits};
+ghost use Rattle.fab_stores.specs.Moves.{AreMoves};
+ghost use Rattle.fab_world.specs.Soundness.{IsSound};
+ghost use Rattle.fab_world.specs.Worlds.{records_of};
+
+use fab_next::Next;
+use fab_next_changes::next_changes;
+use fab_reach::Delta;
+use fab_row_lines::change_lines;
+use fab_stores::LineChanges;
+use fab_world::World;
+use std::alloc::{AllocError, Allocator};
+
+/// The lines in which the world and the next one differ, where the lists are the paths gained and
+/// lost.
+///
+/// # Errors
+/// `AllocError` where there is no memory.
+pub fn moves<A: Allocator + Copy>(
+    alloc: A,
+    world: &World<A>,
+    next: &Next<A>,
+    delta: &Delta<A>,
+) -> Result<LineChanges<A>, AllocError>
+    requires suits { Suits world.now next.now }
+    requires sound { IsSound world.now }
+    requires next_sound { IsSound (next_world world.now next.now) }
+    requires paths { IsMove world.now (next_world world.now next.now) delta.now }
+    requires hosts { KeepsHosts (records_of world.now) (records_of (next_world world.now next.now)) }
+    ensures { IfOk result (AreMoves world.now (next_world world.now next.now)) }
+{
+    let changes = next_changes(alloc, world, next, delta)?;
+    change_lines(alloc, &changes)
+}

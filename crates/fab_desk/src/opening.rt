@@ -1,0 +1,64 @@
+//! A world with a book of its paths, from a store.
+ghost use Rattle.std.specs.Prelude.{◌≡◌, IfOk, IfErr};
+ghost use Rattle.fab_stores.specs.declared.faults.OpenFault.TheVariants as faults;
+ghost use Rattle.fab_stores.specs.Calls.{IsCounted, OpensNot};
+ghost use Rattle.fab_tables.specs.Tables.{Tables};
+ghost use Rattle.fab_world.specs.Soundness.{IsSound};
+ghost use Rattle.fab_world.specs.Worlds.{records_of};
+ghost use Rattle.fab_desk.specs.Desks.{IsTied};
+
+use crate::ledger::Ledger;
+use fab_reach::{PathBook, View};
+use fab_stores::{OpenFault, Store};
+use fab_world::World;
+use std::alloc::{AllocError, Allocator};
+
+/// A book of the paths of a sound world.
+///
+/// # Errors
+/// `AllocError` where there is no memory.
+fn book_of<A: Allocator + Copy, B: PathBook<A>>(alloc: A, world: &World<A>) -> Result<B, AllocError>
+    requires { IsSound world.now }
+    ensures { IfOk result (λ book. B.stands book (records_of world.now)) }
+{
+    B::open(alloc, &View::of(&world.inventory, &world.config))
+}
+
+/// A sound world with a book of its paths.
+///
+/// # Errors
+/// `Memory` where there is none.
+fn ledger_of<A: Allocator + Copy, B: PathBook<A>>(
+    alloc: A,
+    world: World<A>,
+) -> Result<Ledger<A, B>, OpenFault>
+    requires { IsSound world }
+    ensures world { IfOk result (λ ledger. ledger ≡ world) }
+    ensures fault { IfErr result (λ e. e ≡ faults.Memory) }
+{
+    match book_of(alloc, &world) {
+        Ok(book) => Ok(Ledger { world, book }),
+        Err(_) => Err(OpenFault::Memory),
+    }
+}
+
+/// The world that the tables of the store have, with a book of its paths. The store is as it was.
+///
+/// # Errors
+/// As for `Store::load`.
+pub fn opened<A: Allocator + Copy, S: Store<A>, B: PathBook<A>>(
+    alloc: A,
+    store: &mut S,
+) -> Result<Ledger<A, B>, OpenFault>
+    ensures clean { S.is_clean store.new → S.is_clean store.old }
+    ensures tied { S.is_clean store.new → IfOk result (λ ledger. S.is_open store.new × IsTied S.Store store.new ledger) }
+    ensures same { S.is_clean store.new → S.is_open store.new → S.is_open store.old × (S.tables store.new ≡ S.tables store.old) }
+    ensures fault { S.is_clean store.new → IfErr result (OpensNot (S.tables store.old)) }
+    ensures counted { IfErr result (IsCounted (S.refused store.old) (S.refused store.new)) }
+    ensures stop { S.is_clean store.new → (left : Tables) → S.may_leave store.new left → S.may_leave store.old left }
+{
+    match store.load(alloc) {
+        Ok(world) => ledger_of(alloc, world),
+        Err(fault) => Err(fault),
+    }
+}
