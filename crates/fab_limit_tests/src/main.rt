@@ -12,3 +12,6 @@ mod lists;
 mod small;
 #[cfg(test)]
 mod worlds;
+
+/// Nothing: the tests are all there is.
+fn main() {}

@@ -10,3 +10,6 @@ mod worked;
 
 pub use asks::Ask;
 pub use desk::{Sizes, Turn, holds};
+
+/// Nothing: the tests are all there is.
+fn main() {}

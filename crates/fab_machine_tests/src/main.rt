@@ -11,3 +11,6 @@ mod judged;
 mod refusals;
 #[cfg(test)]
 mod shows;
+
+/// Nothing: the tests are all there is.
+fn main() {}

@@ -8,3 +8,6 @@ mod odd;
 mod stored;
 #[cfg(test)]
 mod worlds;
+
+/// Nothing: the tests are all there is.
+fn main() {}
