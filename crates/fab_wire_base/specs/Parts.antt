@@ -3,6 +3,7 @@ use Rattle.std.specs.Prelude.{ℕ, List, Option, MatchOption}
 use Rattle.percent_encoding.specs.Percent.{percent_decode}
 use Rattle.fab_names.specs.Fabrics.{SpellsFabric}
 use Rattle.fab_names.specs.WorldWideNames.{SpellsWwn}
+use Rattle.fab_names.specs.Names.{IsNameText, SpellsName}
 use Rattle.fab_names.specs.declared.fabric.Fabric.{Fabric}
 use Rattle.fab_wire_base.specs.Segments.{segment_at}
 
@@ -17,3 +18,7 @@ IsWwnPart slashes path found = MatchOption found ((n : ℕ) → ¬ (SpellsWwn (p
 -- the fabric that the part spells, or none where it spells none
 abbrev pub IsFabricPart : ℕ → List ℕ → Option Fabric → Type 0
 IsFabricPart slashes path found = MatchOption found ((fabric : Fabric) → ¬ (SpellsFabric (part_at slashes path) fabric)) (SpellsFabric (part_at slashes path))
+
+-- the name that the part is, or none where it is none
+abbrev pub IsNamePart : ℕ → List ℕ → Option (List ℕ) → Type 0
+IsNamePart slashes path found = MatchOption found (¬ (IsNameText (part_at slashes path))) (SpellsName (part_at slashes path))

@@ -2,12 +2,13 @@
 
 ghost use Rattle.std.specs.Prelude.{IfOk, MatchOption};
 ghost use Rattle.fab_names.specs.Fabrics.{SpellsFabric};
+ghost use Rattle.fab_names.specs.Names.{IsNameText, SpellsName};
 ghost use Rattle.fab_names.specs.declared.fabric.Fabric as fabrics;
-ghost use Rattle.fab_wire_base.specs.Parts.{IsWwnPart, IsFabricPart};
+ghost use Rattle.fab_wire_base.specs.Parts.{IsWwnPart, IsFabricPart, IsNamePart};
 
 use crate::routes::decoded_segment;
 use fab_files_base::texts::read_wwn;
-use fab_names::{Fabric, Wwn};
+use fab_names::{Fabric, Name, Wwn};
 use std::alloc::{AllocError, Allocator};
 use std::str;
 
@@ -21,6 +22,19 @@ pub fn read_fabric(bytes: &[u8]) -> Option<Fabric>
     };
     match Fabric::read(text) {
         Ok(fabric) => Some(fabric),
+        Err(_) => None,
+    }
+}
+
+/// The name that bytes are, if they are one.
+pub fn read_name(bytes: &[u8]) -> Option<Name>
+    ensures { MatchOption result (¬ (IsNameText bytes.now)) (SpellsName bytes.now) }
+{
+    let Ok(text) = str::from_utf8(bytes) else {
+        return None;
+    };
+    match Name::read(text) {
+        Ok(name) => Some(name),
         Err(_) => None,
     }
 }
@@ -47,4 +61,16 @@ pub fn fabric_part<A: Allocator>(
 {
     let part = decoded_segment(alloc, path, slashes)?;
     Ok(read_fabric(part.as_slice()))
+}
+
+/// The name that the part of a path behind so many slashes is, if it is one.
+pub fn name_part<A: Allocator>(
+    alloc: A,
+    path: &[u8],
+    slashes: usize,
+) -> Result<Option<Name>, AllocError>
+    ensures { IfOk result (IsNamePart slashes path.now) }
+{
+    let part = decoded_segment(alloc, path, slashes)?;
+    Ok(read_name(part.as_slice()))
 }

@@ -1,0 +1,5 @@
+pub mod Lines
+pub mod PathLists
+pub mod Reports
+pub mod ActiveSets
+pub mod Counting

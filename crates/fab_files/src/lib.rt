@@ -1,0 +1,19 @@
+//! Texts of what the desk shows, for files and screens: a host's paths, the report on its volumes,
+//! and the active set of a fabric.
+//!
+//! Each text is put piece by piece into a sink, so that it is written, or its bytes are counted,
+//! without being built in memory. Each line ends with a line feed.
+#![tactic(auto)]
+
+mod active;
+mod columns;
+mod counts;
+mod paths;
+mod reports;
+#[cfg(test)]
+mod tests;
+
+pub use active::active_text;
+pub use columns::{COUNT_WIDTH, NAME_WIDTH};
+pub use paths::paths_csv;
+pub use reports::{ReportFault, report};

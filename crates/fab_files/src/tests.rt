@@ -1,0 +1,263 @@
+//! Texts of lists of paths, and of active sets.
+use crate::{active_text, paths_csv, report};
+use fab_desk_base::ZoneMembers;
+use fab_json::counted::Counted;
+use fab_json::sink::Size;
+use fab_names::{Fabric, Member, Name, Wwn};
+use fab_reach::Path;
+use fab_zoning::DefaultFlag;
+use std::alloc::Global;
+use std::test::Fail;
+
+/// A path: its fabric, initiator, target, volume and unit.
+type Row = (&'static str, &'static str, &'static str, &'static str, u16);
+
+/// A host's paths, and their text.
+type Lines = (&'static str, &'static [Row], &'static str);
+
+const I1: &str = "10:00:00:00:00:00:00:01";
+
+const T1: &str = "50:00:00:00:00:00:00:01";
+
+/// Sixty-four characters, as many as a name may have.
+const LONGEST: &str = "h234567890123456789012345678901234567890123456789012345678901234";
+
+/// A volume's name as wide as its column, and one wider by a character.
+const AS_WIDE: &str = "volume-of-24-characters-";
+
+const WIDER: &str = "volume-of-25-characters--";
+
+/// No path; one path; paths of both fabrics, with the least and the greatest unit.
+const CSV: &[Lines] = &[
+    ("db1", &[], "fabric,host,initiator,target,volume,lun\n"),
+    (
+        "db1",
+        &[("A", I1, T1, "v1", 0)],
+        "fabric,host,initiator,target,volume,lun\n\
+         A,db1,10:00:00:00:00:00:00:01,50:00:00:00:00:00:00:01,v1,0\n",
+    ),
+    (
+        LONGEST,
+        &[
+            ("A", "0x00000000000000ff", "ABCDEF0123456789", "v1", 7),
+            ("B", "ffffffffffffffff", T1, "V$^_-9", 16383),
+        ],
+        "fabric,host,initiator,target,volume,lun\n\
+         A,h234567890123456789012345678901234567890123456789012345678901234,\
+         00:00:00:00:00:00:00:ff,ab:cd:ef:01:23:45:67:89,v1,7\n\
+         B,h234567890123456789012345678901234567890123456789012345678901234,\
+         ff:ff:ff:ff:ff:ff:ff:ff,50:00:00:00:00:00:00:01,V$^_-9,16383\n",
+    ),
+];
+
+/// No path; one path, over A or over B; paths of three volumes that do not stand together, of which
+/// one is reached over both fabrics; names as wide as their columns and wider.
+const REPORTS: &[Lines] = &[
+    (
+        "db1",
+        &[],
+        "HOST                     VOLUME                        A      B STATE\n",
+    ),
+    (
+        "db1",
+        &[("A", I1, T1, "v1", 0)],
+        "HOST                     VOLUME                        A      B STATE\n\
+         db1                      v1                            1      0 ONE\n",
+    ),
+    (
+        "db1",
+        &[("B", I1, T1, "v1", 0)],
+        "HOST                     VOLUME                        A      B STATE\n\
+         db1                      v1                            0      1 ONE\n",
+    ),
+    (
+        "db1",
+        &[
+            ("A", I1, T1, "v2", 0),
+            ("A", I1, T1, "v2", 1),
+            ("A", T1, I1, "V3", 2),
+            ("A", T1, I1, "v1", 3),
+            ("B", I1, T1, "v1", 0),
+            ("B", I1, T1, "v2", 1),
+            ("B", T1, I1, "v1", 2),
+        ],
+        "HOST                     VOLUME                        A      B STATE\n\
+         db1                      V3                            1      0 ONE\n\
+         db1                      v1                            1      2 BOTH\n\
+         db1                      v2                            2      1 BOTH\n",
+    ),
+    (
+        LONGEST,
+        &[("A", I1, T1, AS_WIDE, 0), ("B", I1, T1, WIDER, 0)],
+        "HOST                     VOLUME                        A      B STATE\n\
+         h234567890123456789012345678901234567890123456789012345678901234 \
+         volume-of-24-characters-      1      0 ONE\n\
+         h234567890123456789012345678901234567890123456789012345678901234 \
+         volume-of-25-characters--      0      1 ONE\n",
+    ),
+];
+
+/// An active set: its fabric, its name if there is one, what the default zone does, and its zones,
+/// each with its members; and its text.
+struct Active {
+    fabric: Fabric,
+    set: &'static str,
+    flag: DefaultFlag,
+    zones: &'static [(&'static str, &'static [&'static str])],
+    text: &'static str,
+}
+
+const ACTIVE: &[Active] = &[
+    Active {
+        fabric: Fabric::A,
+        set: "",
+        flag: DefaultFlag::Deny,
+        zones: &[],
+        text: "fabric A\nactive -\ndefault deny\n",
+    },
+    Active {
+        fabric: Fabric::B,
+        set: "s1",
+        flag: DefaultFlag::Permit,
+        zones: &[
+            (
+                "z1",
+                &[
+                    "wwpn=1000000000000001",
+                    "wwnn=0xABCDEF0000000002",
+                    "dp=012,0",
+                    "dp=239,4095",
+                ],
+            ),
+            ("z2", &["alias=disk"]),
+        ],
+        text: "fabric B\nactive s1\ndefault permit\n\
+               z1 wwpn=10:00:00:00:00:00:00:01\n\
+               z1 wwnn=ab:cd:ef:00:00:00:00:02\n\
+               z1 dp=12,0\n\
+               z1 dp=239,4095\n\
+               z2 alias=disk\n",
+    },
+];
+
+/// A path from its texts.
+fn path_of(row: &Row) -> Result<Path, Fail> {
+    let fabric = Fabric::read(row.0)?;
+    let initiator = Wwn::read(row.1)?;
+    let target = Wwn::read(row.2)?;
+    let volume = Name::read(row.3)?;
+    Ok(Path {
+        fabric,
+        initiator,
+        target,
+        volume,
+        unit: row.4,
+    })
+}
+
+/// Paths from their texts.
+fn paths_of(alloc: Global, rows: &[Row]) -> Result<Vec<Path>, Fail> {
+    let mut paths = Vec::new(alloc);
+    for row in rows {
+        paths.push(path_of(row)?)?;
+    }
+    Ok(paths)
+}
+
+/// Whether this is the text of the paths.
+fn is_csv(alloc: Global, host: &Name, paths: &[Path], text: &str) -> bool {
+    let mut writer = Counted::new(Vec::new(alloc));
+    let done = paths_csv(&mut writer, host, paths).is_ok();
+    done && writer.into_inner().as_slice() == text.as_bytes()
+}
+
+/// Whether this is the report on the paths.
+fn is_report(alloc: Global, host: &Name, paths: &[Path], text: &str) -> bool {
+    let mut writer = Counted::new(Vec::new(alloc));
+    let done = report(alloc, &mut writer, host, paths).is_ok();
+    done && writer.into_inner().as_slice() == text.as_bytes()
+}
+
+/// How many bytes the report on the paths has.
+fn report_len(alloc: Global, host: &Name, paths: &[Path]) -> u64 {
+    let mut size = Size::new();
+    let _ = report(alloc, &mut size, host, paths);
+    size.bytes()
+}
+
+/// Whether the paths have this text.
+fn csv_is_right(alloc: Global, case: &Lines) -> Result<bool, Fail> {
+    let host = Name::read(case.0)?;
+    let paths = paths_of(alloc, case.1)?;
+    Ok(is_csv(alloc, &host, &paths, case.2))
+}
+
+/// Whether the report on the paths is this text, also by a count of its bytes.
+fn report_is_right(alloc: Global, case: &Lines) -> Result<bool, Fail> {
+    let host = Name::read(case.0)?;
+    let paths = paths_of(alloc, case.1)?;
+    Ok(
+        is_report(alloc, &host, &paths, case.2)
+            && report_len(alloc, &host, &paths) == case.2.len() as u64,
+    )
+}
+
+/// A zone from its texts.
+fn zone_of(alloc: Global, name: &str, texts: &[&str]) -> Result<ZoneMembers<Global>, Fail> {
+    let name = Name::read(name)?;
+    let mut members = Vec::new(alloc);
+    for text in texts {
+        members.push(Member::read(text)?)?;
+    }
+    Ok(ZoneMembers { name, members })
+}
+
+/// Zones from their texts.
+fn zones_of(
+    alloc: Global,
+    zones: &[(&'static str, &'static [&'static str])],
+) -> Result<Vec<ZoneMembers<Global>>, Fail> {
+    let mut list = Vec::new(alloc);
+    for (name, texts) in zones {
+        list.push(zone_of(alloc, name, texts)?)?;
+    }
+    Ok(list)
+}
+
+/// Whether this is the text of the active set.
+fn is_active_text(alloc: Global, case: &Active, zones: &[ZoneMembers<Global>]) -> bool {
+    let mut writer = Counted::new(Vec::new(alloc));
+    let set = Name::read(case.set).ok();
+    let done = active_text(&mut writer, case.fabric, set, case.flag, zones).is_ok();
+    done && writer.into_inner().as_slice() == case.text.as_bytes()
+}
+
+/// Whether the active set has this text.
+fn active_is_right(alloc: Global, case: &Active) -> Result<bool, Fail> {
+    let zones = zones_of(alloc, case.zones)?;
+    Ok(is_active_text(alloc, case, &zones))
+}
+
+#[test]
+fn paths_are_listed(rt: HostRuntime) -> Result<(), Fail> {
+    for case in CSV {
+        assert!(rt; csv_is_right(rt.alloc(), case)?);
+    }
+    Ok(())
+}
+
+#[test]
+fn volumes_are_reported(rt: HostRuntime) -> Result<(), Fail> {
+    for case in REPORTS {
+        assert!(rt; report_is_right(rt.alloc(), case)?);
+    }
+    Ok(())
+}
+
+#[test]
+fn active_sets_are_shown(rt: HostRuntime) -> Result<(), Fail> {
+    for case in ACTIVE {
+        assert!(rt; active_is_right(rt.alloc(), case)?);
+    }
+    Ok(())
+}

@@ -1,0 +1,5 @@
+pub mod Subjects
+pub mod Commands
+pub mod Meanings
+pub mod Reading
+pub mod Laws

@@ -1,0 +1,4 @@
+pub mod Coming
+pub mod Deadlines
+pub mod Lines
+pub mod Turns

@@ -1,0 +1,4 @@
+mod Grown
+mod Named
+mod Found
+mod Reasons

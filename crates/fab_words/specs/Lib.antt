@@ -1,0 +1,5 @@
+pub mod CommandLine
+pub mod Building
+pub mod Values
+pub mod Asking
+pub mod Reading

@@ -1,0 +1,24 @@
+//! The command line of the program `sandesk`: its subcommands, their options, and what the words
+//! of a command line ask for.
+//!
+//! ```
+//! match read_words(alloc, words) {
+//!     Ok(Words::Paths(asked)) => show_paths(asked.access, asked.host),
+//!     ..
+//! }
+//! ```
+#![tactic(auto)]
+
+mod commands;
+mod options;
+mod reading;
+mod subcommands;
+#[cfg(test)]
+mod tests;
+mod values;
+mod words;
+
+pub use options::OptionKind;
+pub use reading::{WordsFault, read_words};
+pub use subcommands::{SUBCOMMANDS, Subcommand};
+pub use words::{Access, DryRun, Export, Import, Init, Once, Over, Paths, Serve, Words};

@@ -1,0 +1,109 @@
+//! What the words of a command line ask for.
+
+use fab_names::{Fabric, Name};
+
+/// What the words ask for.
+#[derive(Clone, Copy, Debug)]
+pub enum Words<'a> {
+    /// `init`: makes a database.
+    Init(Init<'a>),
+    /// `serve`: serves HTTP connections.
+    Serve(Serve<'a>),
+    /// `once`: answers one request.
+    Once(Once<'a>),
+    /// `import`: imports the ports of a fabric.
+    Import(Import<'a>),
+    /// `paths`: lists the paths of a host.
+    Paths(Paths<'a>),
+    /// `report`: reports on the volumes of a host.
+    Report(Paths<'a>),
+    /// `export`: shows the active set of a fabric.
+    Export(Export<'a>),
+    /// `dryrun`: tells what a plan would change.
+    DryRun(DryRun<'a>),
+}
+
+/// A caller at a database.
+#[derive(Clone, Copy, Debug)]
+pub struct Access<'a> {
+    /// The database's file.
+    pub db: &'a str,
+    /// The policy's file.
+    pub policy: &'a str,
+    /// The caller's token: 1 to 128 letters, digits and `-._~+/=`.
+    pub token: &'a str,
+}
+
+/// A database to be made.
+#[derive(Clone, Copy, Debug)]
+pub struct Init<'a> {
+    /// The database's file.
+    pub db: &'a str,
+}
+
+/// Connections to be served.
+#[derive(Clone, Copy, Debug)]
+pub struct Serve<'a> {
+    /// The database's file.
+    pub db: &'a str,
+    /// The policy's file.
+    pub policy: &'a str,
+    /// The address and the port, as they were given.
+    pub listen: &'a str,
+    /// How many connections; without it, until accepting one fails.
+    pub count: Option<u64>,
+}
+
+/// The desk that answers one request.
+#[derive(Clone, Copy, Debug)]
+pub enum Over<'a> {
+    /// A new desk in memory, under the sample policy.
+    Trial,
+    /// A new desk in memory, under the policy of a file.
+    Memory { policy: &'a str },
+    /// The desk of a database's file, under the policy of a file.
+    Database { policy: &'a str, db: &'a str },
+}
+
+/// A request to be answered.
+#[derive(Clone, Copy, Debug)]
+pub struct Once<'a> {
+    /// The desk that answers it.
+    pub over: Over<'a>,
+    /// The moment, in seconds since 1970; without it the clock's.
+    pub now: Option<u64>,
+}
+
+/// A port list to be imported.
+#[derive(Clone, Copy, Debug)]
+pub struct Import<'a> {
+    pub access: Access<'a>,
+    pub fabric: Fabric,
+    /// The port list's file.
+    pub file: &'a str,
+    /// The moment, in seconds since 1970; without it the clock's.
+    pub now: Option<u64>,
+}
+
+/// A host whose paths are asked for.
+#[derive(Clone, Copy, Debug)]
+pub struct Paths<'a> {
+    pub access: Access<'a>,
+    pub host: Name,
+}
+
+/// A fabric whose active set is asked for.
+#[derive(Clone, Copy, Debug)]
+pub struct Export<'a> {
+    pub access: Access<'a>,
+    pub fabric: Fabric,
+}
+
+/// A plan to be tried.
+#[derive(Clone, Copy, Debug)]
+pub struct DryRun<'a> {
+    pub access: Access<'a>,
+    pub plan: Name,
+    /// The moment, in seconds since 1970; without it the clock's.
+    pub now: Option<u64>,
+}
