@@ -15,9 +15,9 @@ type Row = (&'static str, &'static str, &'static str, &'static str, u16);
 /// A host's paths, and their text.
 type Lines = (&'static str, &'static [Row], &'static str);
 
-const I1: &str = "10:00:00:00:00:00:00:01";
+const INITIATOR: &str = "10:00:00:00:00:00:00:01";
 
-const T1: &str = "50:00:00:00:00:00:00:01";
+const TARGET: &str = "50:00:00:00:00:00:00:01";
 
 /// Sixty-four characters, as many as a name may have.
 const LONGEST: &str = "h234567890123456789012345678901234567890123456789012345678901234";
@@ -32,7 +32,7 @@ const CSV: &[Lines] = &[
     ("db1", &[], "fabric,host,initiator,target,volume,lun\n"),
     (
         "db1",
-        &[("A", I1, T1, "v1", 0)],
+        &[("A", INITIATOR, TARGET, "v1", 0)],
         "fabric,host,initiator,target,volume,lun\n\
          A,db1,10:00:00:00:00:00:00:01,50:00:00:00:00:00:00:01,v1,0\n",
     ),
@@ -40,7 +40,7 @@ const CSV: &[Lines] = &[
         LONGEST,
         &[
             ("A", "0x00000000000000ff", "ABCDEF0123456789", "v1", 7),
-            ("B", "ffffffffffffffff", T1, "V$^_-9", 16383),
+            ("B", "ffffffffffffffff", TARGET, "V$^_-9", 16383),
         ],
         "fabric,host,initiator,target,volume,lun\n\
          A,h234567890123456789012345678901234567890123456789012345678901234,\
@@ -60,26 +60,26 @@ const REPORTS: &[Lines] = &[
     ),
     (
         "db1",
-        &[("A", I1, T1, "v1", 0)],
+        &[("A", INITIATOR, TARGET, "v1", 0)],
         "HOST                     VOLUME                        A      B STATE\n\
          db1                      v1                            1      0 ONE\n",
     ),
     (
         "db1",
-        &[("B", I1, T1, "v1", 0)],
+        &[("B", INITIATOR, TARGET, "v1", 0)],
         "HOST                     VOLUME                        A      B STATE\n\
          db1                      v1                            0      1 ONE\n",
     ),
     (
         "db1",
         &[
-            ("A", I1, T1, "v2", 0),
-            ("A", I1, T1, "v2", 1),
-            ("A", T1, I1, "V3", 2),
-            ("A", T1, I1, "v1", 3),
-            ("B", I1, T1, "v1", 0),
-            ("B", I1, T1, "v2", 1),
-            ("B", T1, I1, "v1", 2),
+            ("A", INITIATOR, TARGET, "v2", 0),
+            ("A", INITIATOR, TARGET, "v2", 1),
+            ("A", TARGET, INITIATOR, "V3", 2),
+            ("A", TARGET, INITIATOR, "v1", 3),
+            ("B", INITIATOR, TARGET, "v1", 0),
+            ("B", INITIATOR, TARGET, "v2", 1),
+            ("B", TARGET, INITIATOR, "v1", 2),
         ],
         "HOST                     VOLUME                        A      B STATE\n\
          db1                      V3                            1      0 ONE\n\
@@ -88,7 +88,10 @@ const REPORTS: &[Lines] = &[
     ),
     (
         LONGEST,
-        &[("A", I1, T1, AS_WIDE, 0), ("B", I1, T1, WIDER, 0)],
+        &[
+            ("A", INITIATOR, TARGET, AS_WIDE, 0),
+            ("B", INITIATOR, TARGET, WIDER, 0),
+        ],
         "HOST                     VOLUME                        A      B STATE\n\
          h234567890123456789012345678901234567890123456789012345678901234 \
          volume-of-24-characters-      1      0 ONE\n\
