@@ -6,7 +6,7 @@ use Rattle.fab_load.specs.declared.fault.Table.TheVariants as table
 use Rattle.fab_reach.specs.Orders.{IsListOf}
 use Rattle.fab_reach.specs.Reach.{ReachesFrom}
 use Rattle.fab_reach.specs.declared.path.Path.{Path}
-use Rattle.fab_row_laws.proofs.Columns as columns
+use Rattle.fab_row_lines.proofs.Columns as columns
 use Rattle.fab_row_lists.specs.Paths.{IsPathRow}
 use Rattle.fab_rows.specs.declared.record_row.PathRow.{PathRow}
 use Rattle.fab_stores.specs.Worlds.{HoldsWorld, IsWritten, ArePathsIn, HasPathOf}

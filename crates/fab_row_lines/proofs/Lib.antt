@@ -8,6 +8,9 @@ pub mod OneKey
 pub mod Positions
 pub mod UnitsOfRows
 pub mod InRange
+pub mod Columns
+pub mod Standing
+pub mod Told
 pub mod Written
 pub mod Moves
 pub mod LinesHeld

@@ -2,7 +2,7 @@
 use Rattle.std.proofs.Common.{inl, inr}
 use Rattle.fab_changes.specs.Tables.{AreChanges}
 use Rattle.fab_changes.specs.declared.tables.Changes.{Changes}
-use Rattle.fab_row_laws.proofs.Told.{row_told}
+use Rattle.fab_row_lines.proofs.Told.{row_told}
 use Rattle.fab_row_lines_base.specs.Listing.{AreLinesOf, all_rows}
 use Rattle.fab_row_lines.proofs.Listed.{rows_are}
 use Rattle.fab_row_lines.proofs.OnlyIn.{ordered, lines_changed}

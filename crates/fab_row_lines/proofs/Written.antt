@@ -4,7 +4,7 @@ use Rattle.fab_lines.specs.MetaLines.{MetaColumns, ShowsMeta}
 use Rattle.fab_lines.specs.declared.meta_lines.MetaRow.{MetaRow}
 use Rattle.fab_lines.specs.declared.meta_lines.MetaRow.TheVariants as meta
 use Rattle.fab_load.specs.declared.fault.Table.TheVariants as table
-use Rattle.fab_row_laws.proofs.Standing.{meta_told, port_told, holder_told, volume_told, config_told, plan_told, approval_told, undo_told, path_told}
+use Rattle.fab_row_lines.proofs.Standing.{meta_told, port_told, holder_told, volume_told, config_told, plan_told, approval_told, undo_told, path_told}
 use Rattle.fab_row_lines_base.specs.Listing.{AreLinesOf}
 use Rattle.fab_row_lines_base.specs.Rows.{AnyRow, count, port, holder, volume, config_row, plan, approval, undo, path, ShowsRow}
 use Rattle.fab_row_lines.proofs.InRange.{row_in_range}

@@ -8,9 +8,9 @@ use Rattle.fab_load.specs.declared.fault.Table.{Table}
 use Rattle.fab_load.specs.declared.fault.Table.TheVariants as table
 use Rattle.fab_reach_laws.proofs.Telling.{Told}
 use Rattle.fab_rows.specs.declared.config_row.ConfigRow.TheVariants as config
-use Rattle.fab_row_laws.proofs.Columns as columns
-use Rattle.fab_row_laws.proofs.Columns.{IsToldByColumns}
-use Rattle.fab_row_laws.proofs.Standing.{meta_told, port_told, holder_told, volume_told, config_told, plan_told, approval_told, undo_told, path_told}
+use Rattle.fab_row_lines.proofs.Columns as columns
+use Rattle.fab_row_lines.proofs.Columns.{IsToldByColumns}
+use Rattle.fab_row_lines.proofs.Standing.{meta_told, port_told, holder_told, volume_told, config_told, plan_told, approval_told, undo_told, path_told}
 use Rattle.fab_stores.specs.Worlds.{IsShown, StandsIn}
 use Rattle.fab_undo_lines.proofs.Unique.{one_undo}
 use Rattle.fab_world.specs.Worlds.{WorldRows}
