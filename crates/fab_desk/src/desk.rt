@@ -3,6 +3,7 @@ ghost use Rattle.std.specs.Prelude.{◌≡◌, ◌↔◌, ℕ, Some, None, IsSom
 ghost use Rattle.std.specs.Option.{option_or};
 ghost use Rattle.fab_machine.specs.Proposals.{request_of};
 ghost use Rattle.fab_policy_base.specs.Callers.{HasToken};
+ghost use Rattle.fab_policy_base.specs.Sound.{IsSound};
 ghost use Rattle.fab_desk.specs.Desks.{IsOpened, IsServed, IsTurnedAway, IsUnopened};
 
 use crate::answering::serve;
@@ -10,6 +11,7 @@ use crate::ledger::Ledger;
 use crate::opening::opened;
 use fab_desk_base::{Command, DeskFault, Reply};
 use fab_policy_base::Policy;
+use fab_policy_base::laws::policy_is_sound;
 use fab_reach::PathBook;
 use fab_stores::{OpenFault, Store};
 use std::alloc::Allocator;
@@ -104,6 +106,14 @@ impl<A: Allocator + Copy, S: Store<A>, B: PathBook<A>> Desk<A, S, B> {
         ensures { IsTrue result ↔ ((id : ℕ) × HasToken self.now.policy token.now id) }
     {
         self.policy.caller(token).is_some()
+    }
+
+    /// The policy is sound: names and tokens stand once, each window that a rule names is there, and
+    /// no limit is passed. Nothing is done.
+    pub fn policy_is_sound(&self)
+        ensures { IsSound self.now.policy }
+    {
+        policy_is_sound(&self.policy);
     }
 
     /// Whether the desk is halted: the store refused a change, and it was not opened again since.

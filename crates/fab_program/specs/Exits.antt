@@ -1,31 +1,49 @@
--- Exit statuses.
-use Rattle.std.specs.Prelude.{ℕ, ◌≡◌, ◌⊎◌, List, [], true, codes}
-use Rattle.clap.specs.Words.{App, fault_of, new_app, with_subcommand}
-use Rattle.fab_first.specs.declared.answers.Outcome.{Outcome}
-use Rattle.fab_first.specs.declared.answers.Outcome.TheVariants as outcome
-use Rattle.fab_program.specs.declared.words.WordsFault.{WordsFault}
-use Rattle.fab_program.specs.declared.words.WordsFault.TheVariants as fault
+-- How the program ends.
+use Rattle.std.specs.Prelude.{ℕ, ◌≡◌, ◌⊎◌, Result, Ok, Err}
+use Rattle.fab_answers.specs.declared.answers.Answer.{Answer}
+use Rattle.fab_answers.specs.declared.answers.Answer.TheVariants as answer
+use Rattle.fab_desk_base.specs.declared.reply.Reply.TheVariants as reply
+use Rattle.fab_wire.specs.declared.outcome.Outcome.{Outcome}
+use Rattle.fab_wire.specs.declared.outcome.Outcome.TheVariants as outcome
+use Rattle.fab_words.specs.declared.reading.WordsFault.{WordsFault}
+use Rattle.fab_words.specs.declared.reading.WordsFault.TheVariants as words
+use Rattle.fab_program.specs.declared.args.ArgsFault.{ArgsFault}
+use Rattle.fab_program.specs.declared.args.ArgsFault.TheVariants as args
+use Rattle.fab_program.specs.declared.faults.Fault.{Fault}
+use Rattle.fab_program.specs.declared.faults.Fault.TheVariants.{Stream}
+use Rattle.fab_program.specs.declared.printing.End.{End}
+use Rattle.fab_program.specs.declared.printing.End.TheVariants.{Done, Refused}
 
--- 0 where an answer was written or the input was empty, and 3 where a stream failed
-abbrev pub exit_status : Outcome → ℕ
-exit_status (outcome.Answered status) = 0
-exit_status outcome.Unsent = 3
-exit_status outcome.ReadFailed = 3
-exit_status outcome.Empty = 0
+-- an answer says that something was refused, or that it was done
+abbrev pub end_of : {A : Type 0} → Answer A → End
+end_of (answer.Refused why) = Refused
+end_of (answer.Replied (reply.Refused why)) = Refused
+end_of (answer.Replied other) = Done
+
+-- a request is done where its answer was written, or there was none; else a stream failed
+abbrev pub ended : Outcome → Result End Fault
+ended (outcome.Answered status) = Ok Done
+ended outcome.Empty = Ok Done
+ended outcome.Unsent = Err Stream
+ended outcome.ReadFailed = Err Stream
+
+-- 0 for what was done, 1 for what was refused, 3 for a fault
+abbrev pub status_of : Result End Fault → ℕ
+status_of (Ok Done) = 0
+status_of (Ok Refused) = 1
+status_of (Err fault) = 3
+
+-- 2 where the words are wrong, or ask for help, and 3 where there was no memory
+abbrev pub words_status : WordsFault → ℕ
+words_status (words.Refused error) = 2
+words_status words.BadText = 2
+words_status words.Memory = 3
 
 -- 2 where a word is no text, and 3 where there was no memory
-abbrev pub fault_status : WordsFault → ℕ
-fault_status fault.NotText = 2
-fault_status fault.Memory = 3
+abbrev pub args_status : ArgsFault → ℕ
+args_status args.NotText = 2
+args_status args.Memory = 3
 
--- done, wrong words, or failed
+-- done, refused, wrong words, or failed
 abbrev pub IsExitStatus : ℕ → Type 0
-IsExitStatus status = (status ≡ 0) ⊎ ((status ≡ 2) ⊎ (status ≡ 3))
-
--- the program and its one command, `once`, without which no words are understood
-unfoldable pub desk_app : App
-desk_app = let app = new_app (codes "sandesk") in with_subcommand (record app { top = record app.top { subcommand_required = true } }) (new_app (codes "once")).top
-
--- the words, of which the first is the program's name, are understood: clap finds no fault in them
-abbrev pub AreUnderstood : List (List ℕ) → Type 0
-AreUnderstood words = fault_of desk_app words ≡ []
+IsExitStatus status = (status ≡ 0) ⊎ ((status ≡ 1) ⊎ ((status ≡ 2) ⊎ (status ≡ 3)))

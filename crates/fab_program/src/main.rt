@@ -1,24 +1,33 @@
 //! `sandesk`: a change desk for SAN zoning and volume mapping, over HTTP.
 #![tactic(auto)]
 
+mod access;
+mod args;
+mod commands;
+mod contents;
+mod database;
+mod faults;
+mod front;
+mod once;
+mod printing;
 mod run;
-#[cfg(test)]
-mod tests;
-mod words;
+mod serving;
+mod trial;
 
 use std::io;
 use std::process::ExitCode;
 
 fn main(rt: HostRuntime) -> ExitCode {
-    let status = match words::words_of(&rt) {
+    let status = match args::words_of(&rt) {
         Ok(words) => run::run(
-            rt.alloc(),
+            &rt,
             words.as_slice(),
+            || args::seconds(&rt),
             rt.reader(),
             io::writer(&rt),
             &mut rt.stderr(),
         ),
-        Err(fault) => run::refuse_fault(&mut rt.stderr(), fault),
+        Err(fault) => run::refuse_args(&mut rt.stderr(), fault),
     };
     ExitCode::from(status)
 }

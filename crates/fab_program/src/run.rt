@@ -1,120 +1,129 @@
 //! What the words of the command line ask for, and the exit status.
-ghost use Rattle.std.specs.Prelude.{◌≡◌, ◌≢◌, ◌⊎◌, IfOk, map, string_bytes};
-ghost use Rattle.clap.specs.Words.{app_of, kind_of};
-ghost use Rattle.clap.specs.declared.error.kind.ErrorKind.TheVariants.{OutOfMemory};
-ghost use Rattle.fab_program.specs.Exits.{IsExitStatus, AreUnderstood, desk_app, exit_status, fault_status};
+ghost use Rattle.std.specs.Prelude.{◌≡◌, ◌<◌, map, string_bytes};
+ghost use Rattle.fab_words.specs.Asking.{Asks};
+ghost use Rattle.fab_words.specs.declared.words.Words.{Words};
+ghost use Rattle.fab_program.specs.Exits.{IsExitStatus, args_status, status_of, words_status};
 
-use crate::words::WordsFault;
-use clap::error::ErrorKind;
-use clap::{Command, Error};
-use fab_first::answering::answer_one;
-use fab_first::answers::Outcome;
-use fab_first::first::First;
-use fab_json::counted::Counted;
-use std::alloc::{AllocError, Global};
+use crate::args::ArgsFault;
+use crate::commands::{dry_run, export, import, paths, report};
+use crate::database::make;
+use crate::faults::Fault;
+use crate::once::once;
+use crate::printing::End;
+use crate::serving::serve;
+use fab_words::{Words, WordsFault, read_words};
 use std::io::{Read, Write};
 
-/// Done: an answer was written, or the input was empty.
+/// The exit status of what was done.
 pub const DONE: u8 = 0;
 
-/// The words of the command line are wrong, or ask for help.
+/// The exit status of a command that was refused.
+pub const REFUSED: u8 = 1;
+
+/// The exit status of a command line that is wrong, or asks for help.
 pub const WRONG_WORDS: u8 = 2;
 
-/// The program could not do what was asked; the standard error has a line that says why.
+/// The exit status of what could not be done; the standard error has a line that says why.
 pub const FAILED: u8 = 3;
 
-/// The words that are understood.
-#[tactic(auto, unfolding(crate::specs::Exits::desk_app))]
-fn command_line<'a>(alloc: Global) -> Result<Command<'a>, AllocError>
-    ensures { IfOk result (λ command. app_of command ≡ desk_app) }
-{
-    let once = Command::new(alloc, "once").about(
-        "Answers one HTTP request from standard input over a new desk in memory",
-    );
-    Command::new(alloc, "sandesk")
-        .bin_name("sandesk")?
-        .about("A change desk for SAN zoning and volume mapping")
-        .subcommand_required(true)
-        .subcommand(once)
-}
-
-/// Runs the program: reads the words (the first is the program's name), answers one request of the
-/// reader to the writer, and gives the exit status. What goes wrong is told to `errors`.
-pub fn run<R: Read + Drop, W: Write + Drop, E: Write>(
-    alloc: Global,
+/// Runs the program: reads the words (the first is the program's name), does what they ask for, and
+/// gives the exit status. `now` gives the moment in Unix seconds, if it can. What goes wrong is told
+/// to `errors`.
+///
+/// `DONE` or `REFUSED` only where the words ask for something, and `WRONG_WORDS` only where they ask
+/// for nothing.
+pub fn run<N: FnMut() -> Option<u64>, R: Read + Drop, W: Write + Drop, E: Write>(
+    rt: &HostRuntime,
     words: &[String],
+    now: N,
     reader: R,
     writer: W,
     errors: &mut E,
 ) -> u8
+    requires { (state : N) → N.pre state }
     ensures status { IsExitStatus result }
-    ensures done { result ≡ 0 → AreUnderstood (map string_bytes words.now) }
-    ensures wrong { result ≡ 2 → ¬ AreUnderstood (map string_bytes words.now) }
+    ensures asked { result < 2 → (w : Words) × Asks (map string_bytes words.now) w }
+    ensures wrong { result ≡ 2 → (w : Words) → ¬ Asks (map string_bytes words.now) w }
 {
-    let Ok(command) = command_line(alloc) else {
-        return fail(errors, "memory");
-    };
-    match command.try_get_matches_from(words) {
-        Ok(_) => once(alloc, reader, writer, errors),
-        Err(error) => refuse_words(errors, &error),
+    match read_words(rt.alloc(), words) {
+        Ok(asked) => {
+            let mut now = now;
+            exit_of(errors, carry_out(rt, &asked, &mut now, reader, writer))
+        }
+        Err(fault) => refuse_words(errors, fault),
     }
 }
 
-/// Answers one request over a new desk.
-fn once<R: Read + Drop, W: Write + Drop, E: Write>(
-    alloc: Global,
+/// Does what the words ask for.
+fn carry_out<N: FnMut() -> Option<u64>, R: Read + Drop, W: Write + Drop>(
+    rt: &HostRuntime,
+    asked: &Words<'_>,
+    now: &mut N,
     reader: R,
     writer: W,
-    errors: &mut E,
-) -> u8
-    ensures { (result ≡ 0) ⊎ (result ≡ 3) }
+) -> Result<End, Fault>
+    requires { (state : N) → N.pre state }
 {
-    let mut first = First::new(alloc);
-    let mut reader = Counted::new(reader);
-    let mut writer = Counted::new(writer);
-    let outcome = answer_one(alloc, &mut first, &mut reader, &mut writer);
-    exit_of(errors, outcome)
-}
-
-/// The exit status of what came of the request.
-fn exit_of<E: Write>(errors: &mut E, outcome: Outcome) -> u8
-    ensures { result ≡ exit_status outcome }
-{
-    match outcome {
-        Outcome::Answered(_) | Outcome::Empty => DONE,
-        Outcome::Unsent | Outcome::ReadFailed => fail(errors, "stream"),
+    match asked {
+        Words::Init(asked) => match make(rt, asked.db) {
+            Ok(()) => Ok(End::Done),
+            Err(fault) => Err(fault),
+        },
+        Words::Serve(asked) => serve(rt, asked, now, writer),
+        Words::Once(asked) => once(rt, asked, now, reader, writer),
+        Words::Import(asked) => import(rt, asked, now, writer),
+        Words::Paths(asked) => paths(rt, asked, writer),
+        Words::Report(asked) => report(rt, asked, writer),
+        Words::Export(asked) => export(rt, asked, writer),
+        Words::DryRun(asked) => dry_run(rt, asked, now, writer),
     }
 }
 
-/// Tells what clap says of the words.
-fn refuse_words<E: Write>(errors: &mut E, error: &Error) -> u8
-    ensures status { (result ≡ 2) ⊎ (result ≡ 3) }
-    ensures wrong { result ≡ 2 → kind_of error.now ≢ OutOfMemory }
+/// The exit status of what came of it; a fault is told.
+fn exit_of<E: Write>(errors: &mut E, came: Result<End, Fault>) -> u8
+    ensures { result ≡ status_of came }
 {
-    if error.kind() == ErrorKind::OutOfMemory {
-        return fail(errors, "memory");
+    match came {
+        Ok(End::Done) => DONE,
+        Ok(End::Refused) => REFUSED,
+        Err(fault) => fail(errors, fault),
     }
-    let _ = write!(errors, "{error}");
-    WRONG_WORDS
+}
+
+/// Tells in one line what failed, and gives the exit status.
+fn fail<E: Write>(errors: &mut E, fault: Fault) -> u8
+    ensures { result ≡ 3 }
+{
+    let _ = writeln!(errors, "sandesk: {fault}");
+    FAILED
+}
+
+/// Tells what is wrong with the words, and gives the exit status.
+fn refuse_words<E: Write>(errors: &mut E, fault: WordsFault) -> u8
+    ensures { result ≡ words_status fault }
+{
+    match fault {
+        WordsFault::Refused(error) => {
+            let _ = write!(errors, "{error}");
+            WRONG_WORDS
+        }
+        WordsFault::BadText => {
+            let _ = writeln!(errors, "sandesk: words");
+            WRONG_WORDS
+        }
+        WordsFault::Memory => fail(errors, Fault::Memory),
+    }
 }
 
 /// Tells why there are no words, and gives the exit status.
-pub fn refuse_fault<E: Write>(errors: &mut E, fault: WordsFault) -> u8
-    ensures { result ≡ fault_status fault }
+pub fn refuse_args<E: Write>(errors: &mut E, fault: ArgsFault) -> u8
+    ensures { result ≡ args_status fault }
 {
     match fault {
-        WordsFault::NotText => {
-            let _ = writeln!(errors, "sandesk: a word is not UTF-8");
+        ArgsFault::NotText => {
+            let _ = writeln!(errors, "sandesk: words");
             WRONG_WORDS
         }
-        WordsFault::Memory => fail(errors, "memory"),
+        ArgsFault::Memory => fail(errors, Fault::Memory),
     }
-}
-
-/// Tells in one line what failed.
-fn fail<E: Write>(errors: &mut E, what: &str) -> u8
-    ensures { result ≡ 3 }
-{
-    let _ = writeln!(errors, "sandesk: {what}");
-    FAILED
 }

@@ -10,12 +10,10 @@ use Rattle.httparse.specs.declared.spans.RequestSpans.{RequestSpans}
 use Rattle.fab_wire_base.specs.Limits.{most_head}
 use Rattle.fab_wire_base.specs.Lines.{Line, lines_of}
 use Rattle.fab_wire_base.specs.Asking.{Asking, asks, HeadAsks}
-use Rattle.fab_wire_base.specs.Spelling.{Spelling, refused, unnamed, asked, SpellsCommand, SpellsBehind, Spells}
-use Rattle.fab_wire_base.specs.Hearing.{IsHeard, IsHeardOf, IsHeardBy, IsMeant, order_of}
+use Rattle.fab_wire_base.specs.Spelling.{Spelling, Request, request, refused, asked, SpellsBehind, Spells}
+use Rattle.fab_wire_base.specs.Hearing.{IsHeard, IsHeardOf, IsHeardOfKnown, IsKept}
 use Rattle.fab_wire_base.specs.declared.kinds.Kind.{Kind}
 use Rattle.fab_wire_base.specs.declared.requests.Refusal.TheVariants as no
-use Rattle.fab_wire_base.specs.declared.hear.Meant.{Meant}
-use Rattle.fab_wire_base.specs.declared.hear.Meant.TheVariants as meant
 use Rattle.fab_wire_base.specs.declared.hear.Heard.{Heard}
 use Rattle.fab_wire_base.specs.declared.hear.Heard.TheVariants as heard
 use Rattle.fab_wire_base.proofs.SpellingLemmas.{head-some}
@@ -45,46 +43,43 @@ IfSome-map (Some x) P Q f h = f x h
 pub some-read : (got more : List ℕ) (headers : List HeaderSpan) (spans : RequestSpans) → IsRequestOf got headers spans → 0 < length (got ++ more)
 some-read got more headers spans (h, at) = let some : 0 < length got = head-some got h (drop spans.len got) at.reads in simp length-append (omega arith)
 
--- what is heard by a token, and is meant behind a head, is heard of the input
-pub heard-behind : {A : Type 0} (answer : Heard A) (what : Meant A) (knows : List ℕ → Bool) (input token : List ℕ) (k : Kind) (target body : List ℕ)
-    → 0 < length input → ((s : Spelling) → SpellsCommand token k target body s → Spells knows input s) → IsMeant k target body what → IsHeardBy token what answer → IsHeard knows input answer
-heard-behind {A} heard.Nothing what knows input token k target body some f m h = absurd h
-heard-behind {A} (heard.Refused why) what knows input token k target body some f m h = f (refused why) ((subst (λ (w : Meant A). IsMeant k target body w) h m) token)
-heard-behind {A} heard.Unnamed what knows input token k target body some f m h = f unnamed ((subst (λ (w : Meant A). IsMeant k target body w) h m) token)
-heard-behind {A} (heard.Asked by command) what knows input token k target body some f m h =
-    subst (λ (t : List ℕ). Spells knows input (asked t (order_of command))) (sym h.0)
-    (f (asked token (order_of command)) ((subst (λ (w : Meant A). IsMeant k target body w) h.1 m) token))
-heard-behind {A} heard.ReadFailed what knows input token k target body some f m h = tt
-heard-behind {A} heard.Memory what knows input token k target body some f m h = some
+-- what is kept of a request that an input spells is heard of it
+pub kept-heard : {A : Type 0} (answer : Heard A) (knows : List ℕ → Bool) (input : List ℕ) (q : Request) → 0 < length input → Spells knows input (asked q) → IsKept q answer → IsHeard knows input answer
+kept-heard (heard.Asked kept) knows input q some spelled is = subst (λ p. Spells knows input (asked p)) (sym is) spelled
+kept-heard heard.Memory knows input q some spelled is = some
+kept-heard other knows input q some spelled is = absurd is
+
+-- and by a known caller
+pub kept-known : {A : Type 0} (answer : Heard A) (knows : List ℕ → Bool) (q : Request) → knows q.token ≡ true → IsKept q answer → IsHeardOfKnown knows answer
+kept-known (heard.Asked kept) knows q known is = subst (λ (p : Request). knows p.token ≡ true) (sym is) known
+kept-known heard.Memory knows q known is = tt
+kept-known other knows q known is = absurd is
 
 -- all of a body is there
-pub behind-whole : (token : List ℕ) (what : Kind) (target rest : List ℕ) (size : ℕ) (s : Spelling) → size ≤ length rest
-    → SpellsCommand token what target (take size rest) s → SpellsBehind target rest (asks token what (Some size)) s
-behind-whole token what target rest size s h k = let e : nat_le size (length rest) ≡ true = grind (arith, nat_tests) in rw e k
+pub behind-whole : (token : List ℕ) (k : Kind) (target rest : List ℕ) (size : ℕ) → size ≤ length rest → SpellsBehind target rest (asks token k (Some size)) (asked (request token k target (take size rest)))
+behind-whole token k target rest size h = let e : nat_le size (length rest) ≡ true = grind (arith, nat_tests) in rw e refl
 
 -- a body is too short
 pub behind-short : (token : List ℕ) (what : Kind) (target rest : List ℕ) (size : ℕ) → length rest < size
     → SpellsBehind target rest (asks token what (Some size)) (refused (no.BadBody 0))
 behind-short token what target rest size h = let e : nat_le size (length rest) ≡ false = grind (arith, nat_tests) in rw e refl
 
--- what is heard by a token, and is meant behind a head without a body, is heard of the input
-pub heard-bare : {A : Type 0} (answer : Heard A) (what : Meant A) (knows : List ℕ → Bool) (got more : List ℕ) (headers : List HeaderSpan) (spans : RequestSpans) (token : List ℕ) (k : Kind)
+-- what is kept behind a head without a body is heard of the input
+pub heard-bare : {A : Type 0} (answer : Heard A) (knows : List ℕ → Bool) (got more : List ℕ) (headers : List HeaderSpan) (spans : RequestSpans) (token : List ℕ) (k : Kind)
     → IsRequestOf got headers spans → length got ≤ most_head → spans.len ≤ length got
     → HeadAsks knows (span_bytes got spans.method) (span_bytes got spans.path) (lines_of got (take spans.headers headers)) (asks token k None)
-    → IsMeant k (span_bytes got spans.path) [] what → IsHeardBy token what answer → IsHeardOf knows got more answer
-heard-bare answer what knows got more headers spans token k head short within judged behind by =
-    heard-behind answer what knows (got ++ more) token k (span_bytes got spans.path) [] (some-read got more headers spans head)
-    (λ s h. spells-read knows got more headers spans (asks token k None) s head short within judged h) behind by
+    → IsKept (request token k (span_bytes got spans.path) []) answer → IsHeardOf knows got more answer
+heard-bare answer knows got more headers spans token k head short within judged kept =
+    kept-heard answer knows (got ++ more) _ (some-read got more headers spans head)
+    (spells-read knows got more headers spans (asks token k None) _ head short within judged refl) kept
 
 -- the same behind a head and a body
-pub heard-whole : {A : Type 0} (answer : Heard A) (what : Meant A) (knows : List ℕ → Bool) (got more : List ℕ) (headers : List HeaderSpan) (spans : RequestSpans) (token : List ℕ) (k : Kind) (size : ℕ) (body : List ℕ)
+pub heard-whole : {A : Type 0} (answer : Heard A) (knows : List ℕ → Bool) (got more : List ℕ) (headers : List HeaderSpan) (spans : RequestSpans) (token : List ℕ) (k : Kind) (size : ℕ) (body : List ℕ)
     → IsRequestOf got headers spans → length got ≤ most_head → spans.len ≤ length got
     → HeadAsks knows (span_bytes got spans.method) (span_bytes got spans.path) (lines_of got (take spans.headers headers)) (asks token k (Some size))
     → size ≤ length (drop spans.len got ++ more) → body ≡ take size (drop spans.len got ++ more)
-    → IsMeant k (span_bytes got spans.path) body what → IsHeardBy token what answer → IsHeardOf knows got more answer
-heard-whole answer what knows got more headers spans token k size body head short within judged fits whole behind by =
-    heard-behind answer what knows (got ++ more) token k (span_bytes got spans.path) body (some-read got more headers spans head)
-    (λ s h. spells-read knows got more headers spans (asks token k (Some size)) s head short within judged
-    (behind-whole token k (span_bytes got spans.path) (drop spans.len got ++ more) size s fits
-    (subst (λ (b : List ℕ). SpellsCommand token k (span_bytes got spans.path) b s) whole h)))
-    behind by
+    → IsKept (request token k (span_bytes got spans.path) body) answer → IsHeardOf knows got more answer
+heard-whole answer knows got more headers spans token k size body head short within judged fits whole kept =
+    kept-heard answer knows (got ++ more) _ (some-read got more headers spans head)
+    (spells-read knows got more headers spans (asks token k (Some size)) _ head short within judged (behind-whole token k (span_bytes got spans.path) (drop spans.len got ++ more) size fits))
+    (subst (λ (b : List ℕ). IsKept (request token k (span_bytes got spans.path) b) answer) whole kept)

@@ -1,5 +1,5 @@
 -- What the head of a request asks for: its checks, in their order.
-use Rattle.std.specs.Prelude.{ℕ, ◌≡◌, List, [], ◌∷◌, Bool, true, false, ◌&&◌, ◌==◌, not, nat_le, if◌then◌else◌, Option, Some, None, codes}
+use Rattle.std.specs.Prelude.{ℕ, ◌≡◌, List, [], ◌∷◌, Bool, false, ◌&&◌, ◌==◌, not, nat_le, if◌then◌else◌, Option, Some, None, codes}
 use Rattle.std.specs.List.{list_any}
 use Rattle.fab_wire_base.specs.Limits.{most_body}
 use Rattle.fab_wire_base.specs.Lines.{Line, values_of}

@@ -1,5 +1,5 @@
 -- The parts that a path captures, as matchit has them.
-use Rattle.std.specs.Prelude.{ℕ, ◌≡◌, ◌<◌, List, [], Option, Some, None, codes}
+use Rattle.std.specs.Prelude.{ℕ, ◌≡◌, ◌<◌, List, Option, Some, None, codes}
 use Rattle.std.specs.List.{AllByRecursion}
 use Rattle.matchit.specs.Seek.{first}
 use Rattle.matchit.specs.Params.{walk, named}

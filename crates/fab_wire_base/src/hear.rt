@@ -1,32 +1,33 @@
-//! Hears one request: reads it from a connection, and turns its bytes into a command.
+//! Hears one request: reads it from a connection, up to the end of its body.
 
-ghost use Rattle.std.specs.Prelude.{ℕ, ◌≡◌, ◌≤◌, List, length, IfSome};
+ghost use Rattle.std.specs.Prelude.{◌≡◌, ◌≤◌, length, IfSome};
 ghost use Rattle.httparse.specs.Spans.{IsRequestOf, IsRequestWithin};
 ghost use Rattle.fab_json.specs.Counting.{inner_of, failures_of};
 ghost use Rattle.fab_wire_base.specs.Limits.{most_head};
-ghost use Rattle.fab_wire_base.specs.Hearing.{IsHeard, IsHeardOf, IsHeardBy, IsMeant, failures_after_heard};
+ghost use Rattle.fab_wire_base.specs.Hearing.{IsHeard, IsHeardOf, IsHeardOfKnown, IsKept, failures_after_heard};
+ghost use Rattle.fab_wire_base.specs.Spelling.{request};
 
 use crate::bodies::{Body, take_body};
 use crate::callers::Callers;
 use crate::head::{HeadRead, MOST_HEAD, MOST_LINES, read_head};
 use crate::kinds::Kind;
-use crate::parts::{fabric_part, wwn_part};
 use crate::requests::{Judged, Refusal, judge_by_routes};
-use fab_files_base::port_list::{FileFault, read_ports};
-use fab_inventory::PortRow;
 use fab_json::counted::Counted;
-use fab_names::{Fabric, Wwn};
 use httparse::spans::{EMPTY_HEADER_SPAN, HeaderSpan, RequestSpans};
 use std::alloc::{Allocator, Global};
 use std::io::Read;
 
-/// What a request asks of the desk.
+/// What a caller asks for.
 #[derive(Drop)]
-pub enum Command<A: Allocator> {
-    /// Takes over the port list of a fabric.
-    Import(Fabric, Vec<PortRow, A>),
-    /// Asks whether two ports, given by their N_Port_Names, may communicate.
-    Joined(Wwn, Wwn),
+pub struct Asked<A: Allocator> {
+    /// The token of the caller.
+    pub token: Vec<u8, A>,
+    /// What is asked for.
+    pub kind: Kind,
+    /// The target, which is a path that has a route.
+    pub target: Vec<u8, A>,
+    /// The body; empty where what is asked for takes none.
+    pub body: Vec<u8, A>,
 }
 
 /// What is heard of a connection.
@@ -34,36 +35,21 @@ pub enum Command<A: Allocator> {
 pub enum Heard<A: Allocator> {
     /// The input has no byte.
     Nothing,
-    /// A check of the head or the body fails, the first that does.
+    /// A check of the head or of the length of the body fails, the first that does.
     Refused(Refusal),
-    /// A captured part of the path names nothing.
-    Unnamed,
-    /// The token of a caller, and the command.
-    Asked(Vec<u8, A>, Command<A>),
+    /// The request of a caller.
+    Asked(Asked<A>),
     /// A read failed, and nothing was read behind it.
     ReadFailed,
     /// There was no memory. It is not answered to an empty input.
     Memory,
 }
 
-/// What a request means, whoever asks.
-#[derive(Drop)]
-pub enum Meant<A: Allocator> {
-    /// The body has a fault, or what is asked for is not carried out yet.
-    Refused(Refusal),
-    /// A captured part of the path names nothing.
-    Unnamed,
-    /// A command.
-    Asks(Command<A>),
-    /// There was no memory.
-    Memory,
-}
-
 /// Hears one request.
 ///
 /// What is heard is what the input spells where the tokens of `callers` are known, however its
-/// reads are cut. `ReadFailed` comes only where a read failed, and then at once. Tokens, bodies and
-/// rows come from `alloc`; the router, and what `csv` needs, from `global`.
+/// reads are cut, and whoever asks is known. `ReadFailed` comes only where a read failed, and then at
+/// once. What is kept of a request comes from `alloc`, and the router from `global`.
 pub fn hear<A: Allocator + Copy, C: Callers, R: Read>(
     alloc: A,
     global: Global,
@@ -72,6 +58,7 @@ pub fn hear<A: Allocator + Copy, C: Callers, R: Read>(
 ) -> Heard<A>
     ensures spelled { IfSome (R.remaining (inner_of reader.old))
         (λ input. IsHeard (C.knows_token callers.now) input result) }
+    ensures known { IsHeardOfKnown (C.knows_token callers.now) result }
     ensures count { failures_of reader.new
         ≡ failures_after_heard result (failures_of reader.old) }
 {
@@ -110,6 +97,7 @@ fn hear_request<A: Allocator + Copy, C: Callers, R: Read>(
     requires short { length got.now ≤ most_head }
     ensures spelled { IfSome (R.remaining (inner_of reader.old))
         (λ more. IsHeardOf (C.knows_token callers.now) got.now more result) }
+    ensures known { IsHeardOfKnown (C.knows_token callers.now) result }
     ensures count { failures_of reader.new
         ≡ failures_after_heard result (failures_of reader.old) }
 {
@@ -118,19 +106,11 @@ fn hear_request<A: Allocator + Copy, C: Callers, R: Read>(
     match judge_by_routes(global, callers, got, lines, spans.method.of(got), target) {
         None => Heard::Memory,
         Some(Judged::Refused(why)) => Heard::Refused(why),
-        Some(Judged::Asks(token, kind, None)) => {
-            heard_by(alloc, token, meant_by(alloc, global, kind, target, &[]))
-        }
+        Some(Judged::Asks(token, kind, None)) => keep(alloc, token, kind, target, Vec::new(alloc)),
         Some(Judged::Asks(token, kind, Some(size))) => {
             let (_, have) = got.split_at(spans.len);
             match take_body(alloc, reader, have, size) {
-                Body::Whole(body) => {
-                    heard_by(
-                        alloc,
-                        token,
-                        meant_by(alloc, global, kind, target, body.as_slice()),
-                    )
-                }
+                Body::Whole(body) => keep(alloc, token, kind, target, body),
                 Body::Short => Heard::Refused(Refusal::BadBody(0)),
                 Body::ReadFailed => Heard::ReadFailed,
                 Body::Memory => Heard::Memory,
@@ -139,69 +119,26 @@ fn hear_request<A: Allocator + Copy, C: Callers, R: Read>(
     }
 }
 
-/// What is heard where this is meant, by the caller of this token.
-fn heard_by<A: Allocator>(alloc: A, token: &[u8], what: Meant<A>) -> Heard<A>
-    ensures { IsHeardBy token.now what result }
-{
-    match what {
-        Meant::Refused(why) => Heard::Refused(why),
-        Meant::Unnamed => Heard::Unnamed,
-        Meant::Asks(command) => match Vec::from_slice(alloc, token) {
-            Ok(token) => Heard::Asked(token, command),
-            Err(_) => Heard::Memory,
-        },
-        Meant::Memory => Heard::Memory,
-    }
-}
-
-/// What a kind, a target and a body mean.
-fn meant_by<A: Allocator + Copy>(
+/// Keeps a request behind its connection: its token and its target are copied.
+fn keep<A: Allocator + Copy>(
     alloc: A,
-    global: Global,
+    token: &[u8],
     kind: Kind,
     target: &[u8],
-    body: &[u8],
-) -> Meant<A>
-    ensures { IsMeant kind target.now body.now result }
+    body: Vec<u8, A>,
+) -> Heard<A>
+    ensures { IsKept (request token.now kind target.now body.items) result }
 {
-    match kind {
-        Kind::Import => import_of(alloc, global, target, body),
-        Kind::Joined => joined_of(alloc, target),
-        _ => Meant::Refused(Refusal::NoRoute),
-    }
-}
-
-/// The command Import: the rows of the body, and then the fabric that the path names.
-fn import_of<A: Allocator + Copy>(alloc: A, global: Global, target: &[u8], body: &[u8]) -> Meant<A>
-    ensures { IsMeant Kind.Import target.now body.now result }
-{
-    let rows = match read_ports(alloc, global, body) {
-        Ok(rows) => rows,
-        Err(FileFault::Line(line)) => return Meant::Refused(Refusal::BadBody(line)),
-        Err(FileFault::Memory) => return Meant::Memory,
+    let Ok(token) = Vec::from_slice(alloc, token) else {
+        return Heard::Memory;
     };
-    match fabric_part(alloc, target, 2) {
-        Ok(Some(fabric)) => Meant::Asks(Command::Import(fabric, rows)),
-        Ok(None) => Meant::Unnamed,
-        Err(_) => Meant::Memory,
-    }
-}
-
-/// The command Joined: the two ports that the path names.
-fn joined_of<A: Allocator + Copy>(alloc: A, target: &[u8]) -> Meant<A>
-    ensures { (body : List ℕ) → IsMeant Kind.Joined target.now body result }
-{
-    let Ok(first) = wwn_part(alloc, target, 2) else {
-        return Meant::Memory;
-    };
-    let Ok(second) = wwn_part(alloc, target, 3) else {
-        return Meant::Memory;
-    };
-    let Some(p) = first else {
-        return Meant::Unnamed;
-    };
-    match second {
-        Some(q) => Meant::Asks(Command::Joined(p, q)),
-        None => Meant::Unnamed,
+    match Vec::from_slice(alloc, target) {
+        Ok(target) => Heard::Asked(Asked {
+            token,
+            kind,
+            target,
+            body,
+        }),
+        Err(_) => Heard::Memory,
     }
 }

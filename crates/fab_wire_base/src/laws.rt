@@ -2,7 +2,7 @@
 
 ghost use Rattle.fab_wire_base.specs.Matching.{FoundMatches};
 ghost use Rattle.fab_wire_base.specs.Captures.{FirstCaptures, SecondCaptures};
-ghost use Rattle.fab_wire_base.specs.Spelling.{SpellsOne, SpellsSome};
+ghost use Rattle.fab_wire_base.specs.Spelling.{AskedIsKnown, SpellsOne, SpellsSome};
 ghost use Rattle.fab_wire_base.specs.Limits.{most_head, most_lines, most_body};
 ghost use Rattle.std.specs.Prelude.{◌≡◌};
 
@@ -30,6 +30,11 @@ pub fn first_part_is_captured()
 /// What the second name of a route's path captures is the segment behind the third slash.
 pub fn second_part_is_captured()
     ensures { SecondCaptures }
+{}
+
+/// Whoever sends the request that an input spells is known.
+pub fn asked_token_is_known()
+    ensures { AskedIsKnown }
 {}
 
 /// An input spells one thing.

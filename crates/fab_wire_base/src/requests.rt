@@ -23,7 +23,7 @@ pub enum Refusal {
     BadHead,
     /// No token of a caller stands in the head.
     NoCaller,
-    /// The path has no route, or what it asks for is not carried out yet.
+    /// The path has no route.
     NoRoute,
     /// The route does not take the method.
     BadMethod(Route),

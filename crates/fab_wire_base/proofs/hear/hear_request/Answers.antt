@@ -1,7 +1,10 @@
-use Rattle.std.proofs.Common.{refl, Some, None, [], ◌∙◌}
+use Rattle.std.proofs.Common.{refl, Some, None, take}
+use Rattle.httparse.specs.Spans.{span_bytes}
+use Rattle.fab_wire_base.specs.Lines.{lines_of}
 use Rattle.fab_wire_base.specs.Asking.{refuses, asks}
 use Rattle.fab_wire_base.specs.Spelling.{refused}
-use Rattle.fab_wire_base.proofs.HearLemmas.{IfSome-all, IfSome-map, spells-read, some-read, heard-bare, heard-whole, behind-short}
+use Rattle.fab_wire_base.proofs.KnownLemmas.{asks-known}
+use Rattle.fab_wire_base.proofs.HearLemmas.{IfSome-all, IfSome-map, spells-read, some-read, kept-known, heard-bare, heard-whole, behind-short}
 use Rattle.fab_wire_base.specs.declared.requests.Refusal.TheVariants as no
 use Rattle.fab_wire_base.proofs.hear.hear_request.Goals as goal
 
@@ -19,17 +22,32 @@ pub returns-in-Some-Asks-default-default-None-clause-spelled :
 returns-in-Some-Asks-default-default-None-clause-spelled g c =
     let arm = c.in-Some-Asks-default-default-None in
     let judged = rw (c.of.ensures, c.of-target.ensures, arm.field-0-is, arm.field-0-2-is) at arm.ensures in
-    let behind = rw c.of-target.ensures at c.meant_by.ensures in
-    IfSome-all _ _ (λ more. heard-bare _ _ _ c.args.got.now more c.args.headers.now c.args.spans arm.token.now arm.kind
-    c.requires.head c.requires.short c.requires.within.section.len_fits judged behind c.heard_by.ensures)
+    let kept = rw c.new.ensures.items at (rw c.of-target.ensures at c.keep.ensures) in
+    IfSome-all _ _ (λ more. heard-bare _ _ c.args.got.now more c.args.headers.now c.args.spans arm.token.now arm.kind
+    c.requires.head c.requires.short c.requires.within.section.len_fits judged kept)
+
+pub returns-in-Some-Asks-default-default-None-clause-known :
+    goal.returns-in-Some-Asks-default-default-None-clause-known
+returns-in-Some-Asks-default-default-None-clause-known g c =
+    let arm = c.in-Some-Asks-default-default-None in
+    let judged = rw (c.of.ensures, c.of-target.ensures, arm.field-0-is, arm.field-0-2-is) at arm.ensures in
+    kept-known _ _ _ (asks-known (g.C.Callers.knows_token c.args.callers.now) (span_bytes c.args.got.now c.args.spans.method) (span_bytes c.args.got.now c.args.spans.path)
+    (lines_of c.args.got.now (take c.args.spans.headers c.args.headers.now)) (asks arm.token.now arm.kind None) judged) c.keep.ensures
 
 pub returns-in-Whole-clause-spelled : goal.returns-in-Whole-clause-spelled
 returns-in-Whole-clause-spelled g c =
     let arm = c.in-Some-Asks-default-default-Some in
     let judged = rw (c.of.ensures, c.of-target.ensures, arm.field-0-is, arm.field-0-2-is) at arm.ensures in
-    let behind = rw c.of-target.ensures at c.meant_by-in-Whole.ensures in
-    IfSome-map _ _ _ (λ more k. heard-whole _ _ _ c.args.got.now more c.args.headers.now c.args.spans arm.token.now arm.kind arm.size _
-    c.requires.head c.requires.short c.requires.within.section.len_fits judged k.0 (c.as_slice.ensures.value ∙ k.1) behind c.heard_by-in-Whole.ensures) (rw c.split_at.ensures.back at c.in-Whole.ensures.body)
+    let kept = rw c.of-target.ensures at c.keep-in-Whole.ensures in
+    IfSome-map _ _ _ (λ more k. heard-whole _ _ c.args.got.now more c.args.headers.now c.args.spans arm.token.now arm.kind arm.size _
+    c.requires.head c.requires.short c.requires.within.section.len_fits judged k.0 k.1 kept) (rw c.split_at.ensures.back at c.in-Whole.ensures.body)
+
+pub returns-in-Whole-clause-known : goal.returns-in-Whole-clause-known
+returns-in-Whole-clause-known g c =
+    let arm = c.in-Some-Asks-default-default-Some in
+    let judged = rw (c.of.ensures, c.of-target.ensures, arm.field-0-is, arm.field-0-2-is) at arm.ensures in
+    kept-known _ _ _ (asks-known (g.C.Callers.knows_token c.args.callers.now) (span_bytes c.args.got.now c.args.spans.method) (span_bytes c.args.got.now c.args.spans.path)
+    (lines_of c.args.got.now (take c.args.spans.headers c.args.headers.now)) (asks arm.token.now arm.kind (Some arm.size)) judged) c.keep-in-Whole.ensures
 
 pub returns-in-Short-clause-spelled : goal.returns-in-Short-clause-spelled
 returns-in-Short-clause-spelled g c =

@@ -1,0 +1,32 @@
+-- What handling one request does to a desk.
+use Rattle.std.specs.Prelude.{◌≡◌, Option, None, Some}
+use Rattle.fab_desk_base.specs.Answers.{Request}
+use Rattle.fab_desk_base.specs.declared.reply.Reply.{Reply}
+use Rattle.fab_policy_base.specs.Policies.{PolicyRows}
+use Rattle.fab_stores.specs.declared.store.Store as store
+use Rattle.fab_world.specs.Worlds.{WorldRows}
+use Rattle.fab_desk.specs.Desks.{IsServed, IsTurnedAway}
+use Rattle.fab_desk.specs.declared.desk.Desk.{Desk}
+
+-- its policy
+abbrev pub policy_of : {A S B R : Type 0} → Desk A S B R → PolicyRows
+policy_of d = d.policy
+
+-- its world
+abbrev pub world_of : {A S B R : Type 0} → Desk A S B R → WorldRows
+world_of d = d.ledger
+
+-- the store that serves; none while the desk is halted
+abbrev pub serving_of : {A S B R : Type 0} → Desk A S B R → Option S
+serving_of d = d.store
+
+-- the store that refused a change, until it is released
+abbrev pub aside_of : {A S B R : Type 0} → Desk A S B R → Option S
+aside_of d = d.aside
+
+-- the request is replied to so, and leaves the desk so: a halted desk turns it away and stays as it
+-- was, and one that serves answers it over its store
+pub record Handles {A S B R : Type 0} (g : store.Ghosts S A) (d : Desk A S B R) (q : Request A) (r : Reply A) (e : Desk A S B R) : Type 0 where
+  pub policy : policy_of e ≡ policy_of d
+  pub halted : serving_of d ≡ None → IsTurnedAway (policy_of d) q.token r × (e ≡ d)
+  pub served : (s : S) → serving_of d ≡ Some s → IsServed g (policy_of d) (world_of d) q r s (serving_of e) (aside_of e) (world_of e)

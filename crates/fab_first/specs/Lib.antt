@@ -1,5 +1,0 @@
-pub mod World
-pub mod Replies
-pub mod Telling
-pub mod Acting
-pub mod Answering

@@ -1,0 +1,67 @@
+//! A desk that serves connections.
+ghost use Rattle.std.specs.Prelude.{◌≡◌};
+
+use crate::database::ProgramDesk;
+use fab_json::counted::Counted;
+use fab_serving::Server;
+use fab_stores::{OpenFault, Store};
+use fab_wire::{Outcome, serve_one};
+use std::alloc::Global;
+use std::io::{Read, Write};
+
+/// A desk over a store, and where its memory comes from.
+#[derive(Drop)]
+pub struct Front<S: Store<Global>> {
+    /// Where its memory comes from.
+    pub alloc: Global,
+    /// The desk.
+    pub desk: ProgramDesk<S>,
+}
+
+impl<S: Store<Global>> Server for Front<S> {
+    type Store = S;
+
+    type Fault = OpenFault;
+
+    type Outcome = Outcome;
+
+    ghost use Rattle.fab_program.specs.Fronts.{is_halted_desk, ServesDesk, ReleasesDesk, ReopensDesk, RefusesDesk};
+
+    ghost is_halted = { λ f. is_halted_desk f.desk };
+
+    ghost serves = { λ f moment outcome g. ServesDesk S.Store f.desk moment outcome g.desk };
+
+    ghost releases = { λ f g. ReleasesDesk f.desk g.desk };
+
+    ghost reopens = { λ f store g. ReopensDesk S.Store f.desk store g.desk };
+
+    ghost refuses = { λ f store fault. RefusesDesk S.Store store fault };
+
+    fn halted(&self) -> bool {
+        self.desk.halted()
+    }
+
+    fn release(&mut self) -> Option<S> {
+        self.desk.release()
+    }
+
+    fn reopen(&mut self, store: S) -> Result<(), (OpenFault, S)> {
+        self.desk.reopen(store)
+    }
+
+    fn serve_one<R: Read, W: Write>(
+        &mut self,
+        moment: u64,
+        reader: &mut Counted<R>,
+        writer: &mut Counted<W>,
+    ) -> Outcome {
+        serve_one(
+            self.alloc,
+            self.alloc,
+            &mut self.desk,
+            moment,
+            reader,
+            writer,
+        )
+    }
+}

@@ -1,0 +1,58 @@
+//! The sample policy of a trial.
+
+/// The policy under which `once` answers where none is given: the callers ada, bob, cyd, dan and eve,
+/// whose tokens are `t-` and their names. It keeps nothing secret.
+pub const TRIAL_POLICY: &str = "\
+    [[callers]]\n\
+    name = \"ada\"\n\
+    token = \"t-ada\"\n\
+    roles = [\"operator\"]\n\
+    tenants = \"*\"\n\
+    [[callers]]\n\
+    name = \"bob\"\n\
+    token = \"t-bob\"\n\
+    roles = [\"approver\"]\n\
+    tenants = \"*\"\n\
+    [[callers]]\n\
+    name = \"cyd\"\n\
+    token = \"t-cyd\"\n\
+    roles = [\"operator\"]\n\
+    tenants = [\"blue\"]\n\
+    [[callers]]\n\
+    name = \"dan\"\n\
+    token = \"t-dan\"\n\
+    roles = [\"approver\"]\n\
+    tenants = \"*\"\n\
+    [[callers]]\n\
+    name = \"eve\"\n\
+    token = \"t-eve\"\n\
+    roles = []\n\
+    tenants = [\"green\"]\n\
+    [[windows]]\n\
+    name = \"early\"\n\
+    weekly = [[60, 120]]\n\
+    freeze = [[350000, 351000]]\n\
+    [[rules]]\n\
+    name = \"ops\"\n\
+    actions = [\"import\", \"inventory\", \"stage\", \"withdraw\", \"dryrun\", \"activate\", \"rollback\"]\n\
+    role = \"operator\"\n\
+    [[rules]]\n\
+    name = \"signers\"\n\
+    actions = [\"approve\"]\n\
+    [[rules]]\n\
+    name = \"two-eyes\"\n\
+    actions = [\"activate\"]\n\
+    fabric = \"B\"\n\
+    approvals = 2\n\
+    approver = \"approver\"\n\
+    fresh = true\n\
+    [[rules]]\n\
+    name = \"quiet\"\n\
+    actions = [\"activate\"]\n\
+    fabric = \"B\"\n\
+    window = \"early\"\n\
+    [[rules]]\n\
+    name = \"own\"\n\
+    actions = [\"import\", \"inventory\", \"activate\", \"rollback\"]\n\
+    scope = \"own\"\n\
+";

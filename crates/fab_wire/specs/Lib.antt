@@ -1,0 +1,4 @@
+pub mod Known
+pub mod Serving
+pub mod Telling
+pub mod InTurn

@@ -1,0 +1,40 @@
+//! Who is a caller: whoever has a token in the policy of the desk.
+
+ghost use Rattle.std.specs.Prelude.{◌≡◌};
+
+use fab_desk::Desk;
+use fab_reach::PathBook;
+use fab_stores::Store;
+use fab_wire_base::callers::Callers;
+use std::alloc::Allocator;
+use std::str;
+
+/// The callers of a desk, by their tokens.
+#[derive(Drop)]
+pub struct KnownTo<'d, A: Allocator + Copy, S: Store<A>, B: PathBook<A>> {
+    desk: &'d Desk<A, S, B>,
+}
+
+impl<'d, A: Allocator + Copy, S: Store<A>, B: PathBook<A>> KnownTo<'d, A, S, B> {
+    /// The callers of a desk.
+    pub fn of(desk: &'d Desk<A, S, B>) -> Self
+        ensures { result.desk ≡ desk.entry }
+    {
+        KnownTo { desk }
+    }
+}
+
+impl<'d, A: Allocator + Copy, S: Store<A>, B: PathBook<A>> Callers for KnownTo<'d, A, S, B> {
+    ghost use Rattle.fab_desk.specs.Handled.{policy_of};
+    ghost use Rattle.fab_wire.specs.Known.{is_known};
+
+    ghost knows_token = { λ k. is_known (policy_of k.desk.now) };
+
+    fn knows(&self, token: &[u8]) -> bool {
+        self.desk.policy_is_sound();
+        match str::from_utf8(token) {
+            Ok(text) => self.desk.knows(text),
+            Err(_) => false,
+        }
+    }
+}

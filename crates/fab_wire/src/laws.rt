@@ -1,0 +1,72 @@
+//! Connections served in turn.
+
+ghost use Rattle.std.specs.Prelude.{◌≡◌, IfOk, OnErr};
+ghost use Rattle.fab_wire.specs.InTurn.{AreServed, IsServed};
+
+use crate::outcome::Outcome;
+use crate::serving::serve_one;
+use fab_desk::Desk;
+use fab_json::counted::Counted;
+use fab_reach::PathBook;
+use fab_stores::Store;
+use std::alloc::{AllocError, Allocator, Global};
+use std::io::{Read, Write};
+
+/// A connection that waits: when it comes, in Unix seconds, and its two sides.
+#[derive(Drop)]
+pub struct Connection<R, W> {
+    pub moment: u64,
+    pub reader: Counted<R>,
+    pub writer: Counted<W>,
+}
+
+/// A connection that was served: what came of it, and its two sides as it left them.
+#[derive(Drop)]
+pub struct Served<R, W> {
+    pub outcome: Outcome,
+    pub reader: Counted<R>,
+    pub writer: Counted<W>,
+}
+
+/// Serves connections, one after the other, each over the desk that the one before left. Room for
+/// what comes of them is taken first.
+///
+/// # Errors
+/// `AllocError` where there is no memory for that: then none was served, and the desk is as it was.
+pub fn serve_all<A: Allocator + Copy, S: Store<A>, B: PathBook<A>, R: Read + Drop, W: Write + Drop>(
+    alloc: A,
+    global: Global,
+    desk: &mut Desk<A, S, B>,
+    connections: Vec<Connection<R, W>, A>,
+) -> Result<Vec<Served<R, W>, A>, AllocError>
+    ensures served { IfOk result (λ served. AreServed S.Store R.remaining W.contents desk.old connections.items served.items desk.new) }
+    ensures kept { OnErr result (desk.new ≡ desk.old) }
+{
+    let mut all = Vec::with_capacity(alloc, connections.len())?;
+    for connection in connections {
+        all.push_reserved(serve(alloc, global, desk, connection));
+    }
+    Ok(all)
+}
+
+/// Serves one of them.
+fn serve<A: Allocator + Copy, S: Store<A>, B: PathBook<A>, R: Read + Drop, W: Write + Drop>(
+    alloc: A,
+    global: Global,
+    desk: &mut Desk<A, S, B>,
+    connection: Connection<R, W>,
+) -> Served<R, W>
+    ensures { IsServed S.Store R.remaining W.contents desk.old connection result desk.new }
+{
+    let Connection {
+        moment,
+        mut reader,
+        mut writer,
+    } = connection;
+    let outcome = serve_one(alloc, global, desk, moment, &mut reader, &mut writer);
+    Served {
+        outcome,
+        reader,
+        writer,
+    }
+}

@@ -1,0 +1,12 @@
+//! The wire of the change desk: one connection over a desk, from the bytes of a request to the bytes
+//! of its answer.
+#![tactic(auto)]
+
+mod callers;
+pub mod laws;
+mod outcome;
+mod serving;
+
+pub use callers::KnownTo;
+pub use outcome::Outcome;
+pub use serving::serve_one;

@@ -1,0 +1,36 @@
+//! What comes of a connection.
+
+ghost use Rattle.std.specs.Prelude.{Some};
+ghost use Rattle.fab_wire.specs.Telling.{outcome_text};
+
+use http::StatusCode;
+use std::fmt;
+use std::fmt::Display;
+
+/// What came of serving a connection. Its text is what a log shows: the status, or `unsent`,
+/// `read-failed` or `empty`.
+#[derive(Clone, Copy, Debug, PartialEq, Eq, Drop)]
+pub enum Outcome {
+    /// The whole answer was written, with this status.
+    Answered(StatusCode),
+    /// A write failed: a beginning of the answer was written, and the command has acted as its reply
+    /// says.
+    Unsent,
+    /// A read failed: nothing has acted, and nothing was written.
+    ReadFailed,
+    /// The input had no byte, and nothing was written.
+    Empty,
+}
+
+impl Display for Outcome {
+    ghost output = { λ outcome. Some (outcome_text outcome) };
+
+    fn fmt<W: fmt::Write>(&self, f: &mut fmt::Formatter<W>) -> fmt::Result {
+        match self {
+            Outcome::Answered(status) => write!(f, "{}", status.as_u16()),
+            Outcome::Unsent => write!(f, "unsent"),
+            Outcome::ReadFailed => write!(f, "read-failed"),
+            Outcome::Empty => write!(f, "empty"),
+        }
+    }
+}
