@@ -10,6 +10,7 @@ mod lists;
 mod policies;
 mod replies;
 mod reports;
+pub mod rows;
 mod stages;
 mod wide;
 

@@ -77,15 +77,17 @@ fn are_lists_answered<B: PathBook<Global>>(
     Ok(true)
 }
 
-/// Whether a new desk with this policy answers the lists as their turns say.
+/// Whether a desk with this policy and this world answers the lists as their turns say.
 fn are_kept<B: PathBook<Global>>(
     alloc: Global,
     policy: &Policy,
+    world: &mut World<Global>,
     stages: &[&[Turn]],
-) -> Result<bool, Fail> {
-    let mut world = World::new(alloc);
-    let mut book: B = opened(alloc, &world)?;
-    are_lists_answered(alloc, &mut world, &mut book, policy, stages)
+) -> Result<bool, Fail>
+    requires sound { IsSound world.old }
+{
+    let mut book: B = opened(alloc, world)?;
+    are_lists_answered(alloc, world, &mut book, policy, stages)
 }
 
 /// Whether a new desk answers each of these lists, as one list of requests, as its turns say.
@@ -94,5 +96,6 @@ fn are_kept<B: PathBook<Global>>(
 /// Where a turn says no command, or there is no memory.
 pub fn holds_at_once(alloc: Global, stages: &[&[Turn]]) -> Result<bool, Fail> {
     let policy = policy(alloc)?;
-    are_kept::<PlainBook<Global>>(alloc, &policy, stages)
+    let mut world = World::new(alloc);
+    are_kept::<PlainBook<Global>>(alloc, &policy, &mut world, stages)
 }

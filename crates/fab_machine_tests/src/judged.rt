@@ -1,35 +1,10 @@
 //! What the policy allows and denies.
 
+use fab_asking::rows::{ROW_10, ROW_11, ROW_12, ROW_13, SIGNED, STAGED};
 use fab_asking::{ADA, Ask, FIRST, I1, I2, PORTS, SECOND, See, TP1, Turn, WORLD, holds};
 use fab_inventory::HolderKind::Host;
 use fab_names::Fabric;
 use std::test::Fail;
-
-/// A plan in fabric B.
-const STAGED: &[Turn] = &[(
-    ADA,
-    0,
-    Ask::Stage("q1", "default B deny\n"),
-    "staged q1 of 1",
-)];
-
-/// Two approvers approve it.
-const SIGNED: &[Turn] = &[
-    ("t-bob", 0, Ask::Approve("q1"), "approved q1 by 1 at 6"),
-    ("t-dan", 0, Ask::Approve("q1"), "approved q1 by 2 at 6"),
-];
-
-/// The moments at which the window is shut, and then one at which it is open.
-const ROW_10: [&[Turn]; 4] = [
-    &[
-        (ADA, 350_000, Ask::Activate("q1"), "denied 4 quiet window"),
-        (ADA, 352_800, Ask::Activate("q1"), "denied 4 quiet window"),
-        (ADA, 349_200, Ask::Activate("q1"), "done q1 at 7"),
-    ],
-    &[(ADA, 349_999, Ask::Activate("q1"), "done q1 at 7")],
-    &[(ADA, 351_000, Ask::Activate("q1"), "done q1 at 7")],
-    &[(ADA, 352_799, Ask::Activate("q1"), "done q1 at 7")],
-];
 
 #[test]
 fn row_10(rt: HostRuntime) -> Result<(), Fail> {
@@ -39,83 +14,17 @@ fn row_10(rt: HostRuntime) -> Result<(), Fail> {
     Ok(())
 }
 
-/// No approval, and a caller without the role.
-const ROW_11: &[Turn] = &[
-    ("t-eve", 349_200, Ask::Activate("q1"), "denied 1 ops role"),
-    (
-        ADA,
-        349_200,
-        Ask::Activate("q1"),
-        "denied 3 two-eyes approvals",
-    ),
-];
-
 #[test]
 fn row_11(rt: HostRuntime) -> Result<(), Fail> {
     assert!(rt; holds(rt.alloc(), &[WORLD, STAGED, ROW_11])?);
     Ok(())
 }
 
-/// The author's approval is none, one caller's two are one, and all are stale after a change.
-const ROW_12: &[Turn] = &[
-    (ADA, 349_200, Ask::Approve("q1"), "own-plan"),
-    (
-        "t-bob",
-        349_200,
-        Ask::Approve("q1"),
-        "approved q1 by 1 at 6",
-    ),
-    (
-        "t-bob",
-        349_200,
-        Ask::Approve("q1"),
-        "approved q1 by 1 at 6",
-    ),
-    (
-        ADA,
-        349_200,
-        Ask::Activate("q1"),
-        "denied 3 two-eyes approvals",
-    ),
-    (
-        "t-dan",
-        349_200,
-        Ask::Approve("q1"),
-        "approved q1 by 2 at 6",
-    ),
-    (ADA, 349_200, Ask::Import(Fabric::A, PORTS), "changed at 7"),
-    (
-        ADA,
-        349_200,
-        Ask::Activate("q1"),
-        "denied 3 two-eyes approvals",
-    ),
-];
-
 #[test]
 fn row_12(rt: HostRuntime) -> Result<(), Fail> {
     assert!(rt; holds(rt.alloc(), &[WORLD, STAGED, ROW_12])?);
     Ok(())
 }
-
-/// A plan that the records refuse: nothing of it is done, and the policy is asked before.
-const ROW_13: &[Turn] = &[
-    (
-        ADA,
-        0,
-        Ask::Stage(
-            "r1",
-            "default A permit
-zone.put A z8 wwpn=10:00:00:00:00:00:00:01
-set.put A s8 z9
-",
-        ),
-        "staged r1 of 3",
-    ),
-    (ADA, 0, Ask::Activate("r1"), "step 3 unknown z9"),
-    (ADA, 0, Ask::Show(See::Joined(I1, TP1)), "apart"),
-    ("t-eve", 0, Ask::Activate("r1"), "denied 1 ops role"),
-];
 
 #[test]
 fn row_13(rt: HostRuntime) -> Result<(), Fail> {

@@ -1,0 +1,171 @@
+//! Tables that somebody else has changed.
+
+use crate::desks::{DeskOver, store_after, tables_of};
+use crate::lists::List;
+use crate::memory::{Tables, tables_after};
+use fab_asking::{ADA, Ask, FIRST, NO_PORTS, See, TP1, TP2, Turn, policy};
+use fab_inventory::HolderKind::Array;
+use fab_names::Fabric;
+use fab_stores::{OpenFault, Store, Table};
+use std::alloc::Global;
+use std::test::Fail;
+
+/// The tables after a statement.
+fn changed(alloc: Global, tables: Tables, statement: &str) -> Result<Tables, Fail> {
+    let mut conn = tables.into_connection();
+    conn.execute_batch(statement)?;
+    tables_of(alloc, conn)
+}
+
+/// Why no desk is opened over the store.
+fn fault_of<S: Store<Global>>(alloc: Global, store: S) -> Result<Option<OpenFault>, Fail> {
+    let policy = policy(alloc)?;
+    match DeskOver::<S>::open(alloc, store, policy) {
+        Ok(_) => Ok(None),
+        Err((fault, _)) => Ok(Some(fault)),
+    }
+}
+
+/// The second target goes to another array.
+const MOVED: &[Turn] = &[
+    (
+        ADA,
+        0,
+        Ask::Put(Array, "arr1", "store", &[TP1]),
+        "changed at 8",
+    ),
+    (
+        ADA,
+        0,
+        Ask::Put(Array, "arr2", "store", &[TP2]),
+        "changed at 9",
+    ),
+];
+
+/// Why no desk is opened over the tables after the first plan and this statement.
+fn fault_after(alloc: Global, statement: &str) -> Result<Option<OpenFault>, Fail> {
+    let tables = tables_after(alloc, &[List::World, List::First], MOVED)?;
+    let tables = changed(alloc, tables, statement)?;
+    fault_of(alloc, tables)
+}
+
+/// Statements, and why no desk is opened then.
+const FAULTS: [(&str, Option<OpenFault>); 21] = [
+    (
+        "UPDATE meta SET value = '3' WHERE key = 'schema'",
+        Some(OpenFault::NewerSchema(3)),
+    ),
+    (
+        "DELETE FROM meta WHERE key = 'schema'",
+        Some(OpenFault::Damaged(Table::Meta)),
+    ),
+    (
+        "UPDATE meta SET value = '1000000001' WHERE key = 'revision'",
+        Some(OpenFault::Damaged(Table::Meta)),
+    ),
+    (
+        "UPDATE meta SET value = '1000000000' WHERE key = 'revision'",
+        None,
+    ),
+    (
+        "UPDATE ports SET domain = 240 WHERE wwpn = '1000000000000001'",
+        Some(OpenFault::Damaged(Table::Ports)),
+    ),
+    (
+        "UPDATE ports SET holder = 'db9' WHERE wwpn = '1000000000000002'",
+        Some(OpenFault::Damaged(Table::Ports)),
+    ),
+    (
+        "UPDATE holders SET kind = 'printer' WHERE name = 'db2'",
+        Some(OpenFault::Damaged(Table::Holders)),
+    ),
+    (
+        "UPDATE volumes SET array = 'db1' WHERE name = 'v2'",
+        Some(OpenFault::Damaged(Table::Volumes)),
+    ),
+    (
+        "INSERT INTO zoning VALUES ('A', 'alias', 'spare', 'alias=disk')",
+        Some(OpenFault::Damaged(Table::Zoning)),
+    ),
+    (
+        "UPDATE meta SET value = '' WHERE key = 'active.A'",
+        Some(OpenFault::Damaged(Table::Active)),
+    ),
+    (
+        "UPDATE groups SET array = 'arr9' WHERE name = 'g1'",
+        Some(OpenFault::Damaged(Table::Groups)),
+    ),
+    // The port is of another array than the storage group.
+    (
+        "INSERT INTO group_parts VALUES ('storage', 'g1', 'target', '5000000000000002', '')",
+        Some(OpenFault::Damaged(Table::GroupParts)),
+    ),
+    (
+        "UPDATE plans SET position = 2",
+        Some(OpenFault::Damaged(Table::Plans)),
+    ),
+    (
+        "INSERT INTO approvals VALUES ('p9', 'bob', 6)",
+        Some(OpenFault::Damaged(Table::Approvals)),
+    ),
+    (
+        "INSERT INTO undo VALUES ('p1', '=', 'meta active.A s1')",
+        Some(OpenFault::Damaged(Table::Undo)),
+    ),
+    (
+        "INSERT INTO undo VALUES ('p1', '-', 'meta active.A s1')",
+        Some(OpenFault::Damaged(Table::Undo)),
+    ),
+    (
+        "DELETE FROM undo WHERE entry = 'meta active.A s1'",
+        Some(OpenFault::Damaged(Table::Undo)),
+    ),
+    (
+        "INSERT INTO paths VALUES ('db1', 'A', '1000000000000001', '5000000000000002', 'v1', 0)",
+        Some(OpenFault::Damaged(Table::Paths)),
+    ),
+    ("DELETE FROM paths", Some(OpenFault::Damaged(Table::Paths))),
+    (
+        "DELETE FROM paths; INSERT INTO approvals VALUES ('p9', 'bob', 6)",
+        Some(OpenFault::Damaged(Table::Approvals)),
+    ),
+    ("DROP TABLE paths", Some(OpenFault::Store)),
+];
+
+/// The first statement after which another fault is told.
+fn first_wrong(alloc: Global) -> Result<&'static str, Fail> {
+    for (statement, fault) in &FAULTS {
+        if fault_after(alloc, statement)? != *fault {
+            return Ok(statement);
+        }
+    }
+    Ok("none")
+}
+
+#[test]
+fn damage_is_told(rt: HostRuntime) -> Result<(), Fail> {
+    assert_eq!(rt; first_wrong(rt.alloc())?, "none");
+    Ok(())
+}
+
+/// Sets the greatest revision that there may be.
+const GREATEST: &str = "UPDATE meta SET value = '1000000000' WHERE key = 'revision'";
+
+/// No more changes are made, and reads are answered.
+const LAST: &[Turn] = &[
+    (ADA, 0, Ask::Import(Fabric::A, NO_PORTS), "limit changes"),
+    (
+        ADA,
+        0,
+        Ask::Show(See::Paths("db1")),
+        "paths db1\nA 10:00:00:00:00:00:00:01 50:00:00:00:00:00:00:01 v1 0",
+    ),
+];
+
+#[test]
+fn there_are_no_more_changes(rt: HostRuntime) -> Result<(), Fail> {
+    let tables = tables_after(rt.alloc(), &[List::World], FIRST)?;
+    let tables = changed(rt.alloc(), tables, GREATEST)?;
+    let _tables = store_after(rt.alloc(), tables, &[], LAST)?;
+    Ok(())
+}
