@@ -1,0 +1,32 @@
+//! Tests of the wire over a desk in memory: the bytes of requests, one connection after the other,
+//! and the bytes of their answers; each also where a read gets one byte. Nothing here is part of the
+//! product.
+#![tactic(auto)]
+
+#[cfg(test)]
+mod broken;
+#[cfg(test)]
+mod bytes;
+#[cfg(test)]
+mod desks;
+#[cfg(test)]
+mod faults;
+#[cfg(test)]
+mod judged;
+#[cfg(test)]
+mod paths;
+#[cfg(test)]
+mod policy;
+#[cfg(test)]
+mod refusals;
+#[cfg(test)]
+mod shows;
+#[cfg(test)]
+mod stages;
+#[cfg(test)]
+mod streams;
+#[cfg(test)]
+mod turns;
+
+/// Nothing: the tests are all there is.
+fn main() {}
