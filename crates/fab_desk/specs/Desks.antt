@@ -1,5 +1,5 @@
 -- What a desk over a store does with a request.
-use Rattle.std.specs.Prelude.{ℕ, ◌≡◌, ◌⊎◌, List, [], ◌∷◌, None, Some, Option}
+use Rattle.std.specs.Prelude.{ℕ, ◌≡◌, ◌⊎◌, List, [], ◌∷◌, Contains, None, Some, Option}
 use Rattle.fab_desk_base.specs.Answers.{IsNobodys, IsStep, Request}
 use Rattle.fab_desk_base.specs.declared.fault.DeskFault.TheVariants as fault
 use Rattle.fab_desk_base.specs.declared.reply.Reply.{Reply}
@@ -26,6 +26,10 @@ IsHandled p w q r v = (IsUndone r × (v ≡ w)) ⊎ IsStep p w q r v
 -- the world after the request, if it is done
 abbrev pub IsAfter : {A : Type 0} → PolicyRows → WorldRows → Request A → WorldRows → Type 0
 IsAfter {A} p w q v = (r : Reply A) × IsStep p w q r v
+
+-- the tables have just the rows of the world after one of the requests
+abbrev pub IsOneMore : {A : Type 0} → PolicyRows → List (Request A) → WorldRows → Tables → Type 0
+IsOneMore {A} p asked w left = (q : Request A) × Contains asked q × (v : WorldRows) × IsAfter p w q v × HoldsWorld left v
 
 -- what a halted desk answers: nobody has the token, or the desk is halted
 abbrev pub IsTurnedAway : {A : Type 0} → PolicyRows → List ℕ → Reply A → Type 0
@@ -90,6 +94,13 @@ module _ {A S : Type 0} (g : store.Ghosts S A) where
   abbrev pub IsTiedDesk : Option S → WorldRows → Type 0
   IsTiedDesk (Some s) w = IsTied s w
   IsTiedDesk None w = Unit {0}
+
+  -- whatever moment a stop comes at, it leaves the rows of the world, and nothing else; where the
+  -- store refused one of the requests, which halted the desk, they may be those of the world after it
+  abbrev pub IsLeftByStop : PolicyRows → List (Request A) → Option S → Option S → WorldRows → Type 0
+  IsLeftByStop p asked (Some s) aside w = (left : Tables) → g.may_leave s left → HoldsWorld left w
+  IsLeftByStop p asked None (Some s) w = (left : Tables) → g.may_leave s left → HoldsWorld left w ⊎ IsOneMore p asked w left
+  IsLeftByStop p asked None None w = Unit {0}
 
 -- the request is handled, or the desk is halted
 abbrev pub IsAnsweredByDesk : {A : Type 0} → PolicyRows → WorldRows → Request A → Reply A → WorldRows → Type 0

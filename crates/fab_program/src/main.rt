@@ -12,6 +12,8 @@ mod once;
 mod printing;
 mod run;
 mod serving;
+#[cfg(test)]
+mod tests;
 mod trial;
 
 use std::io;

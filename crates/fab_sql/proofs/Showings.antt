@@ -1,5 +1,5 @@
 -- What a read shows, and what rising rowids tell.
-use Rattle.std.proofs.Common.{◌≡◌, ◌⊎◌, ℕ, zero, suc, ◌<◌, ◌+◌, ℤ, true, false, List, [], ◌∷◌, length, map, refl, sym, ap, subst, ◌∙◌, inl, inr, arith, Equal, int_cmp}
+use Rattle.std.proofs.Common.{◌≡◌, ◌⊎◌, ℕ, zero, suc, ◌<◌, ◌+◌, ℤ, true, false, List, [], ◌∷◌, length, map, refl, Ok, sym, ap, subst, ◌∙◌, inl, inr, arith, Equal, int_cmp}
 use Rattle.std.proofs.lemmas.Int.{ints}
 use Rattle.std.proofs.lemmas.Bool.Decides.{nat_tests}
 use Rattle.sqlite.specs.declared.types.Value.TheVariants.{Null, Int, Text}
@@ -13,10 +13,12 @@ use Rattle.sqlite.specs.Program.{overlay}
 use Rattle.sqlite.specs.Collation.TheVariants.{Binary}
 use Rattle.sqlite_value.specs.Keys.{ascending}
 use Rattle.sqlite.specs.Term.{col, eval_all}
-use Rattle.sqlite.specs.State.{State, Survives, Shown, CommitsShowing, FailsToQuery, FailsToShow, IsUnchanged, IsRolledBack, ShowsRows}
-use Rattle.sqlite.specs.Listing.{understood}
+use Rattle.sqlite.specs.State.{State, Survives, Shown, CommitsShowing, FailsToQuery, FailsToShow, IsStatement, IsUnchanged, IsRolledBack, ShowsRows}
+use Rattle.sqlite.specs.Clock.{timed}
+use Rattle.sqlite.specs.Effect.{Database}
+use Rattle.sqlite.specs.Listing.{understood, reads_listing, IsSourceOf}
 use Rattle.sqlite.proofs.StateLemmas.{survives_weaker}
-use Rattle.sqlite.proofs.Callers.{IsPlain, reads_as, never_commits}
+use Rattle.sqlite.proofs.Callers.{IsPlain, reads_as, never_commits, unchanged_then}
 use Rattle.sqlite_rules.specs.Lists.{Has}
 use Rattle.sqlite_rules.proofs.ListLemmas.{has_contained, contains_had}
 use Rattle.sqlite_rules.proofs.ProbeLemmas.{has_mapped, mapped_has}
@@ -105,6 +107,16 @@ module _ (text : List ℕ) (params : Row) (old new : State) where
 
   pub nothing_kept : IsPlain (understood old.now.schema text) → Survives old new (CommitsShowing text params old) → Survives old new (λ _. ⊥)
   nothing_kept plain = survives_weaker old new _ _ (λ clean db. never_commits text params old db plain)
+
+-- what a query shows of a connection that is as it was, it shows of the one before
+pub shown_since : (text : List ℕ) (params : Row) (old mid new : State) (rows : List Row) → IsUnchanged old mid → IsPlain (understood old.now.schema text) → Shown text params mid new rows → Shown text params old new rows
+unfolding Shown
+shown_since text params old mid new rows same plain h =
+    let statement : IsStatement old text params h.0 = record { is = subst (λ (d : Database). understood d.schema text ≡ Ok h.0) same.0.now_is h.1.is; whole = h.1.whole; given = h.1.given; now = h.1.now } in
+    let none = (subst IsPlain statement.is plain).0 in
+    let full = timed params h.0.formats h.1.now in
+    let it = subst (ShowsRows mid new text h.0 full rows) none h.2 in
+    (h.0, statement, subst (ShowsRows old new text h.0 full rows) (sym none) (it.0, subst (λ (d : Database). IsSourceOf (reads_listing d.schema text) d it.0) same.0.now_is it.1, it.2, unchanged_then old mid new same it.3))
 
 pub stays_from : (old new : State) → IsUnchanged old new ⊎ IsRolledBack old new → Stays old new
 stays_from old new (inl same) settled is_open = (same.0.was_open, same.0.now_is, same.0.committed_is)

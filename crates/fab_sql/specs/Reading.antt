@@ -1,10 +1,10 @@
 -- What a read shows of a table, and what it leaves.
-use Rattle.std.specs.Prelude.{◌≡◌, ◌↔◌, ℕ, ◌<◌, ◌<ℤ◌, true, List, [], ◌∷◌, length, slice_index_or, IsTrue, Contains}
+use Rattle.std.specs.Prelude.{◌≡◌, ◌↔◌, ℕ, ◌<◌, ◌<ℤ◌, true, List, [], ◌∷◌, length, map, slice_index_or, IsTrue, Contains}
 use Rattle.sqlite.specs.declared.types.Value.TheVariants.{Text}
 use Rattle.sqlite.specs.Order.{Row, column}
 use Rattle.sqlite.specs.Tree.{Trees, rowid}
 use Rattle.sqlite.specs.Edit.{id_in}
-use Rattle.sqlite.specs.State.{State}
+use Rattle.sqlite.specs.State.{State, Shown}
 use Rattle.sqlite_trees.specs.View.{is_int}
 use Rattle.sqlite_rules.specs.Lists.{Has}
 use Rattle.fab_load.specs.declared.fault.Table.{Table}
@@ -34,6 +34,12 @@ pub record DoRise (rows : List Row) : Type 0 where
 -- the lines are those of the rows with P: each such row is that of a line, and each line's row is one
 abbrev pub AreLinesOf : {L : Type 0} → (L → Row) → (Row → Type 0) → List Row → List L → Type 0
 AreLinesOf {L} row P rows lines = (r : Row) → (Contains rows r × P r) ↔ ((l : L) × Contains lines l × (row l ≡ r))
+
+-- the lines are those of the rows that the query shows, one after the other
+pub record AreStreamed {L : Type 0} (row : L → Row) (show : Row → Row) (text : List ℕ) (params : Row) (old new : State) (lines : List L) : Type 0 where
+  pub rows : List Row
+  pub shown : Shown text params old new rows
+  pub told : map row lines ≡ map show rows
 
 -- a connection with nothing pending is as it was, if it is still open
 abbrev pub Stays : State → State → Type 0

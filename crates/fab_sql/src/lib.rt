@@ -16,3 +16,4 @@ pub use line::Line;
 pub use making::init;
 pub use read::{ReadFault, read_all, read_paths_of};
 pub use shape::has_tables;
+pub use texts::{create_text, delete_text, insert_text, paths_text, select_text};

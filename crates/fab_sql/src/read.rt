@@ -1,5 +1,5 @@
 //! Reads of whole tables.
-ghost use Rattle.std.specs.Prelude.{◌≡◌, false, map, IfOk, OnOk, IsTrue};
+ghost use Rattle.std.specs.Prelude.{◌≡◌, [], ◌∷◌, ◌++◌, false, map, IfOk, OnOk, IsTrue};
 ghost use Rattle.sqlite.specs.State.{HasCleanDisk, IsUnchanged, Shown, Survives};
 ghost use Rattle.sqlite.specs.Given.{IsPlain};
 ghost use Rattle.sqlite.specs.Listing.{understood};
@@ -11,7 +11,7 @@ ghost use Rattle.fab_sql.specs.Schema.{desk_schema};
 ghost use Rattle.fab_sql.specs.Trees.{tree_of, show_of, tables_of};
 ghost use Rattle.fab_sql.specs.Rows.{IsKeyed};
 ghost use Rattle.fab_sql.specs.States.{IsReady};
-ghost use Rattle.fab_sql.specs.Reading.{AreShown, IsAny, IsOfHost, DoRise, AreLinesOf, Stays};
+ghost use Rattle.fab_sql.specs.Reading.{AreShown, AreStreamed, IsAny, IsOfHost, DoRise, AreLinesOf, Stays};
 
 use crate::line::Line;
 use crate::shape::has_tables;
@@ -110,16 +110,48 @@ fn query_rows<S: Alter>(conn: &mut Connection<S>, table: Table) -> Result<Vec<Ro
     ask(conn, select_text(table), &[])
 }
 
-/// The rows of the paths of the host, each behind its rowid.
-fn query_paths_of<S: Alter>(conn: &mut Connection<S>, host: &str) -> Result<Vec<Row>, ReadFault>
-    ensures shown { HasCleanDisk (state S.Store conn.new) → IfOk result (λ rows. AreShown table.Paths (IsOfHost host.now) (state S.Store conn.old).now.trees rows.items) }
-    ensures schema { OnOk result ((state S.Store conn.old).now.schema ≡ desk_schema) }
+/// Puts the line that a row shows behind the others.
+fn take<L: Line>(lines: &mut Vec<L>, shown: &Row) -> Result<(), ReadFault>
+    ensures { OnOk result (map L.Line.row lines.new.items ≡ map L.Line.row lines.old.items ++ show_of L.Line.place shown.now ∷ []) }
+{
+    let line = line_from(shown)?;
+    match lines.push(line) {
+        Ok(()) => Ok(()),
+        Err(_) => Err(ReadFault::Memory),
+    }
+}
+
+/// The lines that a query shows, each made of its row when that is read, so that no list of rows is
+/// held.
+fn stream<S: Alter, L: Line>(
+    conn: &mut Connection<S>,
+    alloc: Global,
+    text: &str,
+    params: &[ValueRef<'_>],
+) -> Result<Vec<L>, ReadFault>
+    requires plain { IsPlain (understood (state S.Store conn.old).now.schema text.now) }
+    ensures shown { HasCleanDisk (state S.Store conn.new) → IfOk result (λ lines. AreStreamed L.Line.row (show_of L.Line.place) text.now (bound params.now) (state S.Store conn.old) (state S.Store conn.new) lines.items) }
     ensures same { HasCleanDisk (state S.Store conn.new) → OnOk result (IsUnchanged (state S.Store conn.old) (state S.Store conn.new)) }
     ensures stays { HasCleanDisk (state S.Store conn.new) → Stays (state S.Store conn.old) (state S.Store conn.new) }
     ensures outside { conn.old.in_transaction ≡ false → conn.new.in_transaction ≡ false }
     ensures survives { Survives (state S.Store conn.old) (state S.Store conn.new) (λ _. ⊥) }
 {
-    ask(conn, paths_text(), params![host])
+    let mut lines = Vec::new(alloc);
+    let mut rows = match conn.query(text, params) {
+        Ok(rows) => rows,
+        Err(error) => return Err(ReadFault::Store(error)),
+    };
+    'rows: for _ in 0..u64::MAX {
+        match rows.advance() {
+            Ok(()) => {}
+            Err(error) => return Err(ReadFault::Store(error)),
+        }
+        let Some(row) = rows.get() else {
+            return Ok(lines);
+        };
+        take(&mut lines, row)?;
+    }
+    Err(ReadFault::Memory)
 }
 
 /// All lines of a table. The database is as it was.
@@ -166,6 +198,8 @@ pub fn read_paths_of<S: Alter>(
     ensures outside { conn.old.in_transaction ≡ false → conn.new.in_transaction ≡ false }
     ensures survives { Survives (state S.Store conn.old) (state S.Store conn.new) (λ _. ⊥) }
 {
-    let rows = query_paths_of(conn, host)?;
-    lines_from(alloc, rows.as_slice())
+    if !has_tables(conn) {
+        return Err(ReadFault::Odd);
+    }
+    stream(conn, alloc, paths_text(), params![host])
 }

@@ -5,7 +5,7 @@ ghost use Rattle.fab_sql.specs.Statements as spec;
 use fab_tables::Table;
 
 /// The text that adds a row.
-pub(crate) fn insert_text(table: Table) -> &'static str
+pub fn insert_text(table: Table) -> &'static str
     ensures { result.now ≡ spec.insert_text table }
 {
     match table {
@@ -25,7 +25,7 @@ pub(crate) fn insert_text(table: Table) -> &'static str
 }
 
 /// The text that removes the rows with a key.
-pub(crate) fn delete_text(table: Table) -> &'static str
+pub fn delete_text(table: Table) -> &'static str
     ensures { result.now ≡ spec.delete_text table }
 {
     match table {
@@ -48,7 +48,7 @@ pub(crate) fn delete_text(table: Table) -> &'static str
 }
 
 /// The text that shows all rows, each behind its rowid.
-pub(crate) fn select_text(table: Table) -> &'static str
+pub fn select_text(table: Table) -> &'static str
     ensures { result.now ≡ spec.select_text table }
 {
     match table {
@@ -73,14 +73,14 @@ pub(crate) fn select_text(table: Table) -> &'static str
 }
 
 /// The text that shows the rows of the paths of a host, in their order, each behind its rowid.
-pub(crate) fn paths_text() -> &'static str
+pub fn paths_text() -> &'static str
     ensures { result.now ≡ spec.paths_text }
 {
     "SELECT rowid, host, fabric, initiator, target, volume, lun FROM paths WHERE host = ?1 ORDER BY host, fabric, initiator, target, volume, lun"
 }
 
 /// The text that makes the table.
-pub(crate) fn create_text(table: Table) -> &'static str
+pub fn create_text(table: Table) -> &'static str
     ensures { result.now ≡ spec.create_text table }
 {
     match table {

@@ -5,18 +5,25 @@ use fab_desk::Desk;
 use fab_policy_base::Policy;
 use fab_reach::PlainBook;
 use fab_store::SqlStore;
+use fab_stores::Store;
 use sqlite::{Connection, MemStore};
 use std::alloc::Global;
 use std::test::Fail;
 
 /// The tables of a desk in memory.
-type Tables = SqlStore<MemStore>;
+pub type Tables = SqlStore<MemStore>;
+
+/// A desk over a store.
+pub type DeskOver<S> = Desk<Global, S, PlainBook<Global>>;
 
 /// A desk in memory.
-pub type MemoryDesk = Desk<Global, Tables, PlainBook<Global>>;
+pub type MemoryDesk = DeskOver<Tables>;
 
 /// The tables of a new desk.
-fn new_tables(alloc: Global) -> Result<Tables, Fail> {
+///
+/// # Errors
+/// Where there is no memory.
+pub fn new_tables(alloc: Global) -> Result<Tables, Fail> {
     let Ok(connection) = Connection::open_in_memory(alloc) else {
         return Err(Fail::new("no connection"));
     };
@@ -27,18 +34,29 @@ fn new_tables(alloc: Global) -> Result<Tables, Fail> {
     }
 }
 
-/// A desk over tables, with a policy.
-fn desk_over(alloc: Global, tables: Tables, policy: Policy) -> Result<MemoryDesk, Fail> {
-    match Desk::open(alloc, tables, policy) {
+/// A desk over a store, with a policy.
+fn desk_over<S: Store<Global>>(
+    alloc: Global,
+    store: S,
+    policy: Policy,
+) -> Result<DeskOver<S>, Fail> {
+    match Desk::open(alloc, store, policy) {
         Ok(desk) => Ok(desk),
         Err(_) => Err(Fail::new("no desk")),
     }
 }
 
-/// A desk over tables.
-fn desk_of(alloc: Global, tables: Tables) -> Result<MemoryDesk, Fail> {
-    match Policy::read(alloc, POLICY) {
-        Ok(policy) => desk_over(alloc, tables, policy),
+/// A desk over a store, with a policy by its text.
+///
+/// # Errors
+/// Where there is no memory, or the text is no policy.
+pub fn desk_of<S: Store<Global>>(
+    alloc: Global,
+    store: S,
+    policy: &str,
+) -> Result<DeskOver<S>, Fail> {
+    match Policy::read(alloc, policy) {
+        Ok(policy) => desk_over(alloc, store, policy),
         Err(_) => Err(Fail::new("no policy")),
     }
 }
@@ -49,5 +67,5 @@ fn desk_of(alloc: Global, tables: Tables) -> Result<MemoryDesk, Fail> {
 /// Where there is no memory.
 pub fn new_desk(alloc: Global) -> Result<MemoryDesk, Fail> {
     let tables = new_tables(alloc)?;
-    desk_of(alloc, tables)
+    desk_of(alloc, tables, POLICY)
 }

@@ -20,6 +20,8 @@ mod policy;
 #[cfg(test)]
 mod refusals;
 #[cfg(test)]
+mod refusing;
+#[cfg(test)]
 mod shows;
 #[cfg(test)]
 mod stages;

@@ -2,9 +2,10 @@
 //! compared.
 
 use super::bytes::Bytes;
-use super::desks::{MemoryDesk, new_desk};
+use super::desks::{DeskOver, new_desk};
 use super::streams::Slow;
 use fab_json::counted::Counted;
+use fab_stores::Store;
 use fab_wire::{Outcome, serve_one};
 use std::alloc::{AllocError, Global};
 use std::test::Fail;
@@ -123,9 +124,9 @@ fn is_wanted(outcome: Outcome, answer: &[u8], wanted: &str) -> Result<(), Fail> 
 ///
 /// # Errors
 /// Another answer.
-pub fn serves(
+pub fn serves<S: Store<Global>>(
     alloc: Global,
-    desk: &mut MemoryDesk,
+    desk: &mut DeskOver<S>,
     most: usize,
     moment: u64,
     request: &str,
@@ -139,7 +140,12 @@ pub fn serves(
 }
 
 /// Serves a request, and compares the answer.
-fn plays(alloc: Global, desk: &mut MemoryDesk, most: usize, turn: &Turn<'_>) -> Result<(), Fail> {
+fn plays<S: Store<Global>>(
+    alloc: Global,
+    desk: &mut DeskOver<S>,
+    most: usize,
+    turn: &Turn<'_>,
+) -> Result<(), Fail> {
     let request = request_of(alloc, turn)?;
     let wanted = answer_of(alloc, turn)?;
     serves(
@@ -156,9 +162,9 @@ fn plays(alloc: Global, desk: &mut MemoryDesk, most: usize, turn: &Turn<'_>) -> 
 ///
 /// # Errors
 /// Another answer, a text that tells no turn, and where there is no memory.
-pub fn plays_text(
+pub fn plays_text<S: Store<Global>>(
     alloc: Global,
-    desk: &mut MemoryDesk,
+    desk: &mut DeskOver<S>,
     most: usize,
     text: &str,
 ) -> Result<(), Fail> {
@@ -167,9 +173,9 @@ pub fn plays_text(
 }
 
 /// Serves requests one after the other, and compares each answer.
-fn plays_each(
+fn plays_each<S: Store<Global>>(
     alloc: Global,
-    desk: &mut MemoryDesk,
+    desk: &mut DeskOver<S>,
     most: usize,
     turns: &[&str],
 ) -> Result<(), Fail> {
@@ -183,9 +189,9 @@ fn plays_each(
 ///
 /// # Errors
 /// The first answer that is another, and where there is no memory.
-pub fn plays_all(
+pub fn plays_all<S: Store<Global>>(
     alloc: Global,
-    desk: &mut MemoryDesk,
+    desk: &mut DeskOver<S>,
     most: usize,
     stages: &[&[&str]],
 ) -> Result<(), Fail> {
@@ -196,9 +202,9 @@ pub fn plays_all(
 }
 
 /// Serves the bytes of requests one after the other, and compares each answer.
-fn serves_each(
+fn serves_each<S: Store<Global>>(
     alloc: Global,
-    desk: &mut MemoryDesk,
+    desk: &mut DeskOver<S>,
     most: usize,
     requests: &[Bytes],
 ) -> Result<(), Fail> {

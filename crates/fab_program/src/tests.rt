@@ -1,0 +1,245 @@
+//! Runs of the program, each by the words of its command line: what it reads and writes, and its exit
+//! status. The desk stands in a file, which each run opens anew.
+
+use crate::run::run;
+use crate::trial::TRIAL_POLICY;
+use std::alloc::{AllocError, Global};
+use std::fs;
+use std::test::Fail;
+
+/// The words behind the program's name, parted by spaces.
+fn words_from(alloc: Global, text: &str) -> Result<Vec<String>, AllocError> {
+    let mut words = Vec::new(alloc);
+    for word in text.split(' ') {
+        words.push(String::from_str(alloc, word)?)?;
+    }
+    Ok(words)
+}
+
+/// What a run wrote to its two outputs, and its exit status.
+#[derive(Clone, Copy)]
+struct Wrote<'t> {
+    output: &'t str,
+    errors: &'t str,
+    status: u8,
+}
+
+/// Runs the program with these words, and compares what it wrote.
+fn is_run(rt: &HostRuntime, words: &[String], input: &str, wanted: &Wrote<'_>) -> Result<(), Fail> {
+    let mut output = Vec::new(rt.alloc());
+    let mut errors = Vec::new(rt.alloc());
+    let status = run(
+        rt,
+        words,
+        || Some(0),
+        input.as_bytes(),
+        &mut output,
+        &mut errors,
+    );
+    if status == wanted.status
+        && output.as_slice() == wanted.output.as_bytes()
+        && errors.as_slice() == wanted.errors.as_bytes()
+    {
+        Ok(())
+    } else {
+        Err(Fail::new(format_args!(
+            "{status} {}{}",
+            str::from_utf8(output.as_slice()).unwrap_or("no text"),
+            str::from_utf8(errors.as_slice()).unwrap_or("no text")
+        )))
+    }
+}
+
+/// A run without standard input: its words, and what it writes.
+type Run = (&'static str, Wrote<'static>);
+
+/// Runs the program as these tell, one after the other.
+fn are_run(rt: &HostRuntime, runs: &[Run]) -> Result<(), Fail> {
+    for (text, wanted) in runs {
+        let words = words_from(rt.alloc(), text)?;
+        is_run(rt, words.as_slice(), "", wanted)?;
+    }
+    Ok(())
+}
+
+/// A request of the caller ada, by its method and path and its body, and the body of its answer, which
+/// has the status 200.
+type Request = (&'static str, &'static str, &'static str);
+
+/// Has the desk in the file answer a request.
+fn is_answered(rt: &HostRuntime, words: &[String], request: &Request) -> Result<(), Fail> {
+    let (line, body, answer) = *request;
+    let given = body.len();
+    let told = answer.len();
+    let input = format!(in rt.alloc();
+        "{line} HTTP/1.1\r\nAuthorization: Bearer t-ada\r\nContent-Length: {given}\r\n\r\n{body}"
+    )?;
+    let output = format!(in rt.alloc();
+        "HTTP/1.1 200 OK\r\nContent-Type: application/json\r\nContent-Length: {told}\r\nConnection: close\r\n\r\n{answer}"
+    )?;
+    let wanted = Wrote {
+        output: output.as_str(),
+        errors: "",
+        status: 0,
+    };
+    is_run(rt, words, input.as_str(), &wanted)
+}
+
+/// Has the desk in the file answer requests, one after the other.
+fn are_answered(rt: &HostRuntime, requests: &[Request]) -> Result<(), Fail> {
+    let words = words_from(rt.alloc(), "sandesk once --db round.db --policy round.toml")?;
+    for request in requests {
+        is_answered(rt, words.as_slice(), request)?;
+    }
+    Ok(())
+}
+
+/// The ports of the worked world in fabric A.
+const PORTS: &str = "\
+port_name,node_name,domain,port
+10:00:00:00:00:00:00:01,20:00:00:00:00:00:00:01,1,1
+10:00:00:00:00:00:00:02,20:00:00:00:00:00:00:02,12,5
+10:00:00:00:00:00:00:03,20:00:00:00:00:00:00:03,12,5
+50:00:00:00:00:00:00:01,50:00:00:00:00:00:00:00,1,2
+50:00:00:00:00:00:00:02,50:00:00:00:00:00:00:00,1,3
+";
+
+/// A desk in a new file, and its first import.
+const MADE: &[Run] = &[
+    (
+        "sandesk init --db round.db",
+        Wrote {
+            output: "",
+            errors: "",
+            status: 0,
+        },
+    ),
+    (
+        "sandesk import --db round.db --policy round.toml --token t-ada --fabric A --file round.csv",
+        Wrote {
+            output: "{\"revision\":1}\n",
+            errors: "",
+            status: 0,
+        },
+    ),
+];
+
+/// The worked world, and its first plan.
+const WORLD: &[Request] = &[
+    (
+        "PUT /hosts/db1",
+        r#"{"ports":["10:00:00:00:00:00:00:01"],"tenant":"blue"}"#,
+        r#"{"revision":2}"#,
+    ),
+    (
+        "PUT /hosts/db2",
+        r#"{"ports":["10:00:00:00:00:00:00:02","10:00:00:00:00:00:00:03"],"tenant":"green"}"#,
+        r#"{"revision":3}"#,
+    ),
+    (
+        "PUT /arrays/arr1",
+        r#"{"ports":["50:00:00:00:00:00:00:01","50:00:00:00:00:00:00:02"],"tenant":"store"}"#,
+        r#"{"revision":4}"#,
+    ),
+    (
+        "PUT /volumes/v1",
+        r#"{"array":"arr1","bytes":1073741824,"tenant":"blue"}"#,
+        r#"{"revision":5}"#,
+    ),
+    (
+        "PUT /volumes/v2",
+        r#"{"array":"arr1","bytes":1073741824,"tenant":"green"}"#,
+        r#"{"revision":6}"#,
+    ),
+    (
+        "PUT /plans/p1",
+        "alias.put A disk wwpn=50:00:00:00:00:00:00:01
+zone.put A z1 wwpn=10:00:00:00:00:00:00:01 alias=disk
+set.put A s1 z1
+activate A s1
+hg.put hosts1 blue db1
+sg.new g1 blue arr1
+sg.host g1 hosts1
+sg.target g1 50:00:00:00:00:00:00:01
+sg.map g1 0 v1
+sg.expose g1
+",
+        r#"{"plan":"p1","steps":10}"#,
+    ),
+    (
+        "POST /plans/p1/activate",
+        "",
+        r#"{"gained":[{"fabric":"A","initiator":"10:00:00:00:00:00:00:01","lun":0,"target":"50:00:00:00:00:00:00:01","volume":"v1"}],"lost":[],"plan":"p1","revision":7}"#,
+    ),
+];
+
+/// The paths of its first host as texts.
+const ROW_19: &[Run] = &[
+    (
+        "sandesk paths --db round.db --policy round.toml --token t-ada --host db1",
+        Wrote {
+            output: "fabric,host,initiator,target,volume,lun\nA,db1,10:00:00:00:00:00:00:01,50:00:00:00:00:00:00:01,v1,0\n",
+            errors: "",
+            status: 0,
+        },
+    ),
+    (
+        "sandesk report --db round.db --policy round.toml --token t-ada --host db1",
+        Wrote {
+            output: "HOST                     VOLUME                        A      B STATE\ndb1                      v1                            1      0 ONE\n",
+            errors: "",
+            status: 0,
+        },
+    ),
+];
+
+#[test]
+fn file_round(rt: HostRuntime) -> Result<(), Fail> {
+    fs::write(&rt, "round.toml", TRIAL_POLICY)?;
+    fs::write(&rt, "round.csv", PORTS)?;
+    are_run(&rt, MADE)?;
+    are_answered(&rt, WORLD)?;
+    are_run(&rt, ROW_19)
+}
+
+/// What is done, what the desk refuses, words that are wrong, and what fails.
+const STATUSES: &[Run] = &[
+    (
+        "sandesk init --db status.db",
+        Wrote {
+            output: "",
+            errors: "",
+            status: 0,
+        },
+    ),
+    (
+        "sandesk dryrun --db status.db --policy status.toml --token t-ada --plan p9",
+        Wrote {
+            output: "{\"code\":9,\"error\":\"not-found\"}\n",
+            errors: "",
+            status: 1,
+        },
+    ),
+    (
+        "sandesk once --db status.db",
+        Wrote {
+            output: "",
+            errors: "sandesk: words\n",
+            status: 2,
+        },
+    ),
+    (
+        "sandesk init --db status.db",
+        Wrote {
+            output: "",
+            errors: "sandesk: file\n",
+            status: 3,
+        },
+    ),
+];
+
+#[test]
+fn exit_statuses(rt: HostRuntime) -> Result<(), Fail> {
+    fs::write(&rt, "status.toml", TRIAL_POLICY)?;
+    are_run(&rt, STATUSES)
+}
