@@ -1,7 +1,6 @@
 //! `sandesk`: a change desk for SAN zoning and volume mapping, over HTTP.
 #![tactic(auto)]
 
-mod access;
 mod args;
 mod commands;
 mod contents;
@@ -12,6 +11,7 @@ mod once;
 mod printing;
 mod run;
 mod serving;
+mod tasks;
 #[cfg(test)]
 mod tests;
 mod trial;

@@ -2,9 +2,8 @@
 ghost use Rattle.std.specs.Prelude.{◌≡◌};
 ghost use Rattle.fab_program.specs.Exits.{ended};
 
-use crate::access::{desk_by, moment_of};
 use crate::contents::{policy_in, policy_of};
-use crate::database::{MemoryTables, ProgramDesk, desk_over, new_tables};
+use crate::database::{ProgramDesk, desk_over, new_tables, tables_in};
 use crate::faults::Fault;
 use crate::printing::End;
 use crate::trial::TRIAL_POLICY;
@@ -16,78 +15,105 @@ use fab_words::{Once, Over};
 use std::alloc::Global;
 use std::io::{Read, Write};
 
-/// Answers one request.
+/// Answers one request at a moment.
 ///
 /// # Errors
-/// As for the policy, the database, the clock and the streams, in this order.
-pub fn once<N: FnMut() -> Option<u64>, R: Read + Drop, W: Write + Drop>(
+/// As for the policy, the database, the moment and the streams, in this order.
+pub fn once<R: Read + Drop, W: Write + Drop>(
     rt: &HostRuntime,
     asked: &Once<'_>,
-    now: &mut N,
+    moment: Result<u64, Fault>,
     reader: R,
     writer: W,
-) -> Result<End, Fault>
-    requires { (state : N) → N.pre state }
-{
+) -> Result<End, Fault> {
     match &asked.over {
         Over::Trial => {
             let policy = policy_in(rt.alloc(), TRIAL_POLICY);
-            once_in_memory(rt.alloc(), policy, asked.now, now, reader, writer)
+            once_in_memory(rt.alloc(), policy, moment, reader, writer)
         }
         Over::Memory { policy } => {
             let policy = policy_of(rt, policy);
-            once_in_memory(rt.alloc(), policy, asked.now, now, reader, writer)
+            once_in_memory(rt.alloc(), policy, moment, reader, writer)
         }
         Over::Database { policy, db } => {
-            let desk = desk_by(rt, db, policy);
-            once_by(rt.alloc(), desk, asked.now, now, reader, writer)
+            let policy = policy_of(rt, policy);
+            once_in_file(rt, db, policy, moment, reader, writer)
         }
     }
 }
 
 /// Answers one request over a new desk in memory, if there is a policy.
-fn once_in_memory<N: FnMut() -> Option<u64>, R: Read + Drop, W: Write + Drop>(
+fn once_in_memory<R: Read + Drop, W: Write + Drop>(
     alloc: Global,
     policy: Result<Policy, Fault>,
-    given: Option<u64>,
-    now: &mut N,
+    moment: Result<u64, Fault>,
     reader: R,
     writer: W,
-) -> Result<End, Fault>
-    requires { (state : N) → N.pre state }
-{
+) -> Result<End, Fault> {
     match policy {
-        Ok(policy) => once_by(alloc, new_desk(alloc, policy), given, now, reader, writer),
+        Ok(policy) => once_over(alloc, new_tables(alloc), policy, moment, reader, writer),
         Err(fault) => Err(fault),
     }
 }
 
-/// A new desk in memory.
-fn new_desk(alloc: Global, policy: Policy) -> Result<ProgramDesk<MemoryTables>, Fault> {
-    match new_tables(alloc) {
-        Ok(tables) => desk_over(alloc, tables, policy),
+/// Answers one request over the desk of a database's file, if there is a policy.
+fn once_in_file<R: Read + Drop, W: Write + Drop>(
+    rt: &HostRuntime,
+    db: &str,
+    policy: Result<Policy, Fault>,
+    moment: Result<u64, Fault>,
+    reader: R,
+    writer: W,
+) -> Result<End, Fault> {
+    match policy {
+        Ok(policy) => once_over(
+            rt.alloc(),
+            tables_in(rt, db),
+            policy,
+            moment,
+            reader,
+            writer,
+        ),
         Err(fault) => Err(fault),
     }
 }
 
-/// Answers one request over a desk, if there is one.
-fn once_by<S: Store<Global>, N: FnMut() -> Option<u64>, R: Read + Drop, W: Write + Drop>(
+/// Answers one request at a desk over a store, if there is one.
+fn once_over<S: Store<Global>, R: Read + Drop, W: Write + Drop>(
+    alloc: Global,
+    store: Result<S, Fault>,
+    policy: Policy,
+    moment: Result<u64, Fault>,
+    reader: R,
+    writer: W,
+) -> Result<End, Fault> {
+    match store {
+        Ok(store) => once_by(
+            alloc,
+            desk_over(alloc, store, policy),
+            moment,
+            reader,
+            writer,
+        ),
+        Err(fault) => Err(fault),
+    }
+}
+
+/// Answers one request at a desk, if there is one.
+fn once_by<S: Store<Global>, R: Read + Drop, W: Write + Drop>(
     alloc: Global,
     desk: Result<ProgramDesk<S>, Fault>,
-    given: Option<u64>,
-    now: &mut N,
+    moment: Result<u64, Fault>,
     reader: R,
     writer: W,
-) -> Result<End, Fault>
-    requires { (state : N) → N.pre state }
-{
+) -> Result<End, Fault> {
     match desk {
-        Ok(mut desk) => once_at(alloc, &mut desk, moment_of(given, now), reader, writer),
+        Ok(mut desk) => once_at(alloc, &mut desk, moment, reader, writer),
         Err(fault) => Err(fault),
     }
 }
 
-/// Answers one request over a desk, if there is a moment.
+/// Answers one request at a desk, if there is a moment.
 fn once_at<S: Store<Global>, R: Read + Drop, W: Write + Drop>(
     alloc: Global,
     desk: &mut ProgramDesk<S>,
@@ -96,22 +122,13 @@ fn once_at<S: Store<Global>, R: Read + Drop, W: Write + Drop>(
     writer: W,
 ) -> Result<End, Fault> {
     match moment {
-        Ok(moment) => once_over(alloc, desk, moment, reader, writer),
+        Ok(moment) => {
+            let mut reader = Counted::new(reader);
+            let mut writer = Counted::new(writer);
+            end_of(serve_one(alloc, alloc, desk, moment, &mut reader, &mut writer))
+        }
         Err(fault) => Err(fault),
     }
-}
-
-/// Answers one request over a desk.
-fn once_over<S: Store<Global>, R: Read + Drop, W: Write + Drop>(
-    alloc: Global,
-    desk: &mut ProgramDesk<S>,
-    moment: u64,
-    reader: R,
-    writer: W,
-) -> Result<End, Fault> {
-    let mut reader = Counted::new(reader);
-    let mut writer = Counted::new(writer);
-    end_of(serve_one(alloc, alloc, desk, moment, &mut reader, &mut writer))
 }
 
 /// How a request ended: it is done where its answer was written, or there was none.

@@ -70,12 +70,28 @@ fn carry_out<N: FnMut() -> Option<u64>, R: Read + Drop, W: Write + Drop>(
             Err(fault) => Err(fault),
         },
         Words::Serve(asked) => serve(rt, asked, now, writer),
-        Words::Once(asked) => once(rt, asked, now, reader, writer),
-        Words::Import(asked) => import(rt, asked, now, writer),
+        Words::Once(asked) => once(rt, asked, moment_of(asked.now, now), reader, writer),
+        Words::Import(asked) => import(rt, asked, moment_of(asked.now, now), writer),
         Words::Paths(asked) => paths(rt, asked, writer),
         Words::Report(asked) => report(rt, asked, writer),
         Words::Export(asked) => export(rt, asked, writer),
-        Words::DryRun(asked) => dry_run(rt, asked, now, writer),
+        Words::DryRun(asked) => dry_run(rt, asked, moment_of(asked.now, now), writer),
+    }
+}
+
+/// The moment that was given, or else the clock's as the command starts, in Unix seconds.
+///
+/// # Errors
+/// `Clock` where none was given and the clock tells none.
+fn moment_of<N: FnMut() -> Option<u64>>(given: Option<u64>, now: &mut N) -> Result<u64, Fault>
+    requires { (state : N) → N.pre state }
+{
+    if let Some(moment) = given {
+        return Ok(moment);
+    }
+    match now() {
+        Some(moment) => Ok(moment),
+        None => Err(Fault::Clock),
     }
 }
 

@@ -1,12 +1,15 @@
 //! Connections served over a database.
 
-use crate::access::desk_by;
-use crate::database::{FileTables, ProgramDesk, tables_again};
+use crate::contents::policy_of;
+use crate::database::{ProgramDesk, desk_over, tables_again, tables_in};
 use crate::faults::Fault;
 use crate::front::Front;
 use crate::printing::End;
+use fab_policy_base::Policy;
 use fab_serving::{ServeFault, Watch, serve_on};
+use fab_stores::{OpenFault, Store};
 use fab_words::Serve;
+use std::alloc::Global;
 use std::io::Write;
 use std::net::TcpListener;
 
@@ -23,19 +26,59 @@ pub fn serve<N: FnMut() -> Option<u64>, W: Write + Drop>(
 ) -> Result<End, Fault>
     requires { (state : N) → N.pre state }
 {
-    serve_by(rt, asked, desk_by(rt, asked.db, asked.policy), now, log)
+    let db = asked.db;
+    match policy_of(rt, asked.policy) {
+        Ok(policy) => {
+            let mut again = || tables_again(rt, db);
+            serve_over(rt, asked, tables_in(rt, db), policy, now, log, &mut again)
+        }
+        Err(fault) => Err(fault),
+    }
 }
 
-/// Serves connections over the desk of the database, if there is one and the address can be listened
-/// at.
-fn serve_by<N: FnMut() -> Option<u64>, W: Write + Drop>(
+/// Serves connections over a desk over a store, if there is one. `again` opens the store anew.
+fn serve_over<
+    S: Store<Global>,
+    N: FnMut() -> Option<u64>,
+    W: Write + Drop,
+    O: FnMut() -> Result<S, OpenFault>,
+>(
     rt: &HostRuntime,
     asked: &Serve<'_>,
-    desk: Result<ProgramDesk<FileTables>, Fault>,
+    store: Result<S, Fault>,
+    policy: Policy,
     now: &mut N,
     log: W,
+    again: &mut O,
 ) -> Result<End, Fault>
-    requires { (state : N) → N.pre state }
+    requires now { (state : N) → N.pre state }
+    requires again { (state : O) → O.pre state }
+{
+    match store {
+        Ok(store) => {
+            let desk = desk_over(rt.alloc(), store, policy);
+            serve_by(rt, asked, desk, now, log, again)
+        }
+        Err(fault) => Err(fault),
+    }
+}
+
+/// Serves connections over a desk, if there is one and the address can be listened at.
+fn serve_by<
+    S: Store<Global>,
+    N: FnMut() -> Option<u64>,
+    W: Write + Drop,
+    O: FnMut() -> Result<S, OpenFault>,
+>(
+    rt: &HostRuntime,
+    asked: &Serve<'_>,
+    desk: Result<ProgramDesk<S>, Fault>,
+    now: &mut N,
+    log: W,
+    again: &mut O,
+) -> Result<End, Fault>
+    requires now { (state : N) → N.pre state }
+    requires again { (state : O) → O.pre state }
 {
     match desk {
         Ok(desk) => {
@@ -43,28 +86,33 @@ fn serve_by<N: FnMut() -> Option<u64>, W: Write + Drop>(
                 alloc: rt.alloc(),
                 desk,
             };
-            serve_at(rt, asked, &mut front, now, log)
+            serve_at(rt, asked, &mut front, now, log, again)
         }
         Err(fault) => Err(fault),
     }
 }
 
 /// Serves connections at an address, if it can be listened at.
-fn serve_at<N: FnMut() -> Option<u64>, W: Write + Drop>(
+fn serve_at<
+    S: Store<Global>,
+    N: FnMut() -> Option<u64>,
+    W: Write + Drop,
+    O: FnMut() -> Result<S, OpenFault>,
+>(
     rt: &HostRuntime,
     asked: &Serve<'_>,
-    front: &mut Front<FileTables>,
+    front: &mut Front<S>,
     now: &mut N,
     log: W,
+    again: &mut O,
 ) -> Result<End, Fault>
-    requires { (state : N) → N.pre state }
+    requires now { (state : N) → N.pre state }
+    requires again { (state : O) → O.pre state }
 {
-    let db = asked.db;
     match TcpListener::bind(rt, asked.listen) {
         Ok(listener) => {
             let mut watch = Watch::new(rt.alloc(), rt, log);
-            let mut again = || tables_again(rt, db);
-            let came = serve_on(&mut watch, front, &listener, now, asked.count, &mut again);
+            let came = serve_on(&mut watch, front, &listener, now, asked.count, again);
             end_of(came)
         }
         Err(_) => Err(Fault::Listen),

@@ -38,7 +38,7 @@ fn restore<D: Server, O: FnMut() -> Result<D::Store, D::Fault>>(server: &mut D, 
     }
 }
 
-/// The next connection, when it came in Unix seconds, and the reading of the clock at which it began.
+/// The next connection, when it came in Unix seconds, and the reading of the clock at which it came.
 ///
 /// # Errors
 /// `Listener` where accepting failed, `NoClock` where `now` gave no moment, or the clock of the watch
@@ -61,7 +61,17 @@ fn next_connection<C: Clock, N: FnMut() -> Option<u64>>(
     }
 }
 
-/// Serves the next connection: a server that is halted is opened anew before, if it can be.
+/// The reading of the clock at which a connection's time begins: now, or where the clock cannot be
+/// read any more when it came.
+fn begun<C: Clock>(clock: &C, came: Instant) -> Instant {
+    match Instant::now(clock) {
+        Ok(now) => now,
+        Err(_) => came,
+    }
+}
+
+/// Serves the next connection: a server that is halted is opened anew before, if it can be. What that
+/// takes is no part of the connection's time.
 ///
 /// # Errors
 /// As `next_connection`: then the server is as it was.
@@ -85,7 +95,7 @@ fn serve_next<
 {
     let (stream, moment, start) = next_connection(watch.clock, listener, now)?;
     restore(server, again);
-    let deadline = Deadline::after(start, watch.most);
+    let deadline = Deadline::after(begun(watch.clock, start), watch.most);
     let came = serve_stream(watch.alloc, watch.clock, server, moment, &stream, deadline);
     watch.note(moment, &came, start);
     let_go(watch.clock, &stream, deadline);

@@ -36,7 +36,8 @@ fn is_answered(rt: &HostRuntime, stream: TcpStream, answer: &[u8]) -> io::Result
 }
 
 /// What the log says of as many connections as `stores` has values. They come at 1000, 1001 and so on;
-/// what the echo is opened anew over is taken from `stores` in its order, where there is something.
+/// what the echo is opened anew over is taken from `stores` in its order, where there is something. The
+/// clock is read whenever it is opened, so that by a clock that goes on at each reading that takes time.
 fn log_of<C: Clock>(
     rt: &HostRuntime,
     clock: &C,
@@ -58,9 +59,12 @@ fn log_of<C: Clock>(
             Some(moment)
         },
         Some(stores.len() as u64),
-        &mut || match opened.next() {
-            Some(Some(store)) => Ok(*store),
-            _ => Err(()),
+        &mut || {
+            clock.monotonic().map_err(|_| ())?;
+            match opened.next() {
+                Some(Some(store)) => Ok(*store),
+                _ => Err(()),
+            }
         },
     )?;
     Ok(String::from_utf8(watch.log)?)
@@ -140,15 +144,15 @@ fn a_halted_server_is_opened_anew_before_the_next(rt: HostRuntime) -> Result<(),
 }
 
 /// Bytes, how many seconds the clock goes on at each reading, how many milliseconds a connection may
-/// last, and the line. The clock is read as the connection begins, before the read, before the write
-/// and before the flush of what there is to write, and for the line.
+/// last, and the line. The clock is read as the connection comes and as its time begins, before the
+/// read, before the write and before the flush of what there is to write, and for the line.
 const LINES: [(&[u8], u64, u64, &str); 6] = [
-    (b"a", 1, LONG, "1000 answered 200 4000 ms\n"),
-    (b"", 1, LONG, "1000 empty 2000 ms\n"),
-    (b"a", 10, 30001, "1000 answered 200 40000 ms\n"),
-    (b"a", 10, 30000, "1000 unsent 40000 ms\n"),
-    (b"a", 10, 20000, "1000 unsent 30000 ms\n"),
-    (b"a", 10, 10000, "1000 unread 20000 ms\n"),
+    (b"a", 1, LONG, "1000 answered 200 5000 ms\n"),
+    (b"", 1, LONG, "1000 empty 3000 ms\n"),
+    (b"a", 10, 30001, "1000 answered 200 50000 ms\n"),
+    (b"a", 10, 30000, "1000 unsent 50000 ms\n"),
+    (b"a", 10, 20000, "1000 unsent 40000 ms\n"),
+    (b"a", 10, 10000, "1000 unread 30000 ms\n"),
 ];
 
 #[test]
@@ -156,6 +160,21 @@ fn each_connection_has_its_line(rt: HostRuntime) -> Result<(), Fail> {
     for (bytes, step, most, line) in LINES {
         assert_eq!(rt; log_of_one(&rt, bytes, step, most)?.as_str(), line);
     }
+    Ok(())
+}
+
+/// Opening the server anew takes ten seconds, which the log counts, and the 30 seconds and a bit that
+/// the connection has do not: it has as many as the one before.
+#[test]
+fn opening_anew_is_no_part_of_a_connections_time(rt: HostRuntime) -> Result<(), Fail> {
+    let listener = listen(&rt)?;
+    let _halting = told_whole(&rt, &listener, b"!")?;
+    let _next = told_whole(&rt, &listener, b"a")?;
+    let log = log_of(&rt, &Ticking::by(10), 30001, &listener, &[Some(true), None])?;
+    assert_eq!(rt;
+        log.as_str(),
+        "1000 answered 503 50000 ms\n1001 answered 200 60000 ms\n"
+    );
     Ok(())
 }
 

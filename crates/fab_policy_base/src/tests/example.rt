@@ -42,7 +42,7 @@ token = "replace-this-by-a-long-random-text-4"
 roles = ["operator"]
 tenants = ["blue"]
 
-# The fabrics' collector, which imports port lists and does nothing else.
+# The fabrics' collector, which imports port lists and changes nothing else.
 [[callers]]
 name = "collector"
 token = "replace-this-by-a-long-random-text-5"
@@ -80,7 +80,7 @@ freeze = [
 # approver   each of them with this role,
 # fresh      and, where true, at the present revision, so that no change came in between
 
-# Port lists come from the collector or from operators with every tenant.
+# Port lists come from callers who have the tenants of all that a list touches, as the collector has.
 [[rules]]
 name = "imports"
 actions = ["import"]

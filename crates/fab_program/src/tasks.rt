@@ -1,0 +1,134 @@
+//! What is done once at a desk, over any store.
+
+use crate::contents::is_too_large;
+use crate::database::{ProgramDesk, desk_over};
+use crate::faults::Fault;
+use crate::printing::{End, Form, print};
+use fab_answers::answers::Answer;
+use fab_desk_base::{Command, DeskFault, Query, Reply};
+use fab_files_base::port_list::{FileFault, read_ports};
+use fab_names::{Fabric, Name};
+use fab_policy_base::Policy;
+use fab_stores::Store;
+use fab_wire_base::requests::Refusal;
+use std::alloc::Global;
+use std::io::Write;
+
+/// What a caller has done at a desk.
+#[derive(Clone, Copy, Debug)]
+pub enum Task<'t> {
+    /// The bytes of a port list are imported.
+    Import { fabric: Fabric, bytes: &'t [u8] },
+    /// What a plan would change is told.
+    DryRun { plan: Name },
+    /// A read, which meets no rule, so that its moment does not matter, is shown in a form.
+    Show { query: Query, form: Form },
+}
+
+/// Whose task it is, and when it is done.
+#[derive(Clone, Copy, Debug)]
+pub struct Call<'t> {
+    /// The token of the caller.
+    pub token: &'t str,
+    /// The moment in Unix seconds, or why there is none.
+    pub moment: Result<u64, Fault>,
+}
+
+/// Does a task at a desk over a store, if there is one, and prints the reply.
+///
+/// # Errors
+/// As for the store, `desk_over`, the moment and the stream, in this order.
+pub fn do_over<S: Store<Global>, W: Write + Drop>(
+    alloc: Global,
+    store: Result<S, Fault>,
+    policy: Policy,
+    call: &Call<'_>,
+    task: &Task<'_>,
+    writer: W,
+) -> Result<End, Fault> {
+    match store {
+        Ok(store) => do_by(alloc, desk_over(alloc, store, policy), call, task, writer),
+        Err(fault) => Err(fault),
+    }
+}
+
+/// Does a task at a desk, if there is one, and prints the reply.
+fn do_by<S: Store<Global>, W: Write + Drop>(
+    alloc: Global,
+    desk: Result<ProgramDesk<S>, Fault>,
+    call: &Call<'_>,
+    task: &Task<'_>,
+    writer: W,
+) -> Result<End, Fault> {
+    match desk {
+        Ok(mut desk) => do_at(alloc, &mut desk, call, task, writer),
+        Err(fault) => Err(fault),
+    }
+}
+
+/// Does a task at a desk, if there is a moment, and prints the reply.
+fn do_at<S: Store<Global>, W: Write + Drop>(
+    alloc: Global,
+    desk: &mut ProgramDesk<S>,
+    call: &Call<'_>,
+    task: &Task<'_>,
+    writer: W,
+) -> Result<End, Fault> {
+    match call.moment {
+        Ok(moment) => {
+            let answer = answer_to(alloc, desk, call.token, moment, task);
+            print(alloc, writer, form_of(task), &answer)
+        }
+        Err(fault) => Err(fault),
+    }
+}
+
+/// In which form the reply to a task is printed.
+fn form_of(task: &Task<'_>) -> Form {
+    match task {
+        Task::Show { form, .. } => *form,
+        _ => Form::Json,
+    }
+}
+
+/// What a desk answers to a task.
+fn answer_to<S: Store<Global>>(
+    alloc: Global,
+    desk: &mut ProgramDesk<S>,
+    token: &str,
+    moment: u64,
+    task: &Task<'_>,
+) -> Answer<Global> {
+    match task {
+        Task::Import { fabric, bytes } => import_over(alloc, desk, token, moment, *fabric, bytes),
+        Task::DryRun { plan } => {
+            Answer::Replied(desk.handle(token, moment, Command::DryRun { plan: *plan }))
+        }
+        Task::Show { query, .. } => {
+            Answer::Replied(desk.handle(token, moment, Command::Show(*query)))
+        }
+    }
+}
+
+/// Imports the bytes of a port list. As over HTTP the caller is looked at first, then how many bytes
+/// there are, then what they list.
+fn import_over<S: Store<Global>>(
+    alloc: Global,
+    desk: &mut ProgramDesk<S>,
+    token: &str,
+    moment: u64,
+    fabric: Fabric,
+    bytes: &[u8],
+) -> Answer<Global> {
+    if !desk.knows(token) {
+        return Answer::Replied(Reply::Refused(DeskFault::NoCaller));
+    }
+    if is_too_large(bytes) {
+        return Answer::Refused(Refusal::TooLarge);
+    }
+    match read_ports(alloc, alloc, bytes) {
+        Ok(rows) => Answer::Replied(desk.handle(token, moment, Command::Import { fabric, rows })),
+        Err(FileFault::Line(line)) => Answer::Refused(Refusal::BadBody(line)),
+        Err(FileFault::Memory) => Answer::Replied(Reply::Refused(DeskFault::Memory)),
+    }
+}
