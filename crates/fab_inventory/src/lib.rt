@@ -11,8 +11,6 @@ pub mod laws;
 mod limits;
 mod port;
 mod restore;
-#[cfg(test)]
-mod tests;
 
 pub use fault::{InventoryFault, InventoryLimit, RestoreFault};
 pub use holder::{Holder, HolderKind, Volume};

@@ -17,6 +17,4 @@ pub mod names;
 pub mod sink;
 pub mod streams;
 pub mod structures;
-#[cfg(test)]
-mod tests;
 pub mod values;

@@ -11,8 +11,6 @@ mod member;
 mod name;
 mod number;
 mod place;
-#[cfg(test)]
-mod tests;
 mod wwn;
 
 pub use fabric::Fabric;

@@ -11,8 +11,6 @@ mod mapping_line;
 mod measure;
 mod plan;
 mod print;
-#[cfg(test)]
-mod tests;
 mod word;
 mod zoning_line;
 

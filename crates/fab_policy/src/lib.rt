@@ -7,8 +7,6 @@
 mod act;
 mod approvals;
 pub mod laws;
-#[cfg(test)]
-mod tests;
 mod verdicts;
 mod window;
 

@@ -16,8 +16,6 @@ mod policy;
 mod read;
 mod reading;
 mod tables;
-#[cfg(test)]
-mod tests;
 mod text;
 
 pub use caller::CallerId;

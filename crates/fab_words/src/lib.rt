@@ -13,8 +13,6 @@ mod commands;
 mod options;
 mod reading;
 mod subcommands;
-#[cfg(test)]
-mod tests;
 mod values;
 mod words;
 

@@ -5,18 +5,12 @@
 mod by_zone;
 mod fault;
 mod flag;
-#[cfg(test)]
-mod large_tests;
 pub mod laws;
 mod named;
 mod port_zones;
 mod resolve;
-#[cfg(test)]
-mod row_tests;
 mod rows;
 mod sound;
-#[cfg(test)]
-mod tests;
 mod why;
 mod zoning;
 

@@ -1,6 +1,5 @@
 //! Each value that a key may have, and every way to write TOML that a policy may use.
-use crate::fault::PolicyFault;
-use crate::policy::Policy;
+use fab_policy_base::{Policy, PolicyFault};
 use std::test::Fail;
 
 /// Texts that spell a policy.

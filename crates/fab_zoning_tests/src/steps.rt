@@ -2,10 +2,10 @@
 ghost use Rattle.std.specs.Prelude.{All, IfOk};
 ghost use Rattle.fab_zoning.specs.Rows.{IsPlain};
 
-use crate::row_tests::numbered;
-use crate::{DefaultFlag, Why, Zoning, ZoningFault, ZoningLimit, ZoningParts};
+use crate::rows::numbered;
 use fab_inventory::Port;
 use fab_names::{Fabric, Member, Name, Place, Wwn};
+use fab_zoning::{DefaultFlag, Why, Zoning, ZoningFault, ZoningLimit, ZoningParts};
 use std::alloc::{AllocError, Global};
 use std::collections::{BTreeMap, BTreeSet};
 use std::test::Fail;

@@ -1,6 +1,6 @@
 //! Policies of each size, up to each limit, and one past it.
-use super::assert_fault;
-use crate::policy::Policy;
+use crate::told::assert_fault;
+use fab_policy_base::Policy;
 use std::alloc::{AllocError, Global};
 use std::process::Abort;
 use std::test::Fail;

@@ -1,10 +1,10 @@
 //! Streams that fail at one call alone and answer again after, and values written as JSON.
 
-use crate::counted::Counted;
-use crate::escapes::put_string;
-use crate::object;
-use crate::structures::Array;
-use crate::values::{Json, Text, text_len};
+use fab_json::counted::Counted;
+use fab_json::escapes::put_string;
+use fab_json::object;
+use fab_json::structures::Array;
+use fab_json::values::{Json, Text, text_len};
 use fab_names::{Fabric, Member, Name, Place, Wwn};
 use std::io;
 use std::io::{Error, ErrorKind, Read, Write};

@@ -1,8 +1,8 @@
 //! As many active rows as there may be, and more.
-use crate::row_tests::numbered;
-use crate::tests::{is_limited, ports};
-use crate::{Zoning, ZoningFault, ZoningLimit};
+use crate::rows::numbered;
+use crate::steps::{is_limited, ports};
 use fab_names::{Fabric, Member, Name};
+use fab_zoning::{Zoning, ZoningFault, ZoningLimit};
 use std::alloc::Global;
 use std::test::Fail;
 

@@ -1,6 +1,6 @@
 //! The policy that the repository gives to start from, `examples/policy.toml`.
-use crate::policy::Policy;
 use fab_names::Name;
+use fab_policy_base::Policy;
 use std::test::Fail;
 
 /// The text of the file.

@@ -1,5 +1,5 @@
 //! The text forms, the faults, the orders, and what is printed.
-use crate::{Fabric, Member, Name, NameFault, Place, Wwn, read_number};
+use fab_names::{Fabric, Member, Name, NameFault, Place, Wwn, read_number};
 use std::alloc::Global;
 use std::fmt;
 use std::test::Fail;

@@ -1,5 +1,5 @@
 //! The table of faults, texts that grow, and what is printed of plans.
-use crate::{PlanFault, PlanFaultKind, print_plan, read_plan};
+use fab_plans_base::{PlanFault, PlanFaultKind, print_plan, read_plan};
 use std::alloc::{AllocError, Global};
 use std::process::Abort;
 use std::test::Fail;

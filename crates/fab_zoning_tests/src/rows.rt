@@ -1,6 +1,6 @@
 //! The active rows, as they are listed by zone.
-use crate::{DefaultFlag, Zoning, ZoningParts};
 use fab_names::{Fabric, Member, Name};
+use fab_zoning::{DefaultFlag, Zoning, ZoningParts};
 use std::alloc::Global;
 use std::collections::{BTreeMap, BTreeSet};
 use std::test::Fail;

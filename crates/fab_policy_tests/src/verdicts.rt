@@ -1,7 +1,6 @@
 //! What no clause says: that the worked verdicts come out.
-use crate::verdicts::decide;
-use crate::{Act, Action, Approval, Need, PlanApprovals, Policy, Verdict};
 use fab_names::{Fabric, Name};
+use fab_policy::{Act, Action, Approval, Need, PlanApprovals, Policy, Verdict, decide};
 use std::test::Fail;
 
 /// The policy of the worked verdicts.

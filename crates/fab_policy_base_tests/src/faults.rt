@@ -1,5 +1,5 @@
 //! Each fault of a policy's text, by a text that has it alone.
-use super::assert_fault;
+use crate::told::assert_fault;
 use std::test::Fail;
 
 /// Texts that are no TOML.

@@ -1,5 +1,5 @@
 //! Imports, puts, drops and look-ups by example.
-use crate::{
+use fab_inventory::{
     Holder, HolderKind, Inventory, InventoryFault, InventoryLimit, Known, MOST_BYTES, PortRow,
     RestoreFault, Volume,
 };

@@ -1,6 +1,6 @@
 //! Command lines, and what they ask for.
-use crate::{SUBCOMMANDS, Subcommand, WordsFault, read_words};
 use clap::error::ErrorKind;
+use fab_words::{SUBCOMMANDS, Subcommand, WordsFault, read_words};
 use std::alloc::{AllocError, Global};
 use std::test::Fail;
 

@@ -1,0 +1,5 @@
+//! Tests of names and their texts. Nothing here is part of the product.
+#![tactic(auto)]
+
+#[cfg(test)]
+mod texts;

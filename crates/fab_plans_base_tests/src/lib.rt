@@ -1,0 +1,5 @@
+//! Tests of plan texts. Nothing here is part of the product.
+#![tactic(auto)]
+
+#[cfg(test)]
+mod texts;

@@ -1,0 +1,5 @@
+//! Tests of verdicts. Nothing here is part of the product.
+#![tactic(auto)]
+
+#[cfg(test)]
+mod verdicts;
