@@ -133,7 +133,7 @@ fn example_is_read(rt: HostRuntime) -> Result<(), Fail> {
         return Err(Fail::from("the example"));
     };
     assert_eq!(rt;
-        (p.callers.len(), p.windows.len(), p.rules.len()),
+        (p.callers().len(), p.windows().len(), p.rules().len()),
         (5, 1, 6)
     );
     let cyd = p

@@ -1,6 +1,6 @@
 use Rattle.std.proofs.Common.{All}
 use Rattle.fab_zoning.specs.Rows.{IsPlain}
-use Rattle.fab_zoning.proofs.tests.ports.Given as goal
+use Rattle.fab_zoning_tests.proofs.steps.ports.Given as goal
 
 abbrev pub invariant-loop-number : goal.invariant-loop-number
 invariant-loop-number l = All IsPlain l.members.items
