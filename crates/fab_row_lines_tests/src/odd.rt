@@ -1,34 +1,42 @@
 //! Lines that show no row, rows that no line shows, lines that are missing, and lines of paths.
 
-use crate::stored::{WORLD, lines};
+use crate::stored::{WORLD, lines, no_lines, put_line};
 use fab_load::{LoadFault, Table};
 use fab_names::{Name, Wwn};
-use fab_row_lines::{paths_in, world_of_lines};
+use fab_row_lines::{TableLines, paths_in, world_of_lines};
 use fab_row_lines_base::lines_of_rows;
 use fab_rows::{ApprovalRow, ConfigRow, CountRow, PartRow, StoragePart, TableRows, VolumeRow};
+use fab_world::World;
 use std::alloc::Global;
 use std::test::Fail;
 
-/// A line that shows no row, of each table.
-const ODD: [(&str, Table); 12] = [
-    ("meta|schema|01", Table::Meta),
+/// A line of paths that shows no path.
+const ODD_PATH: &str = "paths|db1|A|1000000000000001|5000000000000001|v1|-1";
+
+/// No line and a line that shows no row, of each table, and the table that is told of it.
+const ODD: [(Option<&str>, Option<Table>); 13] = [
+    (None, None),
+    (Some("meta|schema|01"), Some(Table::Meta)),
     (
-        "ports|1000000000000004|2000000000000004|A||1|",
-        Table::Ports,
+        Some("ports|1000000000000004|2000000000000004|A||1|"),
+        Some(Table::Ports),
     ),
-    ("holders|db3|printer|blue", Table::Holders),
-    ("volumes|v3|arr1|blue|0", Table::Volumes),
-    ("zoning|A|box|z2|z1", Table::Zoning),
-    ("active|C|z1|alias=disk", Table::Active),
-    ("groups|host|hosts2|blue|arr1|0", Table::Groups),
-    ("group_parts|storage|g1|unit|16384|v2", Table::GroupParts),
-    ("plans|p2|ada|activate A s1|waiting|0", Table::Plans),
-    ("approvals|p1|0|6", Table::Approvals),
-    ("undo|p1|*|meta active.A s1", Table::Undo),
+    (Some("holders|db3|printer|blue"), Some(Table::Holders)),
+    (Some("volumes|v3|arr1|blue|0"), Some(Table::Volumes)),
+    (Some("zoning|A|box|z2|z1"), Some(Table::Zoning)),
+    (Some("active|C|z1|alias=disk"), Some(Table::Active)),
+    (Some("groups|host|hosts2|blue|arr1|0"), Some(Table::Groups)),
     (
-        "paths|db1|A|1000000000000001|5000000000000001|v1|-1",
-        Table::Paths,
+        Some("group_parts|storage|g1|unit|16384|v2"),
+        Some(Table::GroupParts),
     ),
+    (
+        Some("plans|p2|ada|activate A s1|waiting|0"),
+        Some(Table::Plans),
+    ),
+    (Some("approvals|p1|0|6"), Some(Table::Approvals)),
+    (Some("undo|p1|*|meta active.A s1"), Some(Table::Undo)),
+    (Some(ODD_PATH), Some(Table::Paths)),
 ];
 
 /// A line that is left out of a world, and the table that is told.
@@ -40,30 +48,56 @@ const MISSING: [(usize, Table); 5] = [
     (45, Table::Paths),
 ];
 
-/// The table that is told of the lines of these texts, but for the one at a place, and with one more.
-fn told(alloc: Global, without: Option<usize>, more: Option<&str>) -> Result<Option<Table>, Fail> {
-    let mut texts = Vec::new(alloc);
+/// Puts the lines of the world, but for the one at a place.
+fn put_world(alloc: Global, lines: &mut TableLines, without: Option<usize>) -> Result<(), Fail> {
     for (place, text) in WORLD.iter().enumerate() {
         if Some(place) != without {
-            texts.push(*text)?;
+            put_line(alloc, lines, text)?;
         }
     }
-    if let Some(text) = more {
-        texts.push(text)?;
+    Ok(())
+}
+
+/// Puts the lines of the world, but for the one at a place, and with one more.
+fn put_odd(
+    alloc: Global,
+    lines: &mut TableLines,
+    without: Option<usize>,
+    more: Option<&str>,
+) -> Result<(), Fail> {
+    put_world(alloc, lines, without)?;
+    match more {
+        Some(text) => put_line(alloc, lines, text),
+        None => Ok(()),
     }
-    let lines = lines(alloc, texts.as_slice())?;
-    match world_of_lines(alloc, &lines) {
+}
+
+/// The table that is told of an opening.
+fn table_of(opened: &Result<World<Global>, LoadFault>) -> Result<Option<Table>, Fail> {
+    match opened {
         Ok(_world) => Ok(None),
-        Err(LoadFault::Damaged(table)) => Ok(Some(table)),
+        Err(LoadFault::Damaged(table)) => Ok(Some(*table)),
         Err(LoadFault::Memory) => Err(Fail::from("memory")),
     }
 }
 
+/// The table that is told of the lines.
+fn told_of(alloc: Global, lines: &TableLines) -> Result<Option<Table>, Fail> {
+    let opened = world_of_lines(alloc, lines);
+    table_of(&opened)
+}
+
+/// The table that is told of the lines of the world, but for the one at a place, and with one more.
+fn told(alloc: Global, without: Option<usize>, more: Option<&str>) -> Result<Option<Table>, Fail> {
+    let mut lines = no_lines(alloc);
+    put_odd(alloc, &mut lines, without, more)?;
+    told_of(alloc, &lines)
+}
+
 #[test]
 fn odd_lines_are_told(rt: HostRuntime) -> Result<(), Fail> {
-    assert_eq!(rt; told(rt.alloc(), None, None)?, None);
-    for (text, table) in ODD {
-        assert_eq!(rt; told(rt.alloc(), None, Some(text))?, Some(table));
+    for (more, table) in ODD {
+        assert_eq!(rt; told(rt.alloc(), None, more)?, table);
     }
     Ok(())
 }
@@ -108,21 +142,47 @@ fn approval(revision: u64) -> Result<ApprovalRow, Fail> {
 /// The greatest number that a database keeps.
 const MOST: u64 = 9_223_372_036_854_775_807;
 
-/// How many lines show these rows.
-fn shown(alloc: Global, unit: u16, bytes: u64, revision: u64) -> Result<usize, Fail> {
-    let rows = TableRows {
-        counts: [CountRow::Revision(revision)].to_vec(alloc)?,
+fn volumes(alloc: Global, bytes: u64) -> Result<Vec<VolumeRow>, Fail> {
+    Ok([volume(bytes)?].to_vec(alloc)?)
+}
+
+fn parts(alloc: Global, unit: u16) -> Result<Vec<ConfigRow>, Fail> {
+    Ok([part(unit)?].to_vec(alloc)?)
+}
+
+fn approvals(alloc: Global, revision: u64) -> Result<Vec<ApprovalRow>, Fail> {
+    Ok([approval(revision)?].to_vec(alloc)?)
+}
+
+/// A row of each table that keeps a number.
+fn rows(alloc: Global, unit: u16, bytes: u64, revision: u64) -> Result<TableRows<Global>, Fail> {
+    let counts = [CountRow::Revision(revision)].to_vec(alloc)?;
+    let volumes = volumes(alloc, bytes)?;
+    let config = parts(alloc, unit)?;
+    let approvals = approvals(alloc, revision)?;
+    Ok(TableRows {
+        counts,
         ports: Vec::new(alloc),
         holders: Vec::new(alloc),
-        volumes: [volume(bytes)?].to_vec(alloc)?,
-        config: [part(unit)?].to_vec(alloc)?,
+        volumes,
+        config,
         plans: Vec::new(alloc),
-        approvals: [approval(revision)?].to_vec(alloc)?,
+        approvals,
         undo: Vec::new(alloc),
         paths: Vec::new(alloc),
-    };
-    let lines = lines_of_rows(alloc, &rows)?;
+    })
+}
+
+/// How many lines show the rows.
+fn line_count(alloc: Global, rows: &TableRows<Global>) -> Result<usize, Fail> {
+    let lines = lines_of_rows(alloc, rows)?;
     Ok(lines.len())
+}
+
+/// How many lines show rows with these numbers.
+fn shown(alloc: Global, unit: u16, bytes: u64, revision: u64) -> Result<usize, Fail> {
+    let rows = rows(alloc, unit, bytes, revision)?;
+    line_count(alloc, &rows)
 }
 
 /// Units, bytes and revisions, and how many of four rows with them are shown.
@@ -142,7 +202,7 @@ fn numbers_that_no_database_keeps_are_not_shown(rt: HostRuntime) -> Result<(), F
     Ok(())
 }
 
-/// Lines of paths, one of them twice, and their units in order.
+/// Lines of paths, one of them twice.
 const PATHS: [&str; 4] = [
     "paths|db1|B|1000000000000001|5000000000000001|v1|2",
     "paths|db1|A|1000000000000001|5000000000000001|v1|1",
@@ -150,31 +210,44 @@ const PATHS: [&str; 4] = [
     "paths|db1|B|1000000000000001|5000000000000001|v1|2",
 ];
 
-/// The initiators and units of the paths of the lines.
-fn units(alloc: Global, texts: &[&str]) -> Result<Option<Vec<(Wwn, u16)>>, Fail> {
-    let lines = lines(alloc, texts)?;
+/// The port from which those lines lead.
+const PORT: u64 = 0x1000_0000_0000_0001;
+
+/// The units to which they lead, in order.
+const UNITS: [u16; 3] = [0, 1, 2];
+
+/// Whether the paths of the lines lead from this port to the units, or none where a line shows no
+/// path.
+fn lead(alloc: Global, lines: &TableLines, port: Wwn) -> Result<Option<bool>, Fail> {
     let Some(paths) = paths_in(alloc, lines.paths.as_slice())? else {
         return Ok(None);
     };
-    let mut units = Vec::new(alloc);
-    for path in paths.as_slice() {
-        units.push((path.initiator, path.unit))?;
+    let mut are_alike = paths.len() == UNITS.len();
+    for (path, unit) in paths.iter().zip(&UNITS) {
+        are_alike = are_alike && path.initiator == port && path.unit == *unit;
     }
-    Ok(Some(units))
+    Ok(Some(are_alike))
 }
+
+/// The same of the lines of these texts.
+fn texts_lead(alloc: Global, texts: &[&str]) -> Result<Option<bool>, Fail> {
+    let lines = lines(alloc, texts)?;
+    lead(alloc, &lines, Wwn::new(PORT))
+}
+
+/// One of those lines, and one that shows no path.
+const ODD_PATHS: [&str; 2] = [
+    "paths|db1|B|1000000000000001|5000000000000001|v1|2",
+    ODD_PATH,
+];
+
+/// Lines of paths, and whether they lead to the units, where each shows a path.
+const LISTS: [(&[&str], Option<bool>); 2] = [(&PATHS, Some(true)), (&ODD_PATHS, None)];
 
 #[test]
 fn paths_are_listed_once_and_in_order(rt: HostRuntime) -> Result<(), Fail> {
-    let alloc = rt.alloc();
-    let Some(found) = units(alloc, &PATHS)? else {
-        return Err(Fail::from("paths"));
-    };
-    let port = Wwn::new(0x1000_0000_0000_0001);
-    assert_eq!(rt;
-        found.as_slice(),
-        [(port, 0), (port, 1), (port, 2)].as_slice()
-    );
-    let (odd, _table) = ODD[11];
-    assert!(rt; units(alloc, &[PATHS[0], odd])?.is_none());
+    for (texts, are_alike) in LISTS {
+        assert_eq!(rt; texts_lead(rt.alloc(), texts)?, are_alike);
+    }
     Ok(())
 }

@@ -75,183 +75,213 @@ fn word(text: &str, place: usize) -> &str {
     text.split('|').nth(place).unwrap_or("")
 }
 
-fn number(text: &str) -> Result<i64, Fail> {
-    Ok(text.parse::<i64>()?)
+/// The text of a column.
+fn text_at(alloc: Global, text: &str, place: usize) -> Result<String, Fail> {
+    Ok(word(text, place).to_string(alloc)?)
 }
 
-/// A number, or null.
-fn number_or_null(text: &str) -> Result<Option<i64>, Fail> {
-    if text.is_empty() {
+/// Two texts.
+type Two = (String, String);
+
+/// The texts of two columns.
+fn two_at(alloc: Global, text: &str, place: usize) -> Result<Two, Fail> {
+    let first = text_at(alloc, text, place)?;
+    let second = text_at(alloc, text, place.saturating_add(1))?;
+    Ok((first, second))
+}
+
+/// The texts of four columns.
+fn four_at(alloc: Global, text: &str, place: usize) -> Result<(Two, Two), Fail> {
+    let first = two_at(alloc, text, place)?;
+    let second = two_at(alloc, text, place.saturating_add(2))?;
+    Ok((first, second))
+}
+
+/// The text of a column, or null.
+fn text_or_null(alloc: Global, text: &str, place: usize) -> Result<Option<String>, Fail> {
+    if word(text, place).is_empty() {
         return Ok(None);
     }
-    Ok(Some(number(text)?))
+    Ok(Some(text_at(alloc, text, place)?))
 }
 
-/// A text, or null.
-fn text_or_null(alloc: Global, text: &str) -> Result<Option<String>, Fail> {
-    if text.is_empty() {
+/// The number of a column.
+fn number_at(text: &str, place: usize) -> Result<i64, Fail> {
+    Ok(word(text, place).parse::<i64>()?)
+}
+
+/// The number of a column, or null.
+fn number_or_null(text: &str, place: usize) -> Result<Option<i64>, Fail> {
+    if word(text, place).is_empty() {
         return Ok(None);
     }
-    Ok(Some(text.to_string(alloc)?))
+    Ok(Some(number_at(text, place)?))
 }
 
-fn put_port(alloc: Global, lines: &mut TableLines, text: &str) -> Result<(), Fail> {
-    let line = PortLine {
-        wwpn: word(text, 1).to_string(alloc)?,
-        wwnn: word(text, 2).to_string(alloc)?,
-        fabric: text_or_null(alloc, word(text, 3))?,
-        domain: number_or_null(word(text, 4))?,
-        slot: number_or_null(word(text, 5))?,
-        holder: text_or_null(alloc, word(text, 6))?,
-    };
-    Ok(lines.ports.push(line)?)
+fn meta(alloc: Global, text: &str) -> Result<MetaLine<Global>, Fail> {
+    let (key, value) = two_at(alloc, text, 1)?;
+    Ok(MetaLine { key, value })
 }
 
-/// Puts a line of settings, or of the table of an inventory.
-fn put_stock(alloc: Global, lines: &mut TableLines, text: &str) -> Result<(), Fail> {
+fn port(alloc: Global, text: &str) -> Result<PortLine<Global>, Fail> {
+    let (domain, slot) = (number_or_null(text, 4)?, number_or_null(text, 5)?);
+    let (wwpn, wwnn) = two_at(alloc, text, 1)?;
+    let fabric = text_or_null(alloc, text, 3)?;
+    let holder = text_or_null(alloc, text, 6)?;
+    Ok(PortLine {
+        wwpn,
+        wwnn,
+        fabric,
+        domain,
+        slot,
+        holder,
+    })
+}
+
+fn holder(alloc: Global, text: &str) -> Result<HolderLine<Global>, Fail> {
+    let (name, kind) = two_at(alloc, text, 1)?;
+    let tenant = text_at(alloc, text, 3)?;
+    Ok(HolderLine { name, kind, tenant })
+}
+
+fn volume(alloc: Global, text: &str) -> Result<VolumeLine<Global>, Fail> {
+    let bytes = number_at(text, 4)?;
+    let (name, array) = two_at(alloc, text, 1)?;
+    let tenant = text_at(alloc, text, 3)?;
+    Ok(VolumeLine {
+        name,
+        array,
+        tenant,
+        bytes,
+    })
+}
+
+fn zoning(alloc: Global, text: &str) -> Result<ZoningLine<Global>, Fail> {
+    let ((fabric, kind), (name, item)) = four_at(alloc, text, 1)?;
+    Ok(ZoningLine {
+        fabric,
+        kind,
+        name,
+        item,
+    })
+}
+
+fn active(alloc: Global, text: &str) -> Result<ActiveLine<Global>, Fail> {
+    let (fabric, zone) = two_at(alloc, text, 1)?;
+    let member = text_at(alloc, text, 3)?;
+    Ok(ActiveLine {
+        fabric,
+        zone,
+        member,
+    })
+}
+
+fn group(alloc: Global, text: &str) -> Result<GroupLine<Global>, Fail> {
+    let exposed = number_at(text, 5)?;
+    let ((kind, name), (tenant, array)) = four_at(alloc, text, 1)?;
+    Ok(GroupLine {
+        kind,
+        name,
+        tenant,
+        array,
+        exposed,
+    })
+}
+
+fn part(alloc: Global, text: &str) -> Result<PartLine<Global>, Fail> {
+    let ((kind, name), (part, item)) = four_at(alloc, text, 1)?;
+    let volume = text_at(alloc, text, 5)?;
+    Ok(PartLine {
+        kind,
+        name,
+        part,
+        item,
+        volume,
+    })
+}
+
+fn plan(alloc: Global, line: &str) -> Result<PlanLine<Global>, Fail> {
+    let position = number_at(line, 5)?;
+    let ((name, author), (text, state)) = four_at(alloc, line, 1)?;
+    Ok(PlanLine {
+        name,
+        author,
+        text,
+        state,
+        position,
+    })
+}
+
+fn approval(alloc: Global, text: &str) -> Result<ApprovalLine<Global>, Fail> {
+    let revision = number_at(text, 3)?;
+    let (plan, caller) = two_at(alloc, text, 1)?;
+    Ok(ApprovalLine {
+        plan,
+        caller,
+        revision,
+    })
+}
+
+fn undo(alloc: Global, text: &str) -> Result<UndoLine<Global>, Fail> {
+    let (plan, sign) = two_at(alloc, text, 1)?;
+    let entry = text_at(alloc, text, 3)?;
+    Ok(UndoLine { plan, sign, entry })
+}
+
+fn path(alloc: Global, text: &str) -> Result<PathLine<Global>, Fail> {
+    let lun = number_at(text, 6)?;
+    let ((host, fabric), (initiator, target)) = four_at(alloc, text, 1)?;
+    let volume = text_at(alloc, text, 5)?;
+    Ok(PathLine {
+        host,
+        fabric,
+        initiator,
+        target,
+        volume,
+        lun,
+    })
+}
+
+/// Adds a line to those of its table.
+pub fn add<L: Drop>(lines: &mut Vec<L>, line: L) -> Result<(), Fail> {
+    Ok(lines.push(line)?)
+}
+
+/// The same of a line that may not have been made.
+fn add_made<L: Drop>(lines: &mut Vec<L>, line: Result<L, Fail>) -> Result<(), Fail> {
+    add(lines, line?)
+}
+
+/// Puts the line of a text into its table.
+pub fn put_line(alloc: Global, lines: &mut TableLines, text: &str) -> Result<(), Fail> {
     match word(text, 0) {
-        "meta" => {
-            let (key, value) = (
-                word(text, 1).to_string(alloc)?,
-                word(text, 2).to_string(alloc)?,
-            );
-            Ok(lines.meta.push(MetaLine { key, value })?)
-        }
-        "ports" => put_port(alloc, lines, text),
-        "holders" => {
-            let (name, kind) = (
-                word(text, 1).to_string(alloc)?,
-                word(text, 2).to_string(alloc)?,
-            );
-            let tenant = word(text, 3).to_string(alloc)?;
-            Ok(lines.holders.push(HolderLine { name, kind, tenant })?)
-        }
-        "volumes" => {
-            let (name, array) = (
-                word(text, 1).to_string(alloc)?,
-                word(text, 2).to_string(alloc)?,
-            );
-            let line = VolumeLine {
-                name,
-                array,
-                tenant: word(text, 3).to_string(alloc)?,
-                bytes: number(word(text, 4))?,
-            };
-            Ok(lines.volumes.push(line)?)
-        }
-        _ => put_zoning(alloc, lines, text),
+        "meta" => add_made(&mut lines.meta, meta(alloc, text)),
+        "ports" => add_made(&mut lines.ports, port(alloc, text)),
+        "holders" => add_made(&mut lines.holders, holder(alloc, text)),
+        "volumes" => add_made(&mut lines.volumes, volume(alloc, text)),
+        _ => put_config(alloc, lines, text),
     }
 }
 
-/// Puts a line of a table of the zoning.
-fn put_zoning(alloc: Global, lines: &mut TableLines, text: &str) -> Result<(), Fail> {
-    let (fabric, second) = (
-        word(text, 1).to_string(alloc)?,
-        word(text, 2).to_string(alloc)?,
-    );
+/// Puts a line of a table of the zoning, or of groups.
+fn put_config(alloc: Global, lines: &mut TableLines, text: &str) -> Result<(), Fail> {
     match word(text, 0) {
-        "zoning" => {
-            let line = ZoningLine {
-                fabric,
-                kind: second,
-                name: word(text, 3).to_string(alloc)?,
-                item: word(text, 4).to_string(alloc)?,
-            };
-            Ok(lines.zoning.push(line)?)
-        }
-        "active" => {
-            let line = ActiveLine {
-                fabric,
-                zone: second,
-                member: word(text, 3).to_string(alloc)?,
-            };
-            Ok(lines.active.push(line)?)
-        }
-        _ => put_groups(alloc, lines, text),
-    }
-}
-
-/// Puts a line of a table of groups.
-fn put_groups(alloc: Global, lines: &mut TableLines, text: &str) -> Result<(), Fail> {
-    let (kind, name) = (
-        word(text, 1).to_string(alloc)?,
-        word(text, 2).to_string(alloc)?,
-    );
-    let (third, fourth) = (
-        word(text, 3).to_string(alloc)?,
-        word(text, 4).to_string(alloc)?,
-    );
-    match word(text, 0) {
-        "groups" => {
-            let line = GroupLine {
-                kind,
-                name,
-                tenant: third,
-                array: fourth,
-                exposed: number(word(text, 5))?,
-            };
-            Ok(lines.groups.push(line)?)
-        }
-        "group_parts" => {
-            let line = PartLine {
-                kind,
-                name,
-                part: third,
-                item: fourth,
-                volume: word(text, 5).to_string(alloc)?,
-            };
-            Ok(lines.parts.push(line)?)
-        }
+        "zoning" => add_made(&mut lines.zoning, zoning(alloc, text)),
+        "active" => add_made(&mut lines.active, active(alloc, text)),
+        "groups" => add_made(&mut lines.groups, group(alloc, text)),
+        "group_parts" => add_made(&mut lines.parts, part(alloc, text)),
         _ => put_records(alloc, lines, text),
     }
 }
 
 /// Puts a line of plans, or of a table beside them.
 fn put_records(alloc: Global, lines: &mut TableLines, text: &str) -> Result<(), Fail> {
-    let (plan, second) = (
-        word(text, 1).to_string(alloc)?,
-        word(text, 2).to_string(alloc)?,
-    );
     match word(text, 0) {
-        "plans" => {
-            let line = PlanLine {
-                name: plan,
-                author: second,
-                text: word(text, 3).to_string(alloc)?,
-                state: word(text, 4).to_string(alloc)?,
-                position: number(word(text, 5))?,
-            };
-            Ok(lines.plans.push(line)?)
-        }
-        "approvals" => {
-            let line = ApprovalLine {
-                plan,
-                caller: second,
-                revision: number(word(text, 3))?,
-            };
-            Ok(lines.approvals.push(line)?)
-        }
-        "undo" => {
-            let line = UndoLine {
-                plan,
-                sign: second,
-                entry: word(text, 3).to_string(alloc)?,
-            };
-            Ok(lines.undo.push(line)?)
-        }
-        _ => Ok(lines.paths.push(path(alloc, text)?)?),
+        "plans" => add_made(&mut lines.plans, plan(alloc, text)),
+        "approvals" => add_made(&mut lines.approvals, approval(alloc, text)),
+        "undo" => add_made(&mut lines.undo, undo(alloc, text)),
+        _ => add_made(&mut lines.paths, path(alloc, text)),
     }
-}
-
-fn path(alloc: Global, text: &str) -> Result<PathLine<Global>, Fail> {
-    Ok(PathLine {
-        host: word(text, 1).to_string(alloc)?,
-        fabric: word(text, 2).to_string(alloc)?,
-        initiator: word(text, 3).to_string(alloc)?,
-        target: word(text, 4).to_string(alloc)?,
-        volume: word(text, 5).to_string(alloc)?,
-        lun: number(word(text, 6))?,
-    })
 }
 
 /// No lines.
@@ -272,11 +302,17 @@ pub fn no_lines(alloc: Global) -> TableLines {
     }
 }
 
+/// Puts the lines of these texts.
+fn put_all(alloc: Global, lines: &mut TableLines, texts: &[&str]) -> Result<(), Fail> {
+    for text in texts {
+        put_line(alloc, lines, text)?;
+    }
+    Ok(())
+}
+
 /// The lines of these texts.
 pub fn lines(alloc: Global, texts: &[&str]) -> Result<TableLines, Fail> {
     let mut lines = no_lines(alloc);
-    for text in texts {
-        put_stock(alloc, &mut lines, text)?;
-    }
+    put_all(alloc, &mut lines, texts)?;
     Ok(lines)
 }
