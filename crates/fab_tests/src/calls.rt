@@ -9,6 +9,7 @@ use fab_names::{Fabric, Member, Name, Place, Wwn};
 use fab_plans_base::{PlanFaultKind, read_plan};
 use fab_reach::Config;
 use fab_zoning::{Zoning, ZoningFault};
+use std::alloc::AllocError;
 use std::test::Fail;
 
 /// A plan text of four lines.
@@ -16,12 +17,14 @@ const PLAN: &str =
     "alias.put A disk wwpn=5000000000000001\nzone.put A z1 alias=disk dp=1,2\nset.put A s1 z1\nactivate A s1\n";
 
 /// Whether a call was accepted.
-fn accepted<E: PartialEq + Drop>(answer: Result<(), E>, memory: E) -> Result<bool, Fail> {
-    match answer {
-        Ok(()) => Ok(true),
-        Err(fault) if fault == memory => Ok(false),
-        Err(_) => Err(Fail::from("another refusal than want of memory")),
+fn accepted<E: PartialEq + Copy>(answer: Result<(), E>, memory: E) -> Result<bool, Fail> {
+    let Err(fault) = answer else {
+        return Ok(true);
+    };
+    if fault != memory {
+        return Err(Fail::from("another refusal than want of memory"));
     }
+    Ok(false)
 }
 
 /// A port that is logged in at domain 1, port 1.
@@ -59,11 +62,20 @@ fn put_volume(inventory: &mut Inventory<Heap<'_>>, text: &str) -> Result<bool, F
     accepted(answer, InventoryFault::Memory)
 }
 
-fn copy_inventory<'a>(heap: Heap<'a>, inventory: &Inventory<Heap<'a>>) -> Result<bool, Fail> {
-    match inventory.copy() {
-        Ok(copy) => are_inventories_alike(heap, inventory, &copy),
+/// Whether the copy has the same rows; not so where there is none.
+fn is_inventory_copied<'a>(
+    heap: Heap<'a>,
+    inventory: &Inventory<Heap<'a>>,
+    copy: &Result<Inventory<Heap<'a>>, AllocError>,
+) -> Result<bool, Fail> {
+    match copy {
+        Ok(copy) => are_inventories_alike(heap, inventory, copy),
         Err(_) => Ok(false),
     }
+}
+
+fn copy_inventory<'a>(heap: Heap<'a>, inventory: &Inventory<Heap<'a>>) -> Result<bool, Fail> {
+    is_inventory_copied(heap, inventory, &inventory.copy())
 }
 
 fn of_inventory<'a>(
@@ -138,18 +150,24 @@ fn of_group<'a>(
     accepted(answer, MappingFault::Memory)
 }
 
-/// Whether the clash is the one at unit 0 of the target; not so where there is no memory to look for
-/// it.
-fn clashes(mapping: &Mapping<Heap<'_>>) -> Result<bool, Fail> {
-    match mapping.clash() {
-        Ok(Some(nexus)) if is_nexus(&nexus) => Ok(true),
-        Ok(_) => Err(Fail::from("another clash")),
-        Err(_) => Ok(false),
+fn is_nexus(nexus: &Nexus) -> bool {
+    nexus.host.as_str() == "db1" && nexus.target == Wwn::new(TARGET) && nexus.unit == 0
+}
+
+/// Whether the clash is the one at unit 0 of the target.
+fn is_found(clash: &Option<Nexus>) -> Result<bool, Fail> {
+    match clash {
+        Some(nexus) if is_nexus(nexus) => Ok(true),
+        _ => Err(Fail::from("another clash")),
     }
 }
 
-fn is_nexus(nexus: &Nexus) -> bool {
-    nexus.host.as_str() == "db1" && nexus.target == Wwn::new(TARGET) && nexus.unit == 0
+/// The same; not so where there is no memory to look for it.
+fn clashes(mapping: &Mapping<Heap<'_>>) -> Result<bool, Fail> {
+    match &mapping.clash() {
+        Ok(clash) => is_found(clash),
+        Err(_) => Ok(false),
+    }
 }
 
 fn of_mapping<'a>(
@@ -168,17 +186,32 @@ fn of_mapping<'a>(
     }
 }
 
-fn copy_config<'a>(heap: Heap<'a>, config: &Config<Heap<'a>>) -> Result<bool, Fail> {
-    match config.copy() {
-        Ok(copy) => are_configs_alike(heap, config, &copy),
+/// Whether the copy has the same rows; not so where there is none.
+fn is_config_copied<'a>(
+    heap: Heap<'a>,
+    config: &Config<Heap<'a>>,
+    copy: &Result<Config<Heap<'a>>, AllocError>,
+) -> Result<bool, Fail> {
+    match copy {
+        Ok(copy) => are_configs_alike(heap, config, copy),
         Err(_) => Ok(false),
     }
 }
 
+fn copy_config<'a>(heap: Heap<'a>, config: &Config<Heap<'a>>) -> Result<bool, Fail> {
+    is_config_copied(heap, config, &config.copy())
+}
+
+fn are_all(steps: usize) -> Result<bool, Fail> {
+    if steps != 4 {
+        return Err(Fail::from("another number of steps"));
+    }
+    Ok(true)
+}
+
 fn reads_plan(heap: Heap<'_>) -> Result<bool, Fail> {
-    match read_plan(heap, PLAN) {
-        Ok(steps) if steps.len() == 4 => Ok(true),
-        Ok(_) => Err(Fail::from("another number of steps")),
+    match &read_plan(heap, PLAN) {
+        Ok(steps) => are_all(steps.len()),
         Err(fault) => accepted(Err(fault.kind), PlanFaultKind::Memory),
     }
 }

@@ -3,7 +3,7 @@
 use crate::answers::shows;
 use crate::calls::make;
 use crate::rows::moves;
-use crate::script::{SCRIPT, Turn};
+use crate::script::{Call, SCRIPT, Turn};
 use crate::steps::is_step_right;
 use crate::worlds::{Heap, World, no_world};
 use fab_refusing::Refusing;
@@ -27,21 +27,33 @@ pub enum Came {
     Astray,
 }
 
+/// Makes a call, which has to be accepted.
+fn make_now<'a>(heap: Heap<'a>, world: &mut World<'a>, call: Call) -> Result<(), Fail> {
+    if !make(heap, world, call)? {
+        return Err(Fail::from("memory"));
+    }
+    Ok(())
+}
+
 /// Makes the first calls of the script, so many.
 fn lead<'a>(heap: Heap<'a>, world: &mut World<'a>, count: usize) -> Result<(), Fail> {
     for turn in SCRIPT.iter().take(count) {
-        if !make(heap, world, turn.0)? {
-            return Err(Fail::from("memory"));
-        }
+        make_now(heap, world, turn.0)?;
     }
     Ok(())
+}
+
+/// What was led, if it was without fail.
+fn if_led<W: Drop>(world: W, led: Result<(), Fail>) -> Result<W, Fail> {
+    led?;
+    Ok(world)
 }
 
 /// A world in which the first calls of the script were made, so many.
 pub fn world_after(heap: Heap<'_>, count: usize) -> Result<World<'_>, Fail> {
     let mut world = no_world(heap);
-    lead(heap, &mut world, count)?;
-    Ok(world)
+    let led = lead(heap, &mut world, count);
+    if_led(world, led)
 }
 
 /// Whether the call of the turn did what it says.
@@ -101,10 +113,15 @@ fn refuse_on<'a>(
 }
 
 /// The same on a world of its own.
+fn refuse_in(heap: Heap<'_>, place: usize, turn: Turn, requests: u64) -> Result<Came, Fail> {
+    let mut world = world_after(heap, place)?;
+    refuse_on(heap, &mut world, place, turn, requests)
+}
+
+/// The same with an allocator of its own.
 fn refuse(alloc: Global, place: usize, turn: Turn, requests: u64) -> Result<Came, Fail> {
     let heap = Refusing::new(alloc);
-    let mut world = world_after(&heap, place)?;
-    refuse_on(&heap, &mut world, place, turn, requests)
+    refuse_in(&heap, place, turn, requests)
 }
 
 /// How many requests of the call were answered with want of memory, until a call met no refusal;

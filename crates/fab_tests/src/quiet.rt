@@ -36,13 +36,13 @@ fn is_missed(world: &World<'_>) -> Result<bool, Fail> {
 
 /// Whether both ports are joined by their zone, then, with nothing active, not at all, and then by
 /// the default zone.
-fn is_joined_by_each(world: &mut World<'_>) -> Result<bool, Fail> {
-    if !is_joined(world, Cause::Zone)? {
-        return Ok(false);
+fn is_joined_by_each(world: &mut World<'_>) -> bool {
+    if !is_joined(world, Cause::Zone) {
+        return false;
     }
     world.config.a.deactivate();
-    if !is_joined(world, Cause::None)? {
-        return Ok(false);
+    if !is_joined(world, Cause::None) {
+        return false;
     }
     world.config.a.set_default(DefaultFlag::Permit);
     is_joined(world, Cause::Default)
@@ -73,7 +73,7 @@ fn is_done(world: &mut World<'_>, policy: &Policy, kind: Quiet) -> Result<bool, 
         Quiet::Verdicts => are_judged(policy),
         Quiet::Found => is_found(world),
         Quiet::Missed => is_missed(world),
-        Quiet::Joined => is_joined_by_each(world),
+        Quiet::Joined => Ok(is_joined_by_each(world)),
     }
 }
 
@@ -92,10 +92,15 @@ fn is_quiet_on<'a>(
 }
 
 /// The same on a world of its own.
+fn is_quiet_in(heap: Heap<'_>, policy: &Policy, kind: Quiet) -> Result<bool, Fail> {
+    let mut world = world_after(heap, WITH_PATH)?;
+    is_quiet_on(heap, &mut world, policy, kind)
+}
+
+/// The same with an allocator of its own.
 fn is_quiet(alloc: Global, policy: &Policy, kind: Quiet) -> Result<bool, Fail> {
     let heap = Refusing::new(alloc);
-    let mut world = world_after(&heap, WITH_PATH)?;
-    is_quiet_on(&heap, &mut world, policy, kind)
+    is_quiet_in(&heap, policy, kind)
 }
 
 #[test]

@@ -39,10 +39,15 @@ fn refuse_from<'a>(heap: Heap<'a>, before: &World<'a>, requests: u64) -> Result<
 }
 
 /// The same on worlds of its own.
+fn refuse_in(heap: Heap<'_>, requests: u64) -> Result<Came, Fail> {
+    let before = world_after(heap, WITH_PATH - 1)?;
+    refuse_from(heap, &before, requests)
+}
+
+/// The same with an allocator of its own.
 fn refuse(alloc: Global, requests: u64) -> Result<Came, Fail> {
     let heap = Refusing::new(alloc);
-    let before = world_after(&heap, WITH_PATH - 1)?;
-    refuse_from(&heap, &before, requests)
+    refuse_in(&heap, requests)
 }
 
 /// Whether some of the requests are answered with want of memory, until a step meets no refusal, and
@@ -66,9 +71,13 @@ fn is_taken_from<'a>(heap: Heap<'a>, before: &World<'a>) -> Result<bool, Fail> {
     leads(Means { heap, is_bare }, before, &after)
 }
 
+fn is_taken_in(heap: Heap<'_>) -> Result<bool, Fail> {
+    let before = world_after(heap, WITH_PATH - 1)?;
+    is_taken_from(heap, &before)
+}
+
 /// Whether a step that is ready is taken with the next request refused, and makes none.
 pub fn is_taken(alloc: Global) -> Result<bool, Fail> {
     let heap = Refusing::new(alloc);
-    let before = world_after(&heap, WITH_PATH - 1)?;
-    is_taken_from(&heap, &before)
+    is_taken_in(&heap)
 }

@@ -18,10 +18,19 @@ pub const TARGET: u64 = 0x5000_0000_0000_0001;
 pub type Heap<'a> = &'a Refusing<Global>;
 
 /// An inventory and a configuration.
-#[derive(Drop)]
 pub struct World<'a> {
     pub inventory: Inventory<Heap<'a>>,
     pub config: Config<Heap<'a>>,
+}
+
+// It is written out, so that a caller does not prove again how each part is dropped.
+impl Drop for World<'_> {
+    fn drop(self) {
+        let World {
+            inventory: _,
+            config: _,
+        } = self;
+    }
 }
 
 /// The name of a text.
