@@ -1,12 +1,11 @@
 //! A new desk in memory.
 
-use super::policy::POLICY;
 use fab_desk::Desk;
 use fab_policy_base::Policy;
 use fab_reach::PlainBook;
 use fab_store::SqlStore;
 use fab_stores::Store;
-use sqlite::{Connection, MemStore};
+use sqlite::{Alter, Connection, MemStore};
 use std::alloc::Global;
 use std::test::Fail;
 
@@ -16,8 +15,14 @@ pub type Tables = SqlStore<MemStore>;
 /// A desk over a store.
 pub type DeskOver<S> = Desk<Global, S, PlainBook<Global>>;
 
-/// A desk in memory.
-pub type MemoryDesk = DeskOver<Tables>;
+/// The tables, which are made.
+fn made<S: Alter + Drop>(tables: SqlStore<S>) -> Result<SqlStore<S>, Fail> {
+    let mut tables = tables;
+    match tables.init() {
+        Ok(()) => Ok(tables),
+        Err(_) => Err(Fail::new("no tables")),
+    }
+}
 
 /// The tables of a new desk.
 ///
@@ -27,45 +32,35 @@ pub fn new_tables(alloc: Global) -> Result<Tables, Fail> {
     let Ok(connection) = Connection::open_in_memory(alloc) else {
         return Err(Fail::new("no connection"));
     };
-    let mut tables = SqlStore::new(connection, alloc);
-    match tables.init() {
-        Ok(()) => Ok(tables),
-        Err(_) => Err(Fail::new("no tables")),
+    made(SqlStore::new(connection, alloc))
+}
+
+/// The policy of a text.
+fn policy_of(alloc: Global, text: &str) -> Result<Policy, Fail> {
+    match Policy::read(alloc, text) {
+        Ok(policy) => Ok(policy),
+        Err(_) => Err(Fail::new("no policy")),
     }
 }
 
-/// A desk over a store, with a policy.
-fn desk_over<S: Store<Global>>(
-    alloc: Global,
-    store: S,
-    policy: Policy,
-) -> Result<DeskOver<S>, Fail> {
-    match Desk::open(alloc, store, policy) {
+/// The desk, if one was opened.
+fn opened<D: Drop, E: Drop>(desk: Result<D, E>) -> Result<D, Fail> {
+    match desk {
         Ok(desk) => Ok(desk),
         Err(_) => Err(Fail::new("no desk")),
     }
 }
 
-/// A desk over a store, with a policy by its text.
+/// A desk over a store, if there is one, with a policy by its text.
 ///
 /// # Errors
-/// Where there is no memory, or the text is no policy.
+/// Where there is no store or no memory, or the text is no policy.
 pub fn desk_of<S: Store<Global>>(
     alloc: Global,
-    store: S,
+    store: Result<S, Fail>,
     policy: &str,
 ) -> Result<DeskOver<S>, Fail> {
-    match Policy::read(alloc, policy) {
-        Ok(policy) => desk_over(alloc, store, policy),
-        Err(_) => Err(Fail::new("no policy")),
-    }
-}
-
-/// A new desk, with the policy of the tests.
-///
-/// # Errors
-/// Where there is no memory.
-pub fn new_desk(alloc: Global) -> Result<MemoryDesk, Fail> {
-    let tables = new_tables(alloc)?;
-    desk_of(alloc, tables, POLICY)
+    let store = store?;
+    let policy = policy_of(alloc, policy)?;
+    opened(Desk::open(alloc, store, policy))
 }

@@ -1,11 +1,8 @@
 //! What refusals tell: those of the wire, of the records, and of the steps of a plan.
 
 use super::bytes::REFUSED;
-use super::desks::{MemoryDesk, new_desk};
+use super::deeds::{Deed, does, holds, holds_bytes};
 use super::stages::{ROW_5, WORLD};
-use super::turns::{holds, holds_bytes, plays_all, plays_text};
-use std::alloc::Global;
-use std::fmt::Write;
 use std::test::Fail;
 
 /// Paths that lead nowhere, paths that name nothing, and bodies that are none.
@@ -83,32 +80,18 @@ fn records_refuse(rt: HostRuntime) -> Result<(), Fail> {
     holds(rt.alloc(), &[WORLD, ROW_5, STOCK, STEPS])
 }
 
-/// A plan of 64 sets, and one more than there may be where a set is there already.
-fn sets(alloc: Global) -> Result<String, Fail> {
-    let mut text = format!(in alloc; "ada PUT /plans/l1 ")?;
-    for n in 0..64u32 {
-        text.push_str("set.put A x")?;
-        write!(text, "{n} z1\n")?;
-    }
-    text.push_str(" -> 200 OK: {\"plan\":\"l1\",\"steps\":64}")?;
-    Ok(text)
-}
-
-/// The plan is staged.
-fn stages_sets(alloc: Global, desk: &mut MemoryDesk) -> Result<(), Fail> {
-    let text = sets(alloc)?;
-    plays_text(alloc, desk, usize::MAX, text.as_str())
-}
-
-/// What is answered of it.
+/// What is answered of the plan with as many sets as there may be, where one is there already.
 const LIMIT: &[&str] = &[
     r#"ada POST /plans/l1/activate -> 409 Conflict: {"code":15,"error":"limit","limit":"sets","step":64}"#,
 ];
 
+const SETS: &[Deed<'static>] = &[
+    Deed::Plays(usize::MAX, &[WORLD, ROW_5]),
+    Deed::StagesSets,
+    Deed::Plays(usize::MAX, &[LIMIT]),
+];
+
 #[test]
 fn limit_is_told(rt: HostRuntime) -> Result<(), Fail> {
-    let mut desk = new_desk(rt.alloc())?;
-    plays_all(rt.alloc(), &mut desk, usize::MAX, &[WORLD, ROW_5])?;
-    stages_sets(rt.alloc(), &mut desk)?;
-    plays_all(rt.alloc(), &mut desk, usize::MAX, &[LIMIT])
+    does(rt.alloc(), SETS)
 }

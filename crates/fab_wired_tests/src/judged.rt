@@ -1,7 +1,7 @@
 //! What the policy allows and denies, and what is another tenant's.
 
+use super::deeds::holds;
 use super::stages::{ROW_5, ROW_9, WORLD};
-use super::turns::holds;
 use std::test::Fail;
 
 /// A plan of fabric B, and who approves it.

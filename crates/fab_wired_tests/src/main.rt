@@ -4,9 +4,13 @@
 #![tactic(auto)]
 
 #[cfg(test)]
+mod breaks;
+#[cfg(test)]
 mod broken;
 #[cfg(test)]
 mod bytes;
+#[cfg(test)]
+mod deeds;
 #[cfg(test)]
 mod desks;
 #[cfg(test)]

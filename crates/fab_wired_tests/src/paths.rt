@@ -1,8 +1,8 @@
 //! Imports, and plans that move paths.
 
 use super::bytes::{FIRST, JOINED, PATHS};
+use super::deeds::{holds, holds_bytes};
 use super::stages::{ROW_1, ROW_5, ROW_9, WORLD};
-use super::turns::{holds, holds_bytes};
 use std::test::Fail;
 
 #[test]

@@ -1,8 +1,8 @@
 //! What the wire and the records refuse.
 
 use super::bytes::ROW_16;
+use super::deeds::{holds, holds_bytes};
 use super::stages::{ROW_5, WORLD};
-use super::turns::{holds, holds_bytes};
 use std::test::Fail;
 
 /// A third step that names a zone which is not there; nothing of the plan stands.

@@ -2,21 +2,26 @@
 //! names.
 
 use super::bytes::Bytes;
-use super::desks::{DeskOver, Tables, desk_of, new_desk, new_tables};
+use super::deeds::{Deed, do_over, does};
+use super::desks::new_tables;
 use super::policy::POLICY;
 use super::stages::ROW_1;
-use super::streams::Breaking;
-use super::turns::{plays_all, request_of, serves, turn_of};
-use fab_json::counted::Counted;
 use fab_stores::{RefusingStore, Store};
-use fab_wire::{Outcome, serve_one};
 use std::alloc::Global;
 use std::test::Fail;
 
-/// A new desk over a store that refuses one call: so many are handed on, and opening is the first.
-fn desk_refused(alloc: Global, calls: u64) -> Result<DeskOver<RefusingStore<Tables>>, Fail> {
-    let tables = new_tables(alloc)?;
-    desk_of(alloc, RefusingStore::new(tables, calls), POLICY)
+/// The store, if there is one, of which one call is refused: so many are handed on, and opening is the
+/// first.
+fn refusing<S: Store<Global>>(
+    store: Result<S, Fail>,
+    calls: u64,
+) -> Result<RefusingStore<S>, Fail> {
+    Ok(RefusingStore::new(store?, calls))
+}
+
+/// Does each with a new desk over a store that refuses one call.
+fn does_refused(alloc: Global, calls: u64, deeds: &[Deed<'_>]) -> Result<(), Fail> {
+    do_over(alloc, refusing(new_tables(alloc), calls), POLICY, deeds)
 }
 
 /// The store refuses to commit, which halts the desk: a path that has no route and a body that is none
@@ -43,29 +48,16 @@ const OPENED_AGAIN: &[&str] = &[
     r#"ada GET /paths/db1 -> 200 OK: {"host":"db1","paths":[]}"#,
 ];
 
-/// Opens a halted desk again over the store that it hands out.
-fn open_again<S: Store<Global>>(desk: &mut DeskOver<S>) -> Result<(), Fail> {
-    let Some(store) = desk.release() else {
-        return Err(Fail::new("no store"));
-    };
-    match desk.reopen(store) {
-        Ok(()) => Ok(()),
-        Err(_) => Err(Fail::new("not opened")),
-    }
-}
-
-/// Plays what a halted desk answers, and what it does once it is opened again.
-fn plays_halted<S: Store<Global>>(alloc: Global, desk: &mut DeskOver<S>) -> Result<(), Fail> {
-    plays_all(alloc, desk, usize::MAX, &[CHANGE_IS_REFUSED])?;
-    serves(alloc, desk, usize::MAX, 0, NOBODY.0, NOBODY.1)?;
-    open_again(desk)?;
-    plays_all(alloc, desk, usize::MAX, &[OPENED_AGAIN])
-}
+const HALTS: &[Deed<'static>] = &[
+    Deed::Plays(usize::MAX, &[CHANGE_IS_REFUSED]),
+    Deed::Serves(usize::MAX, &[NOBODY]),
+    Deed::IsReopened,
+    Deed::Plays(usize::MAX, &[OPENED_AGAIN]),
+];
 
 #[test]
 fn refused_change_halts(rt: HostRuntime) -> Result<(), Fail> {
-    let mut desk = desk_refused(rt.alloc(), 1)?;
-    plays_halted(rt.alloc(), &mut desk)
+    does_refused(rt.alloc(), 1, HALTS)
 }
 
 /// The store refuses to read, and the desk serves on.
@@ -75,10 +67,11 @@ const READ_IS_REFUSED: &[&str] = &[
     r#"ada GET /paths/db1 -> 200 OK: {"host":"db1","paths":[]}"#,
 ];
 
+const SERVES_ON: &[Deed<'static>] = &[Deed::Plays(usize::MAX, &[READ_IS_REFUSED])];
+
 #[test]
 fn refused_read_halts_nothing(rt: HostRuntime) -> Result<(), Fail> {
-    let mut desk = desk_refused(rt.alloc(), 2)?;
-    plays_all(rt.alloc(), &mut desk, usize::MAX, &[READ_IS_REFUSED])
+    does_refused(rt.alloc(), 2, SERVES_ON)
 }
 
 /// A policy in which no rule names anything but the inventory.
@@ -101,33 +94,11 @@ const NO_RULE: &[&str] = &[
  -> 403 Forbidden: {"code":8,"error":"denied","need":"rule","rule":0,"rule_name":"no-rule"}"#,
 ];
 
+const IS_DENIED: &[Deed<'static>] = &[Deed::Plays(usize::MAX, &[NO_RULE])];
+
 #[test]
 fn no_rule_names_the_action(rt: HostRuntime) -> Result<(), Fail> {
-    let tables = new_tables(rt.alloc())?;
-    let mut desk = desk_of(rt.alloc(), tables, NARROW)?;
-    plays_all(rt.alloc(), &mut desk, usize::MAX, &[NO_RULE])
-}
-
-/// Serves a request to a writer that takes none of some bytes: it is written to once, and that counts
-/// as a failure.
-fn takes_none<S: Store<Global>>(
-    alloc: Global,
-    desk: &mut DeskOver<S>,
-    text: &str,
-) -> Result<(), Fail> {
-    let turn = turn_of(text)?;
-    let request = request_of(alloc, &turn)?;
-    let mut reader = Counted::new(request.as_bytes());
-    let mut writer = Counted::new(Breaking::new(alloc, 0, u64::MAX));
-    let outcome = serve_one(alloc, alloc, desk, 0, &mut reader, &mut writer);
-    if outcome == Outcome::Unsent
-        && writer.failures() == 1
-        && writer.into_inner().taken().is_empty()
-    {
-        Ok(())
-    } else {
-        Err(Fail::new(format_args!("{outcome}")))
-    }
+    do_over(rt.alloc(), new_tables(rt.alloc()), NARROW, IS_DENIED)
 }
 
 /// What the unsent import has done.
@@ -136,11 +107,12 @@ const HAS_ACTED: &[&str] = &[
  -> 200 OK: {"revision":2}"#,
 ];
 
+const IS_NOT_TAKEN: &[Deed<'static>] = &[
+    Deed::IsNotTaken(ROW_1),
+    Deed::Plays(usize::MAX, &[HAS_ACTED]),
+];
+
 #[test]
 fn writer_takes_nothing(rt: HostRuntime) -> Result<(), Fail> {
-    let mut desk = new_desk(rt.alloc())?;
-    for text in ROW_1 {
-        takes_none(rt.alloc(), &mut desk, text)?;
-    }
-    plays_all(rt.alloc(), &mut desk, usize::MAX, &[HAS_ACTED])
+    does(rt.alloc(), IS_NOT_TAKEN)
 }

@@ -1,5 +1,9 @@
 //! What the desk is asked first in most tests: the worked world, and the first two worked plans.
 
+use std::alloc::Global;
+use std::fmt::Write;
+use std::test::Fail;
+
 /// The first import.
 pub const ROW_1: &[&str] = &[
     r#"ada POST /imports/A port_name,node_name,domain,port
@@ -59,3 +63,22 @@ sg.expose g2
  -> 200 OK: {"plan":"p2","steps":9}"#,
     r#"ada POST /plans/p2/activate -> 200 OK: {"gained":[{"fabric":"A","initiator":"10:00:00:00:00:00:00:02","lun":0,"target":"50:00:00:00:00:00:00:01","volume":"v2"},{"fabric":"A","initiator":"10:00:00:00:00:00:00:03","lun":0,"target":"50:00:00:00:00:00:00:01","volume":"v2"}],"lost":[],"plan":"p2","revision":8}"#,
 ];
+
+fn write_sets(text: &mut String) -> Result<(), Fail> {
+    text.push_str("ada PUT /plans/l1 ")?;
+    for n in 0..64u32 {
+        write!(text, "set.put A x{n} z1\n")?;
+    }
+    text.push_str(" -> 200 OK: {\"plan\":\"l1\",\"steps\":64}")?;
+    Ok(())
+}
+
+/// A plan of 64 sets, and one more than there may be where a set is there already.
+///
+/// # Errors
+/// Where there is no memory.
+pub fn sets(alloc: Global) -> Result<String, Fail> {
+    let mut text = String::new(alloc);
+    write_sets(&mut text)?;
+    Ok(text)
+}

@@ -2,12 +2,13 @@
 //! compared.
 
 use super::bytes::Bytes;
-use super::desks::{DeskOver, new_desk};
+use super::desks::DeskOver;
 use super::streams::Slow;
 use fab_json::counted::Counted;
 use fab_stores::Store;
 use fab_wire::{Outcome, serve_one};
-use std::alloc::{AllocError, Global};
+use std::alloc::Global;
+use std::fmt::Write;
 use std::test::Fail;
 
 /// A request, and its answer.
@@ -65,8 +66,25 @@ pub fn turn_of(text: &str) -> Result<Turn<'_>, Fail> {
     }
 }
 
-/// The bytes of a request. Where it may have a body its length is told.
-pub fn request_of(alloc: Global, turn: &Turn<'_>) -> Result<String, AllocError> {
+/// The bytes of a request and of its answer.
+#[derive(Drop)]
+pub struct Exchange {
+    pub request: String,
+    pub answer: String,
+}
+
+/// The end of the head, and the body where there may be one, whose length is told then.
+fn write_body(text: &mut String, method: &str, body: &str) -> Result<(), Fail> {
+    if method == "GET" || method == "DELETE" {
+        text.push_str("\r\n")?;
+        return Ok(());
+    }
+    let length = body.len();
+    write!(text, "Content-Length: {length}\r\n\r\n{body}")?;
+    Ok(())
+}
+
+fn write_request(text: &mut String, turn: &Turn<'_>) -> Result<(), Fail> {
     let Turn {
         caller,
         moment: _,
@@ -76,29 +94,40 @@ pub fn request_of(alloc: Global, turn: &Turn<'_>) -> Result<String, AllocError> 
         status: _,
         answer: _,
     } = *turn;
-    let length = body.len();
-    match method {
-        "GET" | "DELETE" => {
-            format!(in alloc;
-                "{method} {path} HTTP/1.1\r\nAuthorization: Bearer t-{caller}\r\n\r\n"
-            )
-        }
-        _ => {
-            format!(in alloc;
-                "{method} {path} HTTP/1.1\r\nAuthorization: Bearer t-{caller}\r\nContent-Length: {length}\r\n\r\n{body}"
-            )
-        }
-    }
+    write!(
+        text,
+        "{method} {path} HTTP/1.1\r\nAuthorization: Bearer t-{caller}\r\n"
+    )?;
+    write_body(text, method, body)
 }
 
-/// The bytes of an answer.
-pub fn answer_of(alloc: Global, turn: &Turn<'_>) -> Result<String, AllocError> {
+fn write_answer(text: &mut String, turn: &Turn<'_>) -> Result<(), Fail> {
     let status = turn.status;
     let answer = turn.answer;
     let length = answer.len();
-    format!(in alloc;
+    write!(
+        text,
         "HTTP/1.1 {status}\r\nContent-Type: application/json\r\nContent-Length: {length}\r\nConnection: close\r\n\r\n{answer}"
-    )
+    )?;
+    Ok(())
+}
+
+fn write_both(exchange: &mut Exchange, turn: &Turn<'_>) -> Result<(), Fail> {
+    write_request(&mut exchange.request, turn)?;
+    write_answer(&mut exchange.answer, turn)
+}
+
+/// The bytes of a request and of its answer.
+///
+/// # Errors
+/// Where there is no memory.
+pub fn exchange_of(alloc: Global, turn: &Turn<'_>) -> Result<Exchange, Fail> {
+    let mut exchange = Exchange {
+        request: String::new(alloc),
+        answer: String::new(alloc),
+    };
+    write_both(&mut exchange, turn)?;
+    Ok(exchange)
 }
 
 /// Whether this comes of a connection with such an answer: none where the answer has no byte, and
@@ -146,15 +175,14 @@ fn plays<S: Store<Global>>(
     most: usize,
     turn: &Turn<'_>,
 ) -> Result<(), Fail> {
-    let request = request_of(alloc, turn)?;
-    let wanted = answer_of(alloc, turn)?;
+    let exchange = exchange_of(alloc, turn)?;
     serves(
         alloc,
         desk,
         most,
         turn.moment,
-        request.as_str(),
-        wanted.as_str(),
+        exchange.request.as_str(),
+        exchange.answer.as_str(),
     )
 }
 
@@ -202,7 +230,10 @@ pub fn plays_all<S: Store<Global>>(
 }
 
 /// Serves the bytes of requests one after the other, and compares each answer.
-fn serves_each<S: Store<Global>>(
+///
+/// # Errors
+/// The first answer that is another, and where there is no memory.
+pub fn serves_each<S: Store<Global>>(
     alloc: Global,
     desk: &mut DeskOver<S>,
     most: usize,
@@ -212,35 +243,4 @@ fn serves_each<S: Store<Global>>(
         serves(alloc, desk, most, 0, bytes.0, bytes.1)?;
     }
     Ok(())
-}
-
-/// Serves lists of requests, and then the bytes of further ones, over a new desk.
-fn holds_by(
-    alloc: Global,
-    most: usize,
-    stages: &[&[&str]],
-    requests: &[Bytes],
-) -> Result<(), Fail> {
-    let mut desk = new_desk(alloc)?;
-    plays_all(alloc, &mut desk, most, stages)?;
-    serves_each(alloc, &mut desk, most, requests)
-}
-
-/// Whether a new desk answers each request of these lists as they say, and then each of these bytes:
-/// where a read gets all bytes, and again where it gets one.
-///
-/// # Errors
-/// The first answer that is another, and where there is no memory.
-pub fn holds_bytes(alloc: Global, stages: &[&[&str]], requests: &[Bytes]) -> Result<(), Fail> {
-    holds_by(alloc, usize::MAX, stages, requests)?;
-    holds_by(alloc, 1, stages, requests)
-}
-
-/// Whether a new desk answers each request of these lists as they say: where a read gets all bytes,
-/// and again where it gets one.
-///
-/// # Errors
-/// The first answer that is another, and where there is no memory.
-pub fn holds(alloc: Global, stages: &[&[&str]]) -> Result<(), Fail> {
-    holds_bytes(alloc, stages, &[])
 }
