@@ -3,6 +3,7 @@ requests, answers in the form that they have to have, and copies of a database.
 
 SANDESK names the program; without it `./sandesk` is asked once, which builds it where that is needed.
 """
+import argparse
 import contextlib
 import functools
 import json
@@ -356,3 +357,12 @@ def tables_of(database, copy):
 
 def revision_of(tables):
     return int(dict(tables["meta"])["revision"])
+
+
+def asked_for(description, **numbers):
+    """Returns what the words of a script ask for: these numbers, each with what it is without a word, and the seed of a run."""
+    words = argparse.ArgumentParser(description=description)
+    for name, number in numbers.items():
+        words.add_argument(f"--{name}", type=int, default=number)
+    words.add_argument("--seed", type=int, default=random.randrange(10 ** 6))
+    return words.parse_args()

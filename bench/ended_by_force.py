@@ -19,7 +19,6 @@ The last line is a summary. Exit status 1: something differs; then the databases
 says, and `--seed` with the number that is told gives the same commands and moments again (how far the
 desk comes until such a moment is the machine's part). Every 25 ends a new database is made.
 """
-import argparse
 import collections
 import pathlib
 import random
@@ -341,15 +340,8 @@ class Ends:
                 each.end()
 
 
-def asked_for():
-    words = argparse.ArgumentParser(description="Ends a serving process by force, and compares.")
-    words.add_argument("--ends", type=int, default=200)
-    words.add_argument("--seed", type=int, default=random.randrange(10 ** 6))
-    return words.parse_args()
-
-
 def main():
-    asked = asked_for()
+    asked = desk.asked_for("Ends a serving process by force, and compares.", ends=200)
     work = pathlib.Path(tempfile.mkdtemp(prefix="ended-by-force-"))
     ends = Ends(work, asked.seed)
     number = 0

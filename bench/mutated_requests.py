@@ -22,7 +22,6 @@ serves on.
 It prints how many answers there were of each kind. Exit status 1: a fault; it is told with the
 request, and `--seed` with the number that is told gives the same requests again.
 """
-import argparse
 import collections
 import dataclasses
 import pathlib
@@ -201,15 +200,8 @@ def run(watched, count, seed):
     watched.stop()
 
 
-def asked_for():
-    words = argparse.ArgumentParser(description="Sends mutated requests, and looks at the answers.")
-    words.add_argument("--count", type=int, default=100000)
-    words.add_argument("--seed", type=int, default=random.randrange(10 ** 6))
-    return words.parse_args()
-
-
 def main():
-    given = asked_for()
+    given = desk.asked_for("Sends mutated requests, and looks at the answers.", count=100000)
     with tempfile.TemporaryDirectory() as folder:
         watched = Watched(pathlib.Path(folder))
         try:

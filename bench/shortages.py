@@ -20,7 +20,6 @@ answered as by the second desk: nothing is started again.
 The last line is a summary. Exit status 1: something differs; `--seed` with the number that is told gives
 the same commands and limits again.
 """
-import argparse
 import collections
 import os
 import pathlib
@@ -168,15 +167,8 @@ class Shortages:
         self.ample.end()
 
 
-def asked_for():
-    words = argparse.ArgumentParser(description="Takes room and memory away from a desk, and compares.")
-    words.add_argument("--changes", type=int, default=CHANGES)
-    words.add_argument("--seed", type=int, default=random.randrange(10 ** 6))
-    return words.parse_args()
-
-
 def main():
-    asked = asked_for()
+    asked = desk.asked_for("Takes room and memory away from a desk, and compares.", changes=CHANGES)
     with tempfile.TemporaryDirectory() as folder:
         shortages = Shortages(pathlib.Path(folder))
         try:
