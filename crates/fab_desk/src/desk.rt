@@ -17,7 +17,6 @@ use fab_stores::{OpenFault, Store};
 use std::alloc::Allocator;
 
 /// A desk over a store, with a policy, a sound world and a book of its paths.
-#[derive(Drop)]
 pub struct Desk<A: Allocator + Copy, S: Store<A>, B: PathBook<A>> {
     alloc: A,
     /// The store that serves; none while the desk is halted.
@@ -26,6 +25,19 @@ pub struct Desk<A: Allocator + Copy, S: Store<A>, B: PathBook<A>> {
     aside: Option<S>,
     policy: Policy,
     ledger: Ledger<A, B>,
+}
+
+// It is written out, so that a caller does not prove again how each part is dropped.
+impl<A: Allocator + Copy, S: Store<A>, B: PathBook<A>> Drop for Desk<A, S, B> {
+    fn drop(self) {
+        let Desk {
+            alloc: _,
+            store: _,
+            aside: _,
+            policy: _,
+            ledger: _,
+        } = self;
+    }
 }
 
 /// What a halted desk answers.

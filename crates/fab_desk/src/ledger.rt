@@ -7,10 +7,16 @@ use std::marker::Model;
 
 /// A world with a book of its paths. A contract sees the world, which is sound, and at which the book
 /// stands.
-#[derive(Drop)]
 pub struct Ledger<A: Allocator + Copy, B: PathBook<A>> {
     pub world: World<A>,
     pub book: B,
+}
+
+// It is written out, so that a caller does not prove again how each part is dropped.
+impl<A: Allocator + Copy, B: PathBook<A>> Drop for Ledger<A, B> {
+    fn drop(self) {
+        let Ledger { world: _, book: _ } = self;
+    }
 }
 
 impl<A: Allocator + Copy, B: PathBook<A>> Model for Ledger<A, B> {

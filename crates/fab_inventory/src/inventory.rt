@@ -30,12 +30,23 @@ use std::marker::Model;
 /// A contract sees the whole as one `InventoryRows`, a record of finite maps: what is known of
 /// each port under its N_Port_Name, and the holders and the volumes by name. Each holder that is
 /// named is there, each volume's array is there and is an array, and no limit is passed.
-#[derive(Drop)]
 pub struct Inventory<A: Allocator + Copy> {
     alloc: A,
     ports: BTreeMap<Wwn, Known, A>,
     holders: BTreeMap<Name, Holder, A>,
     volumes: BTreeMap<Name, Volume, A>,
+}
+
+// It is written out, so that a caller does not prove again how each part is dropped.
+impl<A: Allocator + Copy> Drop for Inventory<A> {
+    fn drop(self) {
+        let Inventory {
+            alloc: _,
+            ports: _,
+            holders: _,
+            volumes: _,
+        } = self;
+    }
 }
 
 impl<A: Allocator + Copy> Model for Inventory<A> {

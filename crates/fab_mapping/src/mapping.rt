@@ -34,11 +34,21 @@ use std::marker::Model;
 /// which logical unit number (the storage groups of SNIA Swordfish).
 ///
 /// A contract sees the whole as one `MappingRows`, a record of finite maps.
-#[derive(Drop)]
 pub struct Mapping<A: Allocator + Copy> {
     alloc: A,
     host_groups: BTreeMap<Name, HostGroup<A>, A>,
     groups: BTreeMap<Name, StorageGroup<A>, A>,
+}
+
+// It is written out, so that a caller does not prove again how each part is dropped.
+impl<A: Allocator + Copy> Drop for Mapping<A> {
+    fn drop(self) {
+        let Mapping {
+            alloc: _,
+            host_groups: _,
+            groups: _,
+        } = self;
+    }
 }
 
 impl<A: Allocator + Copy> Model for Mapping<A> {

@@ -21,7 +21,6 @@ use std::marker::Model;
 /// are on one array.
 ///
 /// A contract sees it as a `StorageGroupRows`.
-#[derive(Drop)]
 pub struct StorageGroup<A: Allocator + Copy> {
     tenant: Name,
     array: Name,
@@ -29,6 +28,20 @@ pub struct StorageGroup<A: Allocator + Copy> {
     targets: BTreeSet<Wwn, A>,
     units: BTreeMap<u16, Name, A>,
     exposed: bool,
+}
+
+// It is written out, so that a caller does not prove again how each part is dropped.
+impl<A: Allocator + Copy> Drop for StorageGroup<A> {
+    fn drop(self) {
+        let StorageGroup {
+            tenant: _,
+            array: _,
+            host_groups: _,
+            targets: _,
+            units: _,
+            exposed: _,
+        } = self;
+    }
 }
 
 impl<A: Allocator + Copy> Model for StorageGroup<A> {

@@ -34,7 +34,6 @@ pub enum Tenants {
 }
 
 /// Somebody who sends requests.
-#[derive(Drop)]
 pub struct Caller {
     /// No other caller has this name.
     pub name: Name,
@@ -44,6 +43,18 @@ pub struct Caller {
     pub roles: Vec<Name>,
     /// The tenants whose things the caller may see and touch.
     pub tenants: Tenants,
+}
+
+// It is written out, so that a caller does not prove again how each part is dropped.
+impl Drop for Caller {
+    fn drop(self) {
+        let Caller {
+            name: _,
+            token: _,
+            roles: _,
+            tenants: _,
+        } = self;
+    }
 }
 
 impl Model for Caller {
@@ -78,7 +89,6 @@ pub struct Freeze {
 }
 
 /// Moments at which changes may be made.
-#[derive(Drop)]
 pub struct Window {
     /// No other window has this name.
     pub name: Name,
@@ -86,6 +96,17 @@ pub struct Window {
     pub weekly: Vec<WeekSpan>,
     /// but not in these times.
     pub freeze: Vec<Freeze>,
+}
+
+// It is written out, so that a caller does not prove again how each part is dropped.
+impl Drop for Window {
+    fn drop(self) {
+        let Window {
+            name: _,
+            weekly: _,
+            freeze: _,
+        } = self;
+    }
 }
 
 impl Model for Window {
@@ -115,7 +136,6 @@ pub struct Quorum {
 }
 
 /// A rule: the acts that it speaks of, and what it asks of them.
-#[derive(Drop)]
 pub struct Rule {
     /// No other rule has this name.
     pub name: Name,
@@ -131,6 +151,21 @@ pub struct Rule {
     pub window: Option<Name>,
     /// Who approved.
     pub approvals: Option<Quorum>,
+}
+
+// It is written out, so that a caller does not prove again how each part is dropped.
+impl Drop for Rule {
+    fn drop(self) {
+        let Rule {
+            name: _,
+            actions: _,
+            fabric: _,
+            role: _,
+            scope: _,
+            window: _,
+            approvals: _,
+        } = self;
+    }
 }
 
 impl Model for Rule {
@@ -153,11 +188,21 @@ impl Model for Rule {
 ///
 /// A contract sees a policy as the lists of its rows. Names and tokens stand once, each window
 /// that a rule names is there, and no limit is passed.
-#[derive(Drop)]
 pub struct Policy {
     pub(crate) callers: Vec<Caller>,
     pub(crate) windows: Vec<Window>,
     pub(crate) rules: Vec<Rule>,
+}
+
+// It is written out, so that a caller does not prove again how each part is dropped.
+impl Drop for Policy {
+    fn drop(self) {
+        let Policy {
+            callers: _,
+            windows: _,
+            rules: _,
+        } = self;
+    }
 }
 
 impl Model for Policy {

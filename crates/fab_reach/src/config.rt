@@ -11,11 +11,21 @@ use std::marker::Model;
 /// The zoning of both fabrics, and the mapping.
 ///
 /// A contract sees it as a `ConfigRows`.
-#[derive(Drop)]
 pub struct Config<A: Allocator + Copy> {
     pub a: Zoning<A>,
     pub b: Zoning<A>,
     pub mapping: Mapping<A>,
+}
+
+// It is written out, so that a caller does not prove again how each part is dropped.
+impl<A: Allocator + Copy> Drop for Config<A> {
+    fn drop(self) {
+        let Config {
+            a: _,
+            b: _,
+            mapping: _,
+        } = self;
+    }
 }
 
 impl<A: Allocator + Copy> Model for Config<A> {

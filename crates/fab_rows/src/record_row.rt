@@ -20,7 +20,6 @@ pub enum PlanState {
 }
 
 /// A plan. A contract sees it as a `PlanEntry`.
-#[derive(Drop)]
 pub struct PlanRow<A: Allocator> {
     pub name: Name,
     /// Who staged it.
@@ -30,6 +29,19 @@ pub struct PlanRow<A: Allocator> {
     pub state: PlanState,
     /// Its place among the activations in force, 1 for the oldest; 0 where it is not active.
     pub position: u64,
+}
+
+// It is written out, so that a caller does not prove again how each part is dropped.
+impl<A: Allocator> Drop for PlanRow<A> {
+    fn drop(self) {
+        let PlanRow {
+            name: _,
+            author: _,
+            text: _,
+            state: _,
+            position: _,
+        } = self;
+    }
 }
 
 impl<A: Allocator> Model for PlanRow<A> {

@@ -17,7 +17,6 @@ pub enum CountRow {
 }
 
 /// Rows of the twelve tables.
-#[derive(Drop)]
 pub struct TableRows<A: Allocator + Copy> {
     /// Of the settings, those that are none of a configuration.
     pub counts: Vec<CountRow, A>,
@@ -32,4 +31,21 @@ pub struct TableRows<A: Allocator + Copy> {
     /// What active plans took away and added.
     pub undo: Vec<UndoRow, A>,
     pub paths: Vec<PathRow, A>,
+}
+
+// It is written out, so that a caller does not prove again how each part is dropped.
+impl<A: Allocator + Copy> Drop for TableRows<A> {
+    fn drop(self) {
+        let TableRows {
+            counts: _,
+            ports: _,
+            holders: _,
+            volumes: _,
+            config: _,
+            plans: _,
+            approvals: _,
+            undo: _,
+            paths: _,
+        } = self;
+    }
 }

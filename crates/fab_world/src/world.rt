@@ -17,7 +17,6 @@ use std::marker::Model;
 /// What the desk is about at one moment.
 ///
 /// A contract sees it as a `WorldRows`.
-#[derive(Drop)]
 pub struct World<A: Allocator + Copy> {
     /// The ports, the hosts and arrays, and the volumes.
     pub inventory: Inventory<A>,
@@ -29,6 +28,19 @@ pub struct World<A: Allocator + Copy> {
     pub order: Vec<Name, A>,
     /// How many changes there were.
     pub revision: u64,
+}
+
+// It is written out, so that a caller does not prove again how each part is dropped.
+impl<A: Allocator + Copy> Drop for World<A> {
+    fn drop(self) {
+        let World {
+            inventory: _,
+            config: _,
+            plans: _,
+            order: _,
+            revision: _,
+        } = self;
+    }
 }
 
 impl<A: Allocator + Copy> Model for World<A> {

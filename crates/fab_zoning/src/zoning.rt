@@ -59,7 +59,6 @@ pub const MOST_ROWS: usize = 65536;
 /// apart from one another.
 ///
 /// A contract sees the whole as one `FabricZoning`, a record of finite sets.
-#[derive(Drop)]
 pub struct Zoning<A: Allocator + Copy> {
     alloc: A,
     fabric: Fabric,
@@ -69,6 +68,22 @@ pub struct Zoning<A: Allocator + Copy> {
     active: Option<Name>,
     rows: ActiveRows<A>,
     flag: DefaultFlag,
+}
+
+// It is written out, so that a caller does not prove again how each part is dropped.
+impl<A: Allocator + Copy> Drop for Zoning<A> {
+    fn drop(self) {
+        let Zoning {
+            alloc: _,
+            fabric: _,
+            aliases: _,
+            zones: _,
+            sets: _,
+            active: _,
+            rows: _,
+            flag: _,
+        } = self;
+    }
 }
 
 /// The parts of a fabric's zoning, as tables and stored configurations give them.
