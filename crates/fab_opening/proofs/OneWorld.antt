@@ -1,9 +1,6 @@
 -- The rows of all tables tell a world.
-use Rattle.std.proofs.Common.{◌≡◌, ℕ, List, [], ◌∷◌, ◌++◌, reverse, Contains, Option, None, Some, is_some, arith, inl, inr, refl, sym, ap, ◌∙◌, subst}
+use Rattle.std.proofs.Common.{◌≡◌, ℕ, List, Contains, Option, None, Some, refl, sym, ap, ◌∙◌, subst}
 use Rattle.std.specs.FinMap as map
-use Rattle.std.specs.Option.{option_and_then, option_to_list}
-use Rattle.std.proofs.lemmas.List.Elements.{Contains-append_cases, Contains-push_cases}
-use Rattle.std.proofs.lemmas.List.Sorted.{IsPermutation-reverse, Contains-permutation}
 use Rattle.fab_maps.specs.Firsts.{HasAt}
 use Rattle.fab_names.proofs.OrderLaws.{name_total, name_exact}
 use Rattle.fab_inventory.specs.Inventories.{InventoryRows}
@@ -11,7 +8,6 @@ use Rattle.fab_inventory.specs.declared.port.Port.{Port}
 use Rattle.fab_load.specs.Inventories.{AreInventoryRows}
 use Rattle.fab_row_lists.specs.Paths.{ArePathRows}
 use Rattle.fab_plans_base.proofs.Unique.{one_plan}
-use Rattle.fab_reach.specs.Records.{ConfigRows}
 use Rattle.fab_reach.specs.Soundness.{HasSoundZonings}
 use Rattle.fab_rows.proofs.Determined.{one_list, one_config, one_inventory}
 use Rattle.fab_rows.specs.PlanEntries.{PlanEntry}
@@ -26,11 +22,11 @@ use Rattle.fab_rows.specs.declared.record_row.UndoRow.{UndoRow}
 use Rattle.fab_rows.specs.declared.table_rows.CountRow.TheVariants.{Revision}
 use Rattle.fab_rows.specs.declared.table_rows.TableRows.{TableRows}
 use Rattle.fab_store_base.proofs.Orders.{one_order}
+use Rattle.fab_store_base.proofs.SoundOrder.{sound_in_order}
 use Rattle.fab_store_base.specs.PlanRows.{IsRowOf, IsChanged, IsInOrder, ChangesInOrder, ListInOrder, ArePlans}
 use Rattle.fab_opening.specs.Tables.{AreRecords, AreTableRows, IsMadeOfTables, HasNoWorld}
-use Rattle.fab_world.specs.History.{LeadsBack, changes_at, changes_of}
 use Rattle.fab_world.specs.PlanRecords.{Standing, staged, active, rolled_back, withdrawn, PlanRecord}
-use Rattle.fab_world.specs.Plans.{Change, state_of, undo_of}
+use Rattle.fab_world.specs.Plans.{state_of}
 use Rattle.fab_world.specs.Soundness.{IsSound}
 use Rattle.fab_world.specs.Worlds.{WorldRows, records_of}
 
@@ -149,48 +145,6 @@ module _ {A : Type 0} (t : TableRows A) (v w : WorldRows) (h : AreRecords t v) (
 
       revision : v.revision ≡ w.revision
       revision = (k.counts_are (Revision v.revision)).0 ((h.counts_are (Revision v.revision)).1 refl)
-
--- ---- what changed is in order in a sound world
-
--- the change of the first name
-first_in_order : (plans : List ℕ → Option PlanRecord) (m : List ℕ) (others : List Change) (c : ConfigRows) (p : PlanRecord) → plans m ≡ Some p → LeadsBack (changes_at plans m ++ others) c → ChangesInOrder p.standing
-first_in_order plans m others c p is leads = by p.standing (subst (λ o. LeadsBack (option_to_list (option_and_then (λ (x : PlanRecord). undo_of x.standing) o) ++ others) c) is leads)
-  where
-    by : (s : Standing) → LeadsBack (option_to_list (undo_of s) ++ others) c → ChangesInOrder s
-    by staged l = tt
-    by (active t u) l = (l.1.differs.takes.sorted, l.1.differs.adds.sorted)
-    by rolled_back l = tt
-    by withdrawn l = tt
-
--- behind some changes the others lead back
-others_lead : (changes others : List Change) (c : ConfigRows) → LeadsBack (changes ++ others) c → (b : ConfigRows) × LeadsBack others b
-others_lead [] others c leads = (c, leads)
-others_lead (change ∷ changes) others c leads = others_lead changes others leads.0 leads.2
-
-one_item : {X : Type 0} (x y : X) → Contains (x ∷ []) y → x ≡ y
-one_item x y h = elim (Contains-push_cases [] x y h) [
-  | inl none ↦ absurd (omega (arith, none.1))
-  | inr is ↦ is
-]
-
--- the changes of the names lead back, so each of them is in order
-leads_in_order : (plans : List ℕ → Option PlanRecord) (names : List (List ℕ)) (c : ConfigRows) → LeadsBack (changes_of plans names) c → (n : List ℕ) (p : PlanRecord) → Contains names n → plans n ≡ Some p → ChangesInOrder p.standing
-leads_in_order plans [] c leads n p there is = absurd (omega (arith, there.1))
-leads_in_order plans (m ∷ names) c leads n p there is = elim (Contains-append_cases (m ∷ []) names n there) [
-  | inl first ↦ first_in_order plans m (changes_of plans names) c p (ap plans (one_item m n first) ∙ is) leads
-  | inr later ↦ let rest = others_lead (changes_at plans m) (changes_of plans names) c leads in leads_in_order plans names rest.0 rest.1 n p later is
-]
-
-pub sound_in_order : (w : WorldRows) → IsSound w → ListInOrder (map.get w.plans)
-sound_in_order w s n p is = by p.standing refl
-  where
-    by : (x : Standing) → p.standing ≡ x → ChangesInOrder p.standing
-    by staged e = subst ChangesInOrder (sym e) tt
-    by rolled_back e = subst ChangesInOrder (sym e) tt
-    by withdrawn e = subst ChangesInOrder (sym e) tt
-    by (active t u) e =
-        let there : Contains w.order n = (s.order.lists n).1 (p, is, ap (λ y. is_some (undo_of y)) e) in
-        leads_in_order (map.get w.plans) (reverse w.order) w.config s.earlier n p (Contains-permutation w.order (reverse w.order) n (IsPermutation-reverse w.order) there) is
 
 -- the one world that the rows tell
 pub the_world : {A : Type 0} (t : TableRows A) (v w : WorldRows) → IsMadeOfTables t v → AreTableRows t w → IsSound w → v ≡ w

@@ -3,3 +3,4 @@ pub mod PrintedTexts
 pub mod PlansMade
 pub mod WholePlans
 pub mod InOrder
+pub mod SoundOrder

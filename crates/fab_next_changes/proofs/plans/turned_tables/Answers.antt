@@ -1,8 +1,8 @@
 use Rattle.std.proofs.Common.{Some}
+use Rattle.fab_store_base.proofs.SoundOrder.{sound_in_order}
 use Rattle.fab_store_base.specs.PlanRows.{IsApprovalOf}
 use Rattle.fab_next.specs.Nexts.{turned}
 use Rattle.fab_changes.specs.Keys.{approval_order, undo_order}
-use Rattle.fab_opening.proofs.OneWorld.{sound_in_order}
 use Rattle.fab_next_changes.specs.PlanMoves.{IsUndoRowOf}
 use Rattle.fab_next_changes.proofs.OnePlan.{all_of_one}
 use Rattle.fab_next_changes.proofs.PlansTurned.{turned_there, turned_beside}
