@@ -1,11 +1,11 @@
 #!/usr/bin/env python3
 """Reads a file that the desk has written with sqlite3: is it sound, and has it the tables and rows?
 
-It runs the program `fab_file_tests`, which plays worked requests over a new file, in an empty folder,
-and compares what sqlite3 finds there: the integrity, the tables, the columns of each table, and its
-rows. It also counts the texts of statements that one connection may see, since a connection keeps the
-plans of 64. Run it by hand from the top, after `(cd crates/fab_file_tests && rt run)` has built the
-program. sqlite3 is that of Python, or else the command of that name.
+It has the built program make a file and answer worked requests over it, each in a process of its own,
+which closes the file, and compares what sqlite3 finds there: the integrity, the tables, the columns of
+each table, and its rows. It also counts the texts of statements that one connection may see, since a
+connection keeps the plans of 64. SANDESK names the program; without it `./sandesk` builds it. sqlite3 is
+that of Python, or else the command of that name.
 """
 import pathlib
 import re
@@ -13,8 +13,10 @@ import subprocess
 import sys
 import tempfile
 
+import desk
+
 TOP = pathlib.Path(__file__).resolve().parent.parent
-PROGRAM = TOP / "crates" / "fab_file_tests" / "out" / "fab_file_tests"
+POLICY = TOP / "examples" / "session.toml"
 TEXTS = TOP / "crates" / "fab_sql" / "src" / "texts.rt"
 PLANS = 64
 
@@ -38,27 +40,32 @@ FIRST_PORT, SECOND_PORT, THIRD_PORT = "1000000000000001", "1000000000000002", "1
 FIRST_TARGET, SECOND_TARGET, NODE = "5000000000000001", "5000000000000002", "5000000000000000"
 T1_PRINTED, I1_PRINTED = "50:00:00:00:00:00:00:01", "10:00:00:00:00:00:00:01"
 
-FIRST = f"""alias.put A disk wwpn={T1_PRINTED}
-zone.put A z1 wwpn={I1_PRINTED} alias=disk
-set.put A s1 z1
-activate A s1
-hg.put hosts1 blue db1
-sg.new g1 blue arr1
-sg.host g1 hosts1
-sg.target g1 {T1_PRINTED}
-sg.map g1 0 v1
-sg.expose g1
-"""
-SECOND = f"""zone.put A z3 dp=12,5 wwpn={T1_PRINTED}
-set.put A s1 z1 z3
-activate A s1
-hg.put hosts2 green db2
-sg.new g2 green arr1
-sg.host g2 hosts2
-sg.target g2 {T1_PRINTED}
-sg.map g2 0 v2
-sg.expose g2
-"""
+FIRST = (TOP / "examples" / "first-host.plan").read_text()
+SECOND = (TOP / "examples" / "second-host.plan").read_text()
+SIGNED = "default B deny\n"
+
+PORTS = [
+    (0x1000000000000001, 0x2000000000000001, 1, 1), (0x1000000000000002, 0x2000000000000002, 12, 5),
+    (0x1000000000000003, 0x2000000000000003, 12, 5), (0x5000000000000001, 0x5000000000000000, 1, 2),
+    (0x5000000000000002, 0x5000000000000000, 1, 3),
+]
+
+# The requests, and who asks: the worked world, a plan that two approve, and the two worked plans.
+REQUESTS = [
+    ("ada", "POST", "/imports/A", desk.port_list(PORTS)),
+    ("ada", "PUT", "/hosts/db1", desk.holder([0x1000000000000001], "blue")),
+    ("ada", "PUT", "/hosts/db2", desk.holder([0x1000000000000002, 0x1000000000000003], "green")),
+    ("ada", "PUT", "/arrays/arr1", desk.holder([0x5000000000000001, 0x5000000000000002], "store")),
+    ("ada", "PUT", "/volumes/v1", '{"array":"arr1","bytes":1073741824,"tenant":"blue"}'),
+    ("ada", "PUT", "/volumes/v2", '{"array":"arr1","bytes":1073741824,"tenant":"green"}'),
+    ("ada", "PUT", "/plans/q1", SIGNED),
+    ("bob", "POST", "/plans/q1/approve", ""),
+    ("dan", "POST", "/plans/q1/approve", ""),
+    ("ada", "PUT", "/plans/p1", FIRST),
+    ("ada", "POST", "/plans/p1/activate", ""),
+    ("ada", "PUT", "/plans/p2", SECOND),
+    ("ada", "POST", "/plans/p2/activate", ""),
+]
 
 # The rows after the worked world, a plan of fabric B that two callers approved, and the first two
 # worked plans, activated.
@@ -98,7 +105,7 @@ ROWS = {
         ("storage", "g2", "unit", "0", "v2"),
     ],
     "plans": [
-        ("q1", "ada", "default B deny\n", "staged", 0),
+        ("q1", "ada", SIGNED, "staged", 0),
         ("p1", "ada", FIRST, "active", 1),
         ("p2", "ada", SECOND, "active", 2),
     ],
@@ -182,15 +189,22 @@ def count_texts():
     print(f"{len(texts)} statements a connection at most, fewer than {PLANS}")
 
 
+def answered(database, caller, method, path, body):
+    """Has the program answer a request over the file, and close it."""
+    words = [desk.program(), "once", "--db", database, "--policy", POLICY]
+    sent = desk.request(method, path, body, f"t-{caller}")
+    run = subprocess.run(words, input=sent, capture_output=True)
+    want(f"the status of {method} {path}", (run.returncode, desk.answer_of(run.stdout)[0]), (0, 200))
+
+
 def main():
     count_texts()
-    if not PROGRAM.exists():
-        sys.exit("build the program first: (cd crates/fab_file_tests && rt run)")
     with tempfile.TemporaryDirectory() as folder:
-        run = subprocess.run([PROGRAM], cwd=folder, capture_output=True, text=True)
-        if run.returncode != 0:
-            sys.exit(f"the program failed: {run.stdout!r} {run.stderr!r}")
-        way, ask = reader(pathlib.Path(folder) / "desk.db")
+        database = pathlib.Path(folder) / "desk.db"
+        desk.make(database)
+        for turn in REQUESTS:
+            answered(database, *turn)
+        way, ask = reader(database)
         print(f"read by {way}")
         check(ask)
 

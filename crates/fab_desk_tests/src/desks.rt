@@ -6,7 +6,7 @@ use fab_desk::Desk;
 use fab_desk_base::Reply;
 use fab_reach::PlainBook;
 use fab_store::SqlStore;
-use fab_stores::Store;
+use fab_stores::{OpenFault, Store};
 use sqlite::{Alter, Connection};
 use std::alloc::Global;
 use std::test::Fail;
@@ -130,4 +130,58 @@ pub fn store_after<S: Store<Global>>(
     let mut desk = opened(alloc, store)?;
     let asked = ask_both(alloc, &mut desk, before, turns);
     left(desk, asked)
+}
+
+/// Whether the desk answers as the turn says, and not that its store refused a call.
+fn is_answered<S: Store<Global>>(
+    alloc: Global,
+    desk: &mut DeskOver<S>,
+    turn: Turn,
+) -> Result<bool, Fail> {
+    match ask(alloc, desk, turn)? {
+        Came::Told => Ok(true),
+        Came::Refused => Ok(false),
+        Came::Other => Err(Fail::from("reply")),
+    }
+}
+
+/// How many turns the desk answers as they say, before one for which its store refuses a call.
+fn answered<S: Store<Global>>(
+    alloc: Global,
+    desk: &mut DeskOver<S>,
+    turns: &[Turn],
+) -> Result<usize, Fail> {
+    for (place, turn) in turns.iter().enumerate() {
+        if !is_answered(alloc, desk, *turn)? {
+            return Ok(place);
+        }
+    }
+    Ok(turns.len())
+}
+
+/// The same, with the store of the desk.
+fn counted<S: Store<Global>>(
+    desk: DeskOver<S>,
+    answered: Result<usize, Fail>,
+) -> Result<(usize, S), Fail> {
+    let count = answered?;
+    match desk.close() {
+        Some(store) => Ok((count, store)),
+        None => Err(Fail::from("close")),
+    }
+}
+
+/// How many turns a desk over the store answers as they say, before one for which the store refuses a
+/// call, with the store. It is none where the store can not be read.
+pub fn play<S: Store<Global>>(alloc: Global, store: S, turns: &[Turn]) -> Result<(usize, S), Fail> {
+    let policy = policy(alloc)?;
+    match Desk::open(alloc, store, policy) {
+        Ok(desk) => {
+            let mut desk = desk;
+            let answered = answered(alloc, &mut desk, turns);
+            counted(desk, answered)
+        }
+        Err((OpenFault::Store, store)) => Ok((0, store)),
+        Err(_) => Err(Fail::from("open")),
+    }
 }

@@ -1,6 +1,7 @@
 //! Tests of the desk over tables in memory: worked requests, with the tables read back after each;
-//! each call of the store refused in turn; tables that somebody else has changed. Nothing here is part
-//! of the product.
+//! each call of the store refused in turn; tables that somebody else has changed. And stops: its files
+//! are on two memory disks, one of which fails after so many calls; what is left is opened again, and
+//! serves on. Nothing here is part of the product.
 #![tactic(auto)]
 
 #[cfg(test)]
@@ -8,13 +9,21 @@ mod damaged;
 #[cfg(test)]
 mod desks;
 #[cfg(test)]
+mod disks;
+#[cfg(test)]
+mod files;
+#[cfg(test)]
 mod lists;
 #[cfg(test)]
 mod memory;
 #[cfg(test)]
 mod refused;
 #[cfg(test)]
+mod stops;
+#[cfg(test)]
 mod stored;
+#[cfg(test)]
+mod worked;
 #[cfg(test)]
 mod worlds;
 

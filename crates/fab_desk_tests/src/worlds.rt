@@ -1,7 +1,6 @@
 //! Whether tables have the world that the machine comes to by the same requests.
 
 use crate::lists::{List, turns_of};
-use crate::memory::Tables;
 use fab_asking::{Turn, holds_in};
 use fab_changes::changes;
 use fab_rows::TableRows;
@@ -30,7 +29,11 @@ fn is_same(alloc: Global, one: &World<Global>, other: &World<Global>) -> Result<
 }
 
 /// Whether the tables have the rows of the world.
-fn have_world(alloc: Global, tables: &mut Tables, world: &World<Global>) -> Result<bool, Fail> {
+fn have_world<S: Store<Global>>(
+    alloc: Global,
+    tables: &mut S,
+    world: &World<Global>,
+) -> Result<bool, Fail> {
     let Ok(loaded) = tables.load(alloc) else {
         return Err(Fail::from("load"));
     };
@@ -59,13 +62,45 @@ fn lead_both(
 }
 
 /// Whether the tables have the world that the machine comes to by the lists and then by the turns.
-pub fn are_kept(
+pub fn are_kept<S: Store<Global>>(
     alloc: Global,
-    tables: &mut Tables,
+    tables: &mut S,
     before: &[List],
     turns: &[Turn],
 ) -> Result<bool, Fail> {
     let mut world = World::new(alloc);
     lead_both(alloc, &mut world, before, turns)?;
     have_world(alloc, tables, &world)
+}
+
+/// The first turns, so many of them.
+fn first(turns: &[Turn], count: usize) -> &[Turn] {
+    turns.get(..count).unwrap_or(turns)
+}
+
+/// Whether the tables have the world after so many turns.
+pub fn are_after<S: Store<Global>>(
+    alloc: Global,
+    tables: &mut S,
+    turns: &[Turn],
+    count: usize,
+) -> Result<bool, Fail> {
+    are_kept(alloc, tables, &[], first(turns, count))
+}
+
+/// The turns after which the tables stand: so many, or one more.
+pub fn found<S: Store<Global>>(
+    alloc: Global,
+    tables: &mut S,
+    turns: &[Turn],
+    count: usize,
+) -> Result<usize, Fail> {
+    let after = count.saturating_add(1);
+    if are_after(alloc, tables, turns, count)? {
+        return Ok(count);
+    }
+    if are_after(alloc, tables, turns, after)? {
+        return Ok(after);
+    }
+    Err(Fail::from("rows"))
 }

@@ -8,3 +8,6 @@ mod desk;
 mod lines;
 #[cfg(test)]
 mod worlds;
+
+/// Nothing: the tests are all there is.
+fn main() {}

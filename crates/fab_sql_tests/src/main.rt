@@ -8,3 +8,6 @@ mod lines;
 mod tables;
 #[cfg(test)]
 mod texts;
+
+/// Nothing: the tests are all there is.
+fn main() {}

@@ -1,6 +1,6 @@
 //! The tables of a desk in files.
 
-use crate::desks::play;
+use crate::desks::{play, tables_of};
 use crate::worlds::{are_after, found};
 use fab_asking::Turn;
 use fab_store::SqlStore;
@@ -24,14 +24,6 @@ fn connect<D: Disk + Drop>(
         Ok(conn) => Ok(conn),
         Err((_, left)) => Err(left.into_files()),
     }
-}
-
-/// The tables of the connection.
-fn tables_of<S: Alter + Drop>(alloc: Global, conn: Connection<S>) -> Result<SqlStore<S>, Fail> {
-    if !conn.is_autocommit() {
-        return Err(Fail::from("transaction"));
-    }
-    Ok(SqlStore::new(conn, alloc))
 }
 
 /// How many turns a desk over new tables answers, with the connection. It is none where the tables

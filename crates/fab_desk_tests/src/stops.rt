@@ -2,8 +2,8 @@
 //! were answered, or after them and the one in progress.
 
 use crate::disks::{Failing, files, have_served, stop};
-use crate::rows::{Worked, turns_of};
-use crate::tables::{check, check_served, run};
+use crate::files::{check, check_served, run};
+use crate::worked::{Worked, turns_of};
 use fab_asking::Turn;
 use std::alloc::Global;
 use std::test::Fail;

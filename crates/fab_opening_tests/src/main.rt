@@ -14,3 +14,6 @@ mod records;
 mod stock;
 #[cfg(test)]
 mod tables;
+
+/// Nothing: the tests are all there is.
+fn main() {}
