@@ -1,9 +1,9 @@
 //! Each request for memory refused in turn.
 
-use crate::steps::{QUESTION, QUESTIONED, STAGE, STAGED, Two, Wanted, is_wanted};
+use crate::steps::{QUESTION, QUESTIONED, STAGE, STAGED, Wanted, heard_by, is_wanted};
 use fab_json::counted::Counted;
 use fab_refusing::Refusing;
-use fab_wire_base::hear::{Heard, hear};
+use fab_wire_base::hear::Heard;
 use fab_wire_base::requests::Refusal;
 use std::alloc::Global;
 
@@ -22,7 +22,7 @@ enum Came {
 fn came_of(alloc: Global, input: &[u8], requests: u64, wanted: Wanted<'_>) -> Came {
     let heap = Refusing::new(alloc);
     heap.refuse_after(requests);
-    let heard = hear(&heap, alloc, &Two, &mut Counted::new(input));
+    let heard = heard_by(&heap, alloc, &mut Counted::new(input));
     let is_want = matches!(heard, Heard::Memory);
     let is_right = is_wanted(wanted, &heard);
     if heap.has_refused() && is_want {

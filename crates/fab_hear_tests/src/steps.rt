@@ -8,6 +8,7 @@ use fab_wire_base::callers::Callers;
 use fab_wire_base::hear::{Asked, Heard, hear};
 use fab_wire_base::kinds::Kind;
 use fab_wire_base::requests::Refusal;
+use fab_wire_base::routes::Routes;
 use std::alloc::{Allocator, Global};
 use std::io;
 use std::io::Read;
@@ -125,10 +126,22 @@ pub fn is_wanted<A: Allocator>(wanted: Wanted<'_>, heard: &Heard<A>) -> bool {
     }
 }
 
+/// What is heard, by routes that are made for it; want of memory where there is none for them.
+pub fn heard_by<A: Allocator + Copy, R: Read>(
+    alloc: A,
+    global: Global,
+    reader: &mut Counted<R>,
+) -> Heard<A> {
+    match Routes::new(global) {
+        Ok(routes) => hear(alloc, &routes, &Two, reader),
+        Err(_) => Heard::Memory,
+    }
+}
+
 /// Whether this is heard of an input whose reads get so many bytes at most.
 pub fn hears(alloc: Global, input: &[u8], most: usize, wanted: Wanted<'_>) -> bool {
     let mut reader = Counted::new(Tripping::new(input, most, u64::MAX));
-    let heard = hear(alloc, alloc, &Two, &mut reader);
+    let heard = heard_by(alloc, alloc, &mut reader);
     is_wanted(wanted, &heard)
 }
 

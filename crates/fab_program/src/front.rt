@@ -6,14 +6,17 @@ use fab_json::counted::Counted;
 use fab_serving::Server;
 use fab_stores::{OpenFault, Store};
 use fab_wire::{Outcome, serve_one};
+use fab_wire_base::routes::Routes;
 use std::alloc::Global;
 use std::io::{Read, Write};
 
-/// A desk over a store, and where its memory comes from.
+/// A desk over a store, where its memory comes from, and the routes by which it is asked.
 #[derive(Drop)]
 pub struct Front<S: Store<Global>> {
     /// Where its memory comes from.
     pub alloc: Global,
+    /// The routes.
+    pub routes: Routes,
     /// The desk.
     pub desk: ProgramDesk<S>,
 }
@@ -58,6 +61,7 @@ impl<S: Store<Global>> Server for Front<S> {
         serve_one(
             self.alloc,
             self.alloc,
+            &self.routes,
             &mut self.desk,
             moment,
             reader,

@@ -11,6 +11,7 @@ use fab_json::counted::Counted;
 use fab_policy_base::Policy;
 use fab_stores::Store;
 use fab_wire::{Outcome, serve_one};
+use fab_wire_base::routes::Routes;
 use fab_words::{Once, Over};
 use std::alloc::Global;
 use std::io::{Read, Write};
@@ -122,12 +123,34 @@ fn once_at<S: Store<Global>, R: Read + Drop, W: Write + Drop>(
     writer: W,
 ) -> Result<End, Fault> {
     match moment {
-        Ok(moment) => {
+        Ok(moment) => once_now(alloc, desk, moment, reader, writer),
+        Err(fault) => Err(fault),
+    }
+}
+
+/// Answers one request at a desk and a moment, if the routes have memory.
+fn once_now<S: Store<Global>, R: Read + Drop, W: Write + Drop>(
+    alloc: Global,
+    desk: &mut ProgramDesk<S>,
+    moment: u64,
+    reader: R,
+    writer: W,
+) -> Result<End, Fault> {
+    match Routes::new(alloc) {
+        Ok(routes) => {
             let mut reader = Counted::new(reader);
             let mut writer = Counted::new(writer);
-            end_of(serve_one(alloc, alloc, desk, moment, &mut reader, &mut writer))
+            end_of(serve_one(
+                alloc,
+                alloc,
+                &routes,
+                desk,
+                moment,
+                &mut reader,
+                &mut writer,
+            ))
         }
-        Err(fault) => Err(fault),
+        Err(_) => Err(Fault::Memory),
     }
 }
 

@@ -8,6 +8,7 @@ use crate::printing::End;
 use fab_policy_base::Policy;
 use fab_serving::{ServeFault, Watch, serve_on};
 use fab_stores::{OpenFault, Store};
+use fab_wire_base::routes::Routes;
 use fab_words::Serve;
 use std::alloc::Global;
 use std::io::Write;
@@ -56,10 +57,26 @@ fn serve_over<
 {
     match store {
         Ok(store) => {
-            let desk = desk_over(rt.alloc(), store, policy);
-            serve_by(rt, asked, desk, now, log, again)
+            let front = front_of(rt.alloc(), desk_over(rt.alloc(), store, policy));
+            serve_by(rt, asked, front, now, log, again)
         }
         Err(fault) => Err(fault),
+    }
+}
+
+/// A desk as what serves connections, if there is one and the routes have memory.
+fn front_of<S: Store<Global>>(
+    alloc: Global,
+    desk: Result<ProgramDesk<S>, Fault>,
+) -> Result<Front<S>, Fault> {
+    let desk = desk?;
+    match Routes::new(alloc) {
+        Ok(routes) => Ok(Front {
+            alloc,
+            routes,
+            desk,
+        }),
+        Err(_) => Err(Fault::Memory),
     }
 }
 
@@ -72,7 +89,7 @@ fn serve_by<
 >(
     rt: &HostRuntime,
     asked: &Serve<'_>,
-    desk: Result<ProgramDesk<S>, Fault>,
+    front: Result<Front<S>, Fault>,
     now: &mut N,
     log: W,
     again: &mut O,
@@ -80,14 +97,8 @@ fn serve_by<
     requires now { (state : N) → N.pre state }
     requires again { (state : O) → O.pre state }
 {
-    match desk {
-        Ok(desk) => {
-            let mut front = Front {
-                alloc: rt.alloc(),
-                desk,
-            };
-            serve_at(rt, asked, &mut front, now, log, again)
-        }
+    match front {
+        Ok(mut front) => serve_at(rt, asked, &mut front, now, log, again),
         Err(fault) => Err(fault),
     }
 }

@@ -9,6 +9,7 @@ use fab_desk::Desk;
 use fab_json::counted::Counted;
 use fab_reach::PathBook;
 use fab_stores::Store;
+use fab_wire_base::routes::Routes;
 use std::alloc::{AllocError, Allocator, Global};
 use std::io::{Read, Write};
 
@@ -36,6 +37,7 @@ pub struct Served<R, W> {
 pub fn serve_all<A: Allocator + Copy, S: Store<A>, B: PathBook<A>, R: Read + Drop, W: Write + Drop>(
     alloc: A,
     global: Global,
+    routes: &Routes,
     desk: &mut Desk<A, S, B>,
     connections: Vec<Connection<R, W>, A>,
 ) -> Result<Vec<Served<R, W>, A>, AllocError>
@@ -44,7 +46,7 @@ pub fn serve_all<A: Allocator + Copy, S: Store<A>, B: PathBook<A>, R: Read + Dro
 {
     let mut all = Vec::with_capacity(alloc, connections.len())?;
     for connection in connections {
-        all.push_reserved(serve(alloc, global, desk, connection));
+        all.push_reserved(serve(alloc, global, routes, desk, connection));
     }
     Ok(all)
 }
@@ -53,6 +55,7 @@ pub fn serve_all<A: Allocator + Copy, S: Store<A>, B: PathBook<A>, R: Read + Dro
 fn serve<A: Allocator + Copy, S: Store<A>, B: PathBook<A>, R: Read + Drop, W: Write + Drop>(
     alloc: A,
     global: Global,
+    routes: &Routes,
     desk: &mut Desk<A, S, B>,
     connection: Connection<R, W>,
 ) -> Served<R, W>
@@ -63,7 +66,15 @@ fn serve<A: Allocator + Copy, S: Store<A>, B: PathBook<A>, R: Read + Drop, W: Wr
         mut reader,
         mut writer,
     } = connection;
-    let outcome = serve_one(alloc, global, desk, moment, &mut reader, &mut writer);
+    let outcome = serve_one(
+        alloc,
+        global,
+        routes,
+        desk,
+        moment,
+        &mut reader,
+        &mut writer,
+    );
     Served {
         outcome,
         reader,

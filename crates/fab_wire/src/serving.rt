@@ -20,6 +20,7 @@ use fab_requests::{Meant, meaning};
 use fab_stores::Store;
 use fab_wire_base::hear::{Asked, Heard, hear};
 use fab_wire_base::requests::Refusal;
+use fab_wire_base::routes::Routes;
 use std::alloc::{Allocator, Global};
 use std::io::{Read, Write};
 use std::str;
@@ -34,11 +35,12 @@ use std::str;
 /// again. Where there is no memory the answer says so, and nothing has changed; an empty input is
 /// never answered so. What a change does is in the store before it is answered.
 ///
-/// The request and its command come from `alloc`; the router, and what the readers of CSV and JSON
-/// need, from `global`.
+/// The request and its command come from `alloc`; what the readers of CSV and JSON need, from
+/// `global`. The routes are made once, and serve each connection.
 pub fn serve_one<A: Allocator + Copy, S: Store<A>, B: PathBook<A>, R: Read, W: Write>(
     alloc: A,
     global: Global,
+    routes: &Routes,
     desk: &mut Desk<A, S, B>,
     moment: u64,
     reader: &mut Counted<R>,
@@ -49,7 +51,7 @@ pub fn serve_one<A: Allocator + Copy, S: Store<A>, B: PathBook<A>, R: Read, W: W
         (side (W.contents (inner_of writer.old)) (failures_of writer.old)) (side (W.contents (inner_of writer.new)) (failures_of writer.new))
         desk.old moment result desk.new }
 {
-    match hear(alloc, global, &KnownTo::of(desk), reader) {
+    match hear(alloc, routes, &KnownTo::of(desk), reader) {
         Heard::Nothing => Outcome::Empty,
         Heard::ReadFailed => Outcome::ReadFailed,
         Heard::Refused(why) => tell_answer(writer, refusal(alloc, why)),

@@ -11,10 +11,11 @@ use crate::bodies::{Body, take_body};
 use crate::callers::Callers;
 use crate::head::{HeadRead, MOST_HEAD, MOST_LINES, read_head};
 use crate::kinds::Kind;
-use crate::requests::{Judged, Refusal, judge_by_routes};
+use crate::requests::{Judged, Refusal, judge_head};
+use crate::routes::Routes;
 use fab_json::counted::Counted;
 use httparse::spans::{EMPTY_HEADER_SPAN, HeaderSpan, RequestSpans};
-use std::alloc::{Allocator, Global};
+use std::alloc::Allocator;
 use std::io::Read;
 
 /// What a caller asks for.
@@ -49,10 +50,10 @@ pub enum Heard<A: Allocator> {
 ///
 /// What is heard is what the input spells where the tokens of `callers` are known, however its
 /// reads are cut, and whoever asks is known. `ReadFailed` comes only where a read failed, and then at
-/// once. What is kept of a request comes from `alloc`, and the router from `global`.
+/// once. What is kept of a request comes from `alloc`.
 pub fn hear<A: Allocator + Copy, C: Callers, R: Read>(
     alloc: A,
-    global: Global,
+    routes: &Routes,
     callers: &C,
     reader: &mut Counted<R>,
 ) -> Heard<A>
@@ -68,7 +69,7 @@ pub fn hear<A: Allocator + Copy, C: Callers, R: Read>(
         HeadRead::Head(spans, filled) => {
             hear_request(
                 alloc,
-                global,
+                routes,
                 callers,
                 reader,
                 &buf[..filled],
@@ -85,7 +86,7 @@ pub fn hear<A: Allocator + Copy, C: Callers, R: Read>(
 /// Judges a head that has been read, and takes the body that it announces.
 fn hear_request<A: Allocator + Copy, C: Callers, R: Read>(
     alloc: A,
-    global: Global,
+    routes: &Routes,
     callers: &C,
     reader: &mut Counted<R>,
     got: &[u8],
@@ -103,11 +104,10 @@ fn hear_request<A: Allocator + Copy, C: Callers, R: Read>(
 {
     let target = spans.path.of(got);
     let lines = &headers[..spans.headers];
-    match judge_by_routes(global, callers, got, lines, spans.method.of(got), target) {
-        None => Heard::Memory,
-        Some(Judged::Refused(why)) => Heard::Refused(why),
-        Some(Judged::Asks(token, kind, None)) => keep(alloc, token, kind, target, Vec::new(alloc)),
-        Some(Judged::Asks(token, kind, Some(size))) => {
+    match judge_head(routes, callers, got, lines, spans.method.of(got), target) {
+        Judged::Refused(why) => Heard::Refused(why),
+        Judged::Asks(token, kind, None) => keep(alloc, token, kind, target, Vec::new(alloc)),
+        Judged::Asks(token, kind, Some(size)) => {
             let (_, have) = got.split_at(spans.len);
             match take_body(alloc, reader, have, size) {
                 Body::Whole(body) => keep(alloc, token, kind, target, body),

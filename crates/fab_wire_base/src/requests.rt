@@ -1,17 +1,14 @@
 //! What the head of a request asks for: the checks of a head, in their order, up to its body.
 
-ghost use Rattle.std.specs.Prelude.{◌≡◌, IsUtf8, IfSome};
+ghost use Rattle.std.specs.Prelude.{◌≡◌, IsUtf8};
 ghost use Rattle.fab_wire_base.specs.Lines.{lines_of, AreWithin};
-ghost use Rattle.fab_wire_base.specs.Routes.{desk_table};
 ghost use Rattle.fab_wire_base.specs.Asking.{asking_of, by_length, by_route, is_path, target_route, JudgesHead};
 
 use crate::callers::{Callers, known};
 use crate::fields::{Length, authorization, content_length, has_transfer_encoding};
 use crate::kinds::{Kind, Route};
-use crate::routes::{find_route, make_router};
+use crate::routes::Routes;
 use httparse::spans::HeaderSpan;
-use matchit::Router;
-use std::alloc::Global;
 
 /// The greatest length of a body, in bytes.
 pub const MOST_BODY: u128 = 1048576;
@@ -44,38 +41,16 @@ pub enum Judged<'b> {
     Asks(&'b [u8], Kind, Option<usize>),
 }
 
-/// Judges a head by its parts, as `judge_head` does, over a router made for it. `None` where there
-/// is no memory for the router.
-pub fn judge_by_routes<'b, C: Callers>(
-    global: Global,
-    callers: &C,
-    buf: &'b [u8],
-    headers: &[HeaderSpan],
-    method: &[u8],
-    target: &[u8],
-) -> Option<Judged<'b>>
-    requires lines { AreWithin buf.now headers.now }
-    requires text { IsUtf8 target.now }
-    ensures { IfSome result
-        (JudgesHead (C.knows_token callers.now) method.now target.now (lines_of buf.now headers.now)) }
-{
-    let Ok(router) = make_router(global) else {
-        return None;
-    };
-    Some(judge_head(&router, callers, buf, headers, method, target))
-}
-
 /// Judges a head by its parts: first its lengths, then the caller, the route, the method, and what
 /// the lengths say of a body.
-fn judge_head<'b, C: Callers>(
-    router: &Router<Route>,
+pub fn judge_head<'b, C: Callers>(
+    routes: &Routes,
     callers: &C,
     buf: &'b [u8],
     headers: &[HeaderSpan],
     method: &[u8],
     target: &[u8],
 ) -> Judged<'b>
-    requires table { router.now ≡ desk_table }
     requires lines { AreWithin buf.now headers.now }
     requires text { IsUtf8 target.now }
     ensures { JudgesHead (C.knows_token callers.now) method.now target.now
@@ -89,24 +64,23 @@ fn judge_head<'b, C: Callers>(
         return Judged::Refused(Refusal::NoCaller);
     };
     let is_coded = has_transfer_encoding(buf, headers);
-    judge_path(router, token, method, target, is_coded, length)
+    judge_path(routes, token, method, target, is_coded, length)
 }
 
 /// Judges the path, the method, and what the lengths say of a body, once the caller is known.
 fn judge_path<'b>(
-    router: &Router<Route>,
+    routes: &Routes,
     token: &'b [u8],
     method: &[u8],
     target: &[u8],
     is_coded: bool,
     length: Length,
 ) -> Judged<'b>
-    requires table { router.now ≡ desk_table }
     requires text { IsUtf8 target.now }
     ensures { asking_of result
         ≡ by_route token.now (target_route target.now) method.now is_coded length }
 {
-    let Some(route) = route_at(router, target) else {
+    let Some(route) = route_at(routes, target) else {
         return Judged::Refused(Refusal::NoRoute);
     };
     let Some(kind) = route.kind(method) else {
@@ -139,8 +113,7 @@ fn judge_length(token: &[u8], kind: Kind, is_coded: bool, length: Length) -> Jud
 }
 
 /// The route of a target: a path that begins with a slash and has no question mark.
-fn route_at(router: &Router<Route>, target: &[u8]) -> Option<Route>
-    requires table { router.now ≡ desk_table }
+fn route_at(routes: &Routes, target: &[u8]) -> Option<Route>
     requires text { IsUtf8 target.now }
     ensures { result ≡ target_route target.now }
 {
@@ -148,7 +121,7 @@ fn route_at(router: &Router<Route>, target: &[u8]) -> Option<Route>
         return None;
     }
     match str::from_utf8(target) {
-        Ok(path) => find_route(router, path),
+        Ok(path) => routes.find(path),
         Err(_) => None,
     }
 }

@@ -10,10 +10,48 @@ use matchit::{InsertError, Router};
 use percent_encoding::percent_decode;
 use std::alloc::{AllocError, Allocator, Global};
 
+/// The routes of the desk: whoever serves makes them once, and looks up the path of each request.
+///
+/// They are those of the table of kinds, all of them and no other.
+pub struct Routes {
+    router: Router<Route>,
+    ghost whole: { router ≡ desk_table },
+}
+
+// It is written out, so that a caller does not prove again how each part is dropped.
+impl Drop for Routes {
+    fn drop(self) {
+        let Routes { router: _ } = self;
+    }
+}
+
+impl Routes {
+    /// All routes.
+    ///
+    /// # Errors
+    /// `AllocError` where there is no memory.
+    pub fn new(global: Global) -> Result<Routes, AllocError> {
+        match make_router(global) {
+            Ok(router) => Ok(Routes { router }),
+            Err(_) => Err(AllocError),
+        }
+    }
+
+    /// The route of a path, if it has one.
+    pub fn find(&self, path: &str) -> Option<Route>
+        ensures { result ≡ route_of path.now }
+    {
+        match self.router.at(path) {
+            Ok(found) => Some(*found.value),
+            Err(_) => None,
+        }
+    }
+}
+
 /// A router over every route.
 ///
 /// `OutOfMemory` is its only error, since no route conflicts with those before it.
-pub fn make_router(alloc: Global) -> Result<Router<Route>, InsertError>
+fn make_router(alloc: Global) -> Result<Router<Route>, InsertError>
     ensures ok { IfOk result (λ router. router ≡ desk_table) }
     ensures err { IfErr result (λ fault. fault ≡ InsertError.OutOfMemory) }
 {
@@ -32,17 +70,6 @@ fn add(router: &mut Router<Route>, route: Route) -> Result<(), InsertError>
     ensures err { IfErr result (λ fault. fault ≡ InsertError.OutOfMemory) }
 {
     router.insert(route.path(), route)
-}
-
-/// The route of a path, if it has one.
-pub fn find_route(router: &Router<Route>, path: &str) -> Option<Route>
-    requires { router.now ≡ desk_table }
-    ensures { result ≡ route_of path.now }
-{
-    match router.at(path) {
-        Ok(found) => Some(*found.value),
-        Err(_) => None,
-    }
 }
 
 /// The segment of a path behind so many slashes, with its escapes read: `%` and two hexadecimal

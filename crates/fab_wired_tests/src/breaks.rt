@@ -3,10 +3,11 @@
 use super::bytes::Bytes;
 use super::desks::DeskOver;
 use super::streams::{Breaking, Slow};
-use super::turns::{exchange_of, plays_text, serves, turn_of};
+use super::turns::{plays_text, served, serves};
+use fab_exchanges::{exchange_of, turn_of};
 use fab_json::counted::Counted;
 use fab_stores::Store;
-use fab_wire::{Outcome, serve_one};
+use fab_wire::Outcome;
 use std::alloc::{AllocError, Global};
 use std::test::Fail;
 
@@ -29,7 +30,7 @@ fn is_unread<S: Store<Global>>(
 ) -> Result<(), Fail> {
     let mut reader = Counted::new(Slow::new(request, 1, k));
     let mut writer = Counted::new(Breaking::new(alloc, 1, u64::MAX));
-    let outcome = serve_one(alloc, alloc, desk, 0, &mut reader, &mut writer);
+    let outcome = served(alloc, desk, 0, &mut reader, &mut writer)?;
     let writer = writer.into_inner();
     is_silent(outcome, reader.failures(), writer.taken(), k)
 }
@@ -145,7 +146,7 @@ fn breaks_off<S: Store<Global>>(
 ) -> Result<(), Fail> {
     let mut reader = Counted::new(request.as_bytes());
     let mut writer = Counted::new(writer);
-    let outcome = serve_one(alloc, alloc, desk, 0, &mut reader, &mut writer);
+    let outcome = served(alloc, desk, 0, &mut reader, &mut writer)?;
     let failures = writer.failures();
     let writer = writer.into_inner();
     is_stopped(outcome, failures, writer.taken(), wanted)

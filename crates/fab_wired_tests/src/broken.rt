@@ -2,7 +2,8 @@
 
 use super::bytes::ROW_16;
 use super::deeds::{Deed, does};
-use super::stages::{ROW_1, ROW_5, WORLD};
+use super::stages::ROW_1;
+use fab_exchanges::rows::{ROW_5, WORLD};
 use std::alloc::Global;
 use std::test::Fail;
 

@@ -3,9 +3,9 @@
 use super::breaks::{act, are_cut, bytes_survive, imports_count, survive, take_none};
 use super::bytes::Bytes;
 use super::desks::{DeskOver, desk_of, new_tables};
-use super::policy::POLICY;
 use super::stages::sets;
 use super::turns::{plays_all, plays_text, serves_each};
+use fab_exchanges::policy::POLICY;
 use fab_stores::Store;
 use std::alloc::Global;
 use std::test::Fail;

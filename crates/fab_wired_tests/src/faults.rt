@@ -2,7 +2,7 @@
 
 use super::bytes::REFUSED;
 use super::deeds::{Deed, does, holds, holds_bytes};
-use super::stages::{ROW_5, WORLD};
+use fab_exchanges::rows::{ROW_5, WORLD};
 use std::test::Fail;
 
 /// Paths that lead nowhere, paths that name nothing, and bodies that are none.

@@ -1,7 +1,7 @@
 //! What the policy allows and denies, and what is another tenant's.
 
 use super::deeds::holds;
-use super::stages::{ROW_5, ROW_9, WORLD};
+use fab_exchanges::rows::{ROW_5, ROW_9, ROW_12, WORLD};
 use std::test::Fail;
 
 /// A plan of fabric B, and who approves it.
@@ -46,25 +46,6 @@ const ROW_11: &[&str] = &[
 fn row_11(rt: HostRuntime) -> Result<(), Fail> {
     holds(rt.alloc(), &[WORLD, ROW_11])
 }
-
-/// Approvals by the author, by one caller twice, by two, and of an earlier revision.
-const ROW_12: &[&str] = &[
-    r#"ada@349200 PUT /plans/q1 default B deny
- -> 200 OK: {"plan":"q1","steps":1}"#,
-    r#"ada@349200 POST /plans/q1/approve -> 409 Conflict: {"code":19,"error":"own-plan"}"#,
-    r#"bob@349200 POST /plans/q1/approve -> 200 OK: {"approvals":1,"plan":"q1","revision":6}"#,
-    r#"bob@349200 POST /plans/q1/approve -> 200 OK: {"approvals":1,"plan":"q1","revision":6}"#,
-    r#"ada@349200 POST /plans/q1/activate -> 403 Forbidden: {"code":8,"error":"denied","need":"approvals","rule":3,"rule_name":"two-eyes"}"#,
-    r#"dan@349200 POST /plans/q1/approve -> 200 OK: {"approvals":2,"plan":"q1","revision":6}"#,
-    r#"ada@349200 POST /imports/A port_name,node_name,domain,port
-10:00:00:00:00:00:00:01,20:00:00:00:00:00:00:01,1,1
-10:00:00:00:00:00:00:02,20:00:00:00:00:00:00:02,12,5
-10:00:00:00:00:00:00:03,20:00:00:00:00:00:00:03,12,5
-50:00:00:00:00:00:00:01,50:00:00:00:00:00:00:00,1,2
-50:00:00:00:00:00:00:02,50:00:00:00:00:00:00:00,1,3
- -> 200 OK: {"revision":7}"#,
-    r#"ada@349200 POST /plans/q1/activate -> 403 Forbidden: {"code":8,"error":"denied","need":"approvals","rule":3,"rule_name":"two-eyes"}"#,
-];
 
 #[test]
 fn row_12(rt: HostRuntime) -> Result<(), Fail> {

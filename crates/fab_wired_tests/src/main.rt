@@ -20,8 +20,6 @@ mod judged;
 #[cfg(test)]
 mod paths;
 #[cfg(test)]
-mod policy;
-#[cfg(test)]
 mod refusals;
 #[cfg(test)]
 mod refusing;

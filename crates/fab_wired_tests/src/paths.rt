@@ -2,7 +2,8 @@
 
 use super::bytes::{FIRST, JOINED, PATHS};
 use super::deeds::{holds, holds_bytes};
-use super::stages::{ROW_1, ROW_5, ROW_9, WORLD};
+use super::stages::ROW_1;
+use fab_exchanges::rows::{ROW_5, ROW_6, ROW_9, WORLD};
 use std::test::Fail;
 
 #[test]
@@ -65,16 +66,6 @@ fn row_4(rt: HostRuntime) -> Result<(), Fail> {
 fn row_5(rt: HostRuntime) -> Result<(), Fail> {
     holds_bytes(rt.alloc(), &[WORLD, ROW_5], PATHS)
 }
-
-/// An alias put anew moves no path before the set is activated again.
-const ROW_6: &[&str] = &[
-    r#"ada PUT /plans/p2 alias.put A disk wwpn=50:00:00:00:00:00:00:02
- -> 200 OK: {"plan":"p2","steps":1}"#,
-    r#"ada POST /plans/p2/activate -> 200 OK: {"gained":[],"lost":[],"plan":"p2","revision":8}"#,
-    r#"ada PUT /plans/p3 activate A s1
- -> 200 OK: {"plan":"p3","steps":1}"#,
-    r#"ada POST /plans/p3/activate -> 200 OK: {"gained":[],"lost":[{"fabric":"A","initiator":"10:00:00:00:00:00:00:01","lun":0,"target":"50:00:00:00:00:00:00:01","volume":"v1"}],"plan":"p3","revision":9}"#,
-];
 
 #[test]
 fn row_6(rt: HostRuntime) -> Result<(), Fail> {

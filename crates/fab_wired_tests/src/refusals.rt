@@ -2,7 +2,7 @@
 
 use super::bytes::ROW_16;
 use super::deeds::{holds, holds_bytes};
-use super::stages::{ROW_5, WORLD};
+use fab_exchanges::rows::{ROLLED_BACK, ROW_5, ROW_14, ROW_15, UNMAPPED, WORLD};
 use std::test::Fail;
 
 /// A third step that names a zone which is not there; nothing of the plan stands.
@@ -21,54 +21,15 @@ fn row_13(rt: HostRuntime) -> Result<(), Fail> {
     holds(rt.alloc(), &[WORLD, ROW_13])
 }
 
-/// Two volumes at one unit, and one in place of the other.
-const ROW_14: &[&str] = &[
-    r#"ada PUT /plans/p2 sg.new g3 blue arr1
-sg.host g3 hosts1
-sg.target g3 50:00:00:00:00:00:00:01
-sg.map g3 0 v2
-sg.expose g3
- -> 200 OK: {"plan":"p2","steps":5}"#,
-    r#"ada POST /plans/p2/activate -> 409 Conflict: {"code":14,"error":"unit-clash","host":"db1","lun":0,"step":0,"target":"50:00:00:00:00:00:00:01"}"#,
-    r#"ada PUT /plans/p3 sg.new g3 blue arr1
-sg.host g3 hosts1
-sg.target g3 50:00:00:00:00:00:00:01
-sg.map g3 0 v2
-sg.expose g3
-sg.unmap g1 0
- -> 200 OK: {"plan":"p3","steps":6}"#,
-    r#"ada POST /plans/p3/activate -> 200 OK: {"gained":[{"fabric":"A","initiator":"10:00:00:00:00:00:00:01","lun":0,"target":"50:00:00:00:00:00:00:01","volume":"v2"}],"lost":[{"fabric":"A","initiator":"10:00:00:00:00:00:00:01","lun":0,"target":"50:00:00:00:00:00:00:01","volume":"v1"}],"plan":"p3","revision":8}"#,
-];
-
 #[test]
 fn row_14(rt: HostRuntime) -> Result<(), Fail> {
     holds(rt.alloc(), &[WORLD, ROW_5, ROW_14])
 }
 
-/// A second plan, which takes a volume away.
-const SECOND: &[&str] = &[
-    r#"ada PUT /plans/p2 sg.unmap g1 0
- -> 200 OK: {"plan":"p2","steps":1}"#,
-    r#"ada POST /plans/p2/activate -> 200 OK: {"gained":[],"lost":[{"fabric":"A","initiator":"10:00:00:00:00:00:00:01","lun":0,"target":"50:00:00:00:00:00:00:01","volume":"v1"}],"plan":"p2","revision":8}"#,
-];
-
-/// A rollback once the volume is gone.
-const ROW_15: &[&str] = &[
-    r#"ada DELETE /volumes/v1 -> 200 OK: {"revision":9}"#,
-    r#"ada POST /plans/p2/rollback -> 409 Conflict: {"code":18,"error":"gone","name":"v1"}"#,
-    r#"ada POST /plans/p1/rollback -> 409 Conflict: {"code":17,"error":"not-last","last":"p2"}"#,
-    r#"ada POST /plans/p2/activate -> 409 Conflict: {"code":16,"error":"wrong-state","state":"active"}"#,
-];
-
-/// A rollback while the volume is there.
-const BACK: &[&str] = &[
-    r#"ada POST /plans/p2/rollback -> 200 OK: {"gained":[{"fabric":"A","initiator":"10:00:00:00:00:00:00:01","lun":0,"target":"50:00:00:00:00:00:00:01","volume":"v1"}],"lost":[],"plan":"p2","revision":9}"#,
-];
-
 #[test]
 fn row_15(rt: HostRuntime) -> Result<(), Fail> {
-    holds(rt.alloc(), &[WORLD, ROW_5, SECOND, ROW_15])?;
-    holds(rt.alloc(), &[WORLD, ROW_5, SECOND, BACK])
+    holds(rt.alloc(), &[WORLD, ROW_5, UNMAPPED, ROW_15])?;
+    holds(rt.alloc(), &[WORLD, ROW_5, UNMAPPED, ROLLED_BACK])
 }
 
 #[test]

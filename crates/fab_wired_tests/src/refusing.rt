@@ -4,8 +4,8 @@
 use super::bytes::Bytes;
 use super::deeds::{Deed, do_over, does};
 use super::desks::new_tables;
-use super::policy::POLICY;
 use super::stages::ROW_1;
+use fab_exchanges::policy::POLICY;
 use fab_stores::{RefusingStore, Store};
 use std::alloc::Global;
 use std::test::Fail;

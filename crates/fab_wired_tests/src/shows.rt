@@ -1,7 +1,7 @@
 //! What reads show, and the answers of the other commands.
 
 use super::deeds::holds;
-use super::stages::{ROW_5, ROW_9, WORLD};
+use fab_exchanges::rows::{ROW_5, ROW_9, WORLD};
 use std::test::Fail;
 
 /// The records of the worked world; another tenant's are not there.

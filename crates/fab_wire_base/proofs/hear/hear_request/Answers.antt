@@ -8,51 +8,48 @@ use Rattle.fab_wire_base.proofs.HearLemmas.{IfSome-all, IfSome-map, spells-read,
 use Rattle.fab_wire_base.specs.declared.requests.Refusal.TheVariants as no
 use Rattle.fab_wire_base.proofs.hear.hear_request.Goals as goal
 
-pub returns-in-None-clause-spelled : goal.returns-in-None-clause-spelled
-returns-in-None-clause-spelled g c = IfSome-all _ _ (λ more. some-read c.args.got.now more c.args.headers.now c.args.spans c.requires.head)
-
-pub returns-in-Some-Refused-clause-spelled : goal.returns-in-Some-Refused-clause-spelled
-returns-in-Some-Refused-clause-spelled g c =
-    let judged = rw (c.of.ensures, c.of-target.ensures, c.in-Some-Refused.field-0-is) at c.in-Some-Refused.ensures in
-    IfSome-all _ _ (λ more. spells-read _ c.args.got.now more c.args.headers.now c.args.spans (refuses c.in-Some-Refused.why) (refused c.in-Some-Refused.why)
+pub returns-in-Refused-clause-spelled : goal.returns-in-Refused-clause-spelled
+returns-in-Refused-clause-spelled g c =
+    let judged = rw (c.of.ensures, c.of-target.ensures) at c.in-Refused.ensures in
+    IfSome-all _ _ (λ more. spells-read _ c.args.got.now more c.args.headers.now c.args.spans (refuses c.in-Refused.why) (refused c.in-Refused.why)
     c.requires.head c.requires.short c.requires.within.section.len_fits judged refl)
 
-pub returns-in-Some-Asks-default-default-None-clause-spelled :
-    goal.returns-in-Some-Asks-default-default-None-clause-spelled
-returns-in-Some-Asks-default-default-None-clause-spelled g c =
-    let arm = c.in-Some-Asks-default-default-None in
-    let judged = rw (c.of.ensures, c.of-target.ensures, arm.field-0-is, arm.field-0-2-is) at arm.ensures in
+pub returns-in-Asks-default-default-None-clause-spelled :
+    goal.returns-in-Asks-default-default-None-clause-spelled
+returns-in-Asks-default-default-None-clause-spelled g c =
+    let arm = c.in-Asks-default-default-None in
+    let judged = rw (c.of.ensures, c.of-target.ensures, arm.field-2-is) at arm.ensures in
     let kept = rw c.new.ensures.items at (rw c.of-target.ensures at c.keep.ensures) in
     IfSome-all _ _ (λ more. heard-bare _ _ c.args.got.now more c.args.headers.now c.args.spans arm.token.now arm.kind
     c.requires.head c.requires.short c.requires.within.section.len_fits judged kept)
 
-pub returns-in-Some-Asks-default-default-None-clause-known :
-    goal.returns-in-Some-Asks-default-default-None-clause-known
-returns-in-Some-Asks-default-default-None-clause-known g c =
-    let arm = c.in-Some-Asks-default-default-None in
-    let judged = rw (c.of.ensures, c.of-target.ensures, arm.field-0-is, arm.field-0-2-is) at arm.ensures in
+pub returns-in-Asks-default-default-None-clause-known :
+    goal.returns-in-Asks-default-default-None-clause-known
+returns-in-Asks-default-default-None-clause-known g c =
+    let arm = c.in-Asks-default-default-None in
+    let judged = rw (c.of.ensures, c.of-target.ensures, arm.field-2-is) at arm.ensures in
     kept-known _ _ _ (asks-known (g.C.Callers.knows_token c.args.callers.now) (span_bytes c.args.got.now c.args.spans.method) (span_bytes c.args.got.now c.args.spans.path)
     (lines_of c.args.got.now (take c.args.spans.headers c.args.headers.now)) (asks arm.token.now arm.kind None) judged) c.keep.ensures
 
 pub returns-in-Whole-clause-spelled : goal.returns-in-Whole-clause-spelled
 returns-in-Whole-clause-spelled g c =
-    let arm = c.in-Some-Asks-default-default-Some in
-    let judged = rw (c.of.ensures, c.of-target.ensures, arm.field-0-is, arm.field-0-2-is) at arm.ensures in
+    let arm = c.in-Asks-default-default-Some in
+    let judged = rw (c.of.ensures, c.of-target.ensures, arm.field-2-is) at arm.ensures in
     let kept = rw c.of-target.ensures at c.keep-in-Whole.ensures in
     IfSome-map _ _ _ (λ more k. heard-whole _ _ c.args.got.now more c.args.headers.now c.args.spans arm.token.now arm.kind arm.size _
     c.requires.head c.requires.short c.requires.within.section.len_fits judged k.0 k.1 kept) (rw c.split_at.ensures.back at c.in-Whole.ensures.body)
 
 pub returns-in-Whole-clause-known : goal.returns-in-Whole-clause-known
 returns-in-Whole-clause-known g c =
-    let arm = c.in-Some-Asks-default-default-Some in
-    let judged = rw (c.of.ensures, c.of-target.ensures, arm.field-0-is, arm.field-0-2-is) at arm.ensures in
+    let arm = c.in-Asks-default-default-Some in
+    let judged = rw (c.of.ensures, c.of-target.ensures, arm.field-2-is) at arm.ensures in
     kept-known _ _ _ (asks-known (g.C.Callers.knows_token c.args.callers.now) (span_bytes c.args.got.now c.args.spans.method) (span_bytes c.args.got.now c.args.spans.path)
     (lines_of c.args.got.now (take c.args.spans.headers c.args.headers.now)) (asks arm.token.now arm.kind (Some arm.size)) judged) c.keep-in-Whole.ensures
 
 pub returns-in-Short-clause-spelled : goal.returns-in-Short-clause-spelled
 returns-in-Short-clause-spelled g c =
-    let arm = c.in-Some-Asks-default-default-Some in
-    let judged = rw (c.of.ensures, c.of-target.ensures, arm.field-0-is, arm.field-0-2-is) at arm.ensures in
+    let arm = c.in-Asks-default-default-Some in
+    let judged = rw (c.of.ensures, c.of-target.ensures, arm.field-2-is) at arm.ensures in
     IfSome-map _ _ _ (λ more k. spells-read _ c.args.got.now more c.args.headers.now c.args.spans (asks arm.token.now arm.kind (Some arm.size)) (refused (no.BadBody 0))
     c.requires.head c.requires.short c.requires.within.section.len_fits judged (behind-short arm.token.now arm.kind _ _ arm.size k)) (rw c.split_at.ensures.back at c.in-Short.ensures.body)
 
