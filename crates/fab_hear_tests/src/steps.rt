@@ -3,6 +3,7 @@
 ghost use Rattle.std.specs.Prelude.{◌||◌, codes};
 ghost use Rattle.std.specs.Str.{bytes_eq};
 
+use fab_exchanges::streams::Slow;
 use fab_json::counted::Counted;
 use fab_wire_base::callers::Callers;
 use fab_wire_base::hear::{Asked, Heard, hear};
@@ -10,7 +11,6 @@ use fab_wire_base::kinds::Kind;
 use fab_wire_base::requests::Refusal;
 use fab_wire_base::routes::Routes;
 use std::alloc::{Allocator, Global};
-use std::io;
 use std::io::Read;
 
 /// A plan to be staged: a head of `STAGE_HEAD` bytes, and a body of 13.
@@ -64,39 +64,6 @@ pub enum Wanted<'w> {
 /// An input, and what is to be heard of it.
 pub type Case = (&'static [u8], Wanted<'static>);
 
-/// A reader that gives a few bytes a read, counts its reads, and fails at one of them alone: the
-/// read behind it gives bytes again.
-#[derive(Drop)]
-pub struct Tripping<'a> {
-    bytes: &'a [u8],
-    most: usize,
-    pub reads: u64,
-    fails_at: u64,
-}
-
-impl<'a> Tripping<'a> {
-    pub fn new(bytes: &'a [u8], most: usize, fails_at: u64) -> Self {
-        Tripping {
-            bytes,
-            most,
-            reads: 0,
-            fails_at,
-        }
-    }
-}
-
-impl Read for Tripping<'_> {
-    fn read(&mut self, buf: &mut [u8]) -> io::Result<usize> {
-        let number = self.reads;
-        self.reads = number.saturating_add(1);
-        if number == self.fails_at {
-            return Err(io::Error::from(io::ErrorKind::ConnectionReset));
-        }
-        let most = buf.len().min(self.most);
-        self.bytes.read(&mut buf[..most])
-    }
-}
-
 fn is_refused(wanted: Wanted<'_>, why: Refusal) -> bool {
     match wanted {
         Wanted::Refused(other) => other == why,
@@ -140,7 +107,7 @@ pub fn heard_by<A: Allocator + Copy, R: Read>(
 
 /// Whether this is heard of an input whose reads get so many bytes at most.
 pub fn hears(alloc: Global, input: &[u8], most: usize, wanted: Wanted<'_>) -> bool {
-    let mut reader = Counted::new(Tripping::new(input, most, u64::MAX));
+    let mut reader = Counted::new(Slow::new(input, most, u64::MAX));
     let heard = heard_by(alloc, alloc, &mut reader);
     is_wanted(wanted, &heard)
 }

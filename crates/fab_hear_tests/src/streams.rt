@@ -1,19 +1,20 @@
 //! Readers of which one read fails, and the reads behind it work again.
 
-use crate::steps::{QUESTION, QUESTIONED, STAGE, STAGED, Tripping, Wanted, heard_by, is_wanted};
+use crate::steps::{QUESTION, QUESTIONED, STAGE, STAGED, Wanted, heard_by, is_wanted};
+use fab_exchanges::streams::Slow;
 use fab_json::counted::Counted;
 use fab_wire_base::hear::Heard;
 use std::alloc::Global;
 
 /// Whether so many reads were made, and so many of them failed.
-fn has_counted(reader: Counted<Tripping<'_>>, reads: u64, failures: u64) -> bool {
+fn has_counted(reader: Counted<Slow<'_>>, reads: u64, failures: u64) -> bool {
     let counted = reader.failures();
-    reader.into_inner().reads == reads && counted == failures
+    reader.into_inner().reads() == reads && counted == failures
 }
 
 /// Whether hearing an input byte by byte ends at this read, which alone fails: it is the last.
 fn ends_at_read(alloc: Global, input: &[u8], k: u64) -> bool {
-    let mut reader = Counted::new(Tripping::new(input, 1, k));
+    let mut reader = Counted::new(Slow::new(input, 1, k));
     let heard = heard_by(alloc, alloc, &mut reader);
     let is_failed = matches!(heard, Heard::ReadFailed);
     is_failed && has_counted(reader, k.saturating_add(1), 1)
@@ -21,7 +22,7 @@ fn ends_at_read(alloc: Global, input: &[u8], k: u64) -> bool {
 
 /// Whether a request is heard where the read of this number would fail, and is never made.
 fn ends_before_read(alloc: Global, input: &[u8], k: u64, wanted: Wanted<'_>) -> bool {
-    let mut reader = Counted::new(Tripping::new(input, 1, k));
+    let mut reader = Counted::new(Slow::new(input, 1, k));
     let heard = heard_by(alloc, alloc, &mut reader);
     let is_heard = is_wanted(wanted, &heard);
     is_heard && has_counted(reader, k, 0)

@@ -2,8 +2,8 @@
 
 use super::bytes::Bytes;
 use super::desks::DeskOver;
-use super::streams::{Breaking, Slow};
 use super::turns::{plays_text, served, serves};
+use fab_exchanges::streams::{Breaking, Slow};
 use fab_exchanges::{exchange_of, turn_of};
 use fab_json::counted::Counted;
 use fab_stores::Store;

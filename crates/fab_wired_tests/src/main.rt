@@ -28,8 +28,6 @@ mod shows;
 #[cfg(test)]
 mod stages;
 #[cfg(test)]
-mod streams;
-#[cfg(test)]
 mod turns;
 
 /// Nothing: the tests are all there is.

@@ -3,7 +3,7 @@
 
 use super::bytes::Bytes;
 use super::desks::DeskOver;
-use super::streams::Slow;
+use fab_exchanges::streams::Slow;
 use fab_exchanges::{Turn, exchange_of, turn_of};
 use fab_json::counted::Counted;
 use fab_stores::Store;

@@ -24,6 +24,11 @@ impl<'a> Slow<'a> {
             fails_at,
         }
     }
+
+    /// How many reads were made of it.
+    pub fn reads(&self) -> u64 {
+        self.reads
+    }
 }
 
 impl Read for Slow<'_> {
