@@ -1,10 +1,8 @@
 -- The keys of bodies are in order.
 use Rattle.std.proofs.Common.{ℕ, ◌≡◌, List, [], ◌∷◌, Option, None, Some, true, refl, map}
-use Rattle.serde_json.specs.Data.{Data, null}
+use Rattle.serde_json.specs.Data.{Data}
 use Rattle.serde_json.specs.View.{items_of}
 use Rattle.fab_json.specs.Values.{wwn_data, or_null}
-use Rattle.fab_mapping_base.specs.declared.gone.Gone.{Gone}
-use Rattle.fab_mapping_base.specs.declared.gone.Gone.TheVariants as gone
 use Rattle.fab_plans.specs.declared.fault.Item.{Item}
 use Rattle.fab_plans.specs.declared.fault.Item.TheVariants as item
 use Rattle.fab_plans.specs.declared.fault.Refusal as plan
@@ -100,12 +98,12 @@ shown_in_order : {A : Type 0} (s : Shown A) → in_order (shown_body s) ≡ true
 shown_in_order (shown.Paths host paths) = rw (all_in_order path_data path_in_order paths.items) refl
 shown_in_order (shown.Joined why) = joined_in_order why
 shown_in_order (shown.Port name node at) = rw (at_in_order at, wwn_in_order node, wwn_in_order name) refl
-shown_in_order (shown.Holder kind name tenant ports) = rw (all_in_order wwn_data wwn_in_order ports.items) refl
+shown_in_order (shown.Holder x) = rw (all_in_order wwn_data wwn_in_order x.ports.items) refl
 shown_in_order (shown.Volume name volume) = refl
 shown_in_order (shown.HostGroup name tenant hosts) = rw (all_in_order word (λ x. refl) hosts.items) refl
-shown_in_order (shown.Group name tenant array exposed host_groups targets units) =
-    rw (all_in_order word (λ x. refl) host_groups.items, all_in_order wwn_data wwn_in_order targets.items, all_in_order unit_data (λ x. refl) units.items) refl
-shown_in_order (shown.Plan name author state approvals text) = rw (all_in_order approval_data (λ x. refl) approvals.items) refl
+shown_in_order (shown.Group x) =
+    rw (all_in_order word (λ n. refl) x.host_groups.items, all_in_order wwn_data wwn_in_order x.targets.items, all_in_order unit_data (λ u. refl) x.units.items) refl
+shown_in_order (shown.Plan x) = rw (all_in_order approval_data (λ a. refl) x.approvals.items) refl
 shown_in_order (shown.Members fabric name members) = rw (all_in_order member_data (λ m. refl) members.items) refl
 shown_in_order (shown.Set fabric name zones) = rw (all_in_order word (λ x. refl) zones.items) refl
 shown_in_order (shown.Active fabric active flag zones) = rw (active_in_order active, all_in_order zone_data zone_in_order zones.items) refl

@@ -1,20 +1,17 @@
 -- The bodies of answers, as JSON (RFC 8259): keys in the order of their bytes.
-use Rattle.std.specs.Prelude.{ℕ, List, [], ◌∷◌, Bool, true, false, Option, None, Some, codes, string_bytes}
+use Rattle.std.specs.Prelude.{ℕ, List, [], ◌∷◌, true, false, Option, None, Some, codes, string_bytes}
 use Rattle.serde_json.specs.Data.{Data, boolean, object, Members, no_members, member}
 use Rattle.fab_names.specs.Fabrics.{fabric_text}
 use Rattle.fab_names.specs.Places.{Position}
 use Rattle.fab_names.specs.declared.fabric.Fabric.{Fabric}
 use Rattle.fab_names.specs.declared.member.Member.{Member}
-use Rattle.fab_inventory.specs.declared.holder.HolderKind.{HolderKind}
 use Rattle.fab_inventory.specs.declared.holder.Volume.{Volume}
 use Rattle.fab_zoning.specs.declared.flag.DefaultFlag.{DefaultFlag}
 use Rattle.fab_lines_base.specs.Columns.{kind_text}
 use Rattle.fab_lines.specs.PlanLines.{state_text}
-use Rattle.fab_rows.specs.declared.record_row.PlanState.{PlanState}
 use Rattle.fab_rows.specs.declared.record_row.PlanState.TheVariants.{Withdrawn}
 use Rattle.fab_steps.specs.Values.{flag_text}
 use Rattle.fab_policy.specs.Needs.{need_word}
-use Rattle.fab_policy.specs.declared.act.Approval.{Approval}
 use Rattle.fab_reach.specs.declared.path.Path.{Path}
 use Rattle.fab_plans.specs.declared.fault.Refusal as plan
 use Rattle.fab_plans.specs.declared.fault.Refusal.TheVariants as refusal
@@ -25,6 +22,9 @@ use Rattle.fab_desk_base.specs.declared.fault.DeskFault.TheVariants as fault
 use Rattle.fab_desk_base.specs.declared.reply.ZoneMembers.{ZoneMembers}
 use Rattle.fab_desk_base.specs.declared.reply.Joint.{Joint}
 use Rattle.fab_desk_base.specs.declared.reply.Joint.TheVariants as joint
+use Rattle.fab_desk_base.specs.declared.reply.ShownHolder.{ShownHolder}
+use Rattle.fab_desk_base.specs.declared.reply.ShownGroup.{ShownGroup}
+use Rattle.fab_desk_base.specs.declared.reply.ShownPlan.{ShownPlan}
 use Rattle.fab_desk_base.specs.declared.reply.Shown.{Shown}
 use Rattle.fab_desk_base.specs.declared.reply.Shown.TheVariants as shown
 use Rattle.fab_desk_base.specs.declared.reply.Reply.{Reply}
@@ -35,7 +35,7 @@ use Rattle.fab_answers.specs.declared.codes.Code.TheVariants as code
 use Rattle.fab_answers.specs.declared.answers.Answer.{Answer}
 use Rattle.fab_answers.specs.declared.answers.Answer.TheVariants as answer
 use Rattle.fab_answers.specs.Codes.{line_of}
-use Rattle.fab_answers.specs.Faults.{code_of_wire, code_of_step, code_of_fault}
+use Rattle.fab_answers.specs.Faults.{code_of_wire, code_of_fault}
 use Rattle.fab_answers.specs.Parts.{word, member_data, path_data, unit_data, approval_data, place_data, zone_data, item_data, gone_item}
 use Rattle.fab_answers.specs.Words.{limit_word, step_limit_word}
 
@@ -113,9 +113,9 @@ abbrev pub port_body : ℕ → ℕ → Option (Fabric × Position) → Data
 port_body name node at = record_of ((codes "at", or_null place_data at) ∷ (codes "node_name", wwn_data node) ∷ (codes "port_name", wwn_data name) ∷ [])
 
 -- a host or an array, and its ports
-abbrev pub holder_body : HolderKind → List ℕ → List ℕ → List ℕ → Data
-holder_body kind name tenant ports = record_of (
-    (codes "kind", word (kind_text kind)) ∷ (codes "name", word name) ∷ (codes "ports", list_data wwn_data ports) ∷ (codes "tenant", word tenant) ∷ [])
+abbrev pub holder_body : {A : Type 0} → ShownHolder A → Data
+holder_body x = record_of (
+    (codes "kind", word (kind_text x.kind)) ∷ (codes "name", word x.name) ∷ (codes "ports", list_data wwn_data x.ports.items) ∷ (codes "tenant", word x.tenant) ∷ [])
 
 -- a volume
 abbrev pub volume_body : List ℕ → Volume → Data
@@ -127,16 +127,17 @@ abbrev pub host_group_body : List ℕ → List ℕ → List (List ℕ) → Data
 host_group_body name tenant hosts = record_of ((codes "hosts", list_data word hosts) ∷ (codes "name", word name) ∷ (codes "tenant", word tenant) ∷ [])
 
 -- a storage group, its host groups, its targets, and its units
-abbrev pub group_body : List ℕ → List ℕ → List ℕ → Bool → List (List ℕ) → List ℕ → List (ℕ × List ℕ) → Data
-group_body name tenant array exposed host_groups targets units = record_of (
-    (codes "array", word array) ∷ (codes "exposed", boolean exposed) ∷ (codes "host_groups", list_data word host_groups) ∷ (codes "name", word name)
-    ∷ (codes "targets", list_data wwn_data targets) ∷ (codes "tenant", word tenant) ∷ (codes "units", list_data unit_data units) ∷ [])
+abbrev pub group_body : {A : Type 0} → ShownGroup A → Data
+group_body x = record_of (
+    (codes "array", word x.array) ∷ (codes "exposed", boolean x.exposed) ∷ (codes "host_groups", list_data word x.host_groups.items)
+    ∷ (codes "name", word x.name) ∷ (codes "targets", list_data wwn_data x.targets.items) ∷ (codes "tenant", word x.tenant)
+    ∷ (codes "units", list_data unit_data x.units.items) ∷ [])
 
 -- a plan, its approvals, and its text
-abbrev pub plan_body : List ℕ → List ℕ → PlanState → List Approval → List ℕ → Data
-plan_body name author state approvals text = record_of (
-    (codes "approvals", list_data approval_data approvals) ∷ (codes "author", word author) ∷ (codes "plan", word name)
-    ∷ (codes "state", word (state_text state)) ∷ (codes "text", word text) ∷ [])
+abbrev pub plan_body : {A : Type 0} → ShownPlan A → Data
+plan_body x = record_of (
+    (codes "approvals", list_data approval_data x.approvals.items) ∷ (codes "author", word x.author) ∷ (codes "plan", word x.name)
+    ∷ (codes "state", word (state_text x.state)) ∷ (codes "text", word (string_bytes x.text)) ∷ [])
 
 -- an alias or a zone, and its members
 abbrev pub members_body : Fabric → List ℕ → List Member → Data
@@ -157,11 +158,11 @@ abbrev pub shown_body : {A : Type 0} → Shown A → Data
 shown_body (shown.Paths host paths) = paths_body host paths.items
 shown_body (shown.Joined why) = joined_body why
 shown_body (shown.Port name node at) = port_body name node at
-shown_body (shown.Holder kind name tenant ports) = holder_body kind name tenant ports.items
+shown_body (shown.Holder x) = holder_body x
 shown_body (shown.Volume name volume) = volume_body name volume
 shown_body (shown.HostGroup name tenant hosts) = host_group_body name tenant hosts.items
-shown_body (shown.Group name tenant array exposed host_groups targets units) = group_body name tenant array exposed host_groups.items targets.items units.items
-shown_body (shown.Plan name author state approvals text) = plan_body name author state approvals.items (string_bytes text)
+shown_body (shown.Group x) = group_body x
+shown_body (shown.Plan x) = plan_body x
 shown_body (shown.Members fabric name members) = members_body fabric name members.items
 shown_body (shown.Set fabric name zones) = set_body fabric name zones.items
 shown_body (shown.Active fabric active flag zones) = active_body fabric active flag zones.items

@@ -7,8 +7,8 @@ ghost use Rattle.fab_answers.specs.Bodies.{joined_body, joint_body, paths_body, 
 
 use crate::parts::{At, Parts};
 use crate::words::{flag_word, state_word};
-use fab_desk_base::{Joint, Shown, ZoneMembers};
-use fab_inventory::{HolderKind, Volume};
+use fab_desk_base::{Joint, Shown, ShownGroup, ShownHolder, ShownPlan, ZoneMembers};
+use fab_inventory::Volume;
 use fab_json::object;
 use fab_json::sink::Sink;
 use fab_json::streams::WriteFailed;
@@ -16,9 +16,7 @@ use fab_json::structures::Array;
 use fab_json::values::{Json, Text};
 use fab_lines_base::kind_word;
 use fab_names::{Fabric, Member, Name, Place, Wwn};
-use fab_policy::Approval;
 use fab_reach::Path;
-use fab_rows::PlanState;
 use fab_zoning::DefaultFlag;
 use std::alloc::Allocator;
 
@@ -33,57 +31,15 @@ pub fn put_shown<A: Allocator + Copy, S: Sink>(
         Shown::Paths { host, paths } => put_paths(sink, *host, paths.as_slice()),
         Shown::Joined(why) => put_joined(sink, *why),
         Shown::Port { name, node, at } => put_port(sink, *name, *node, *at),
-        Shown::Holder {
-            kind,
-            name,
-            tenant,
-            ports,
-        } => { put_holder(sink, *kind, *name, *tenant, ports.as_slice()) }
+        Shown::Holder(holder) => put_holder(sink, holder),
         Shown::Volume { name, volume } => put_volume(sink, *name, volume),
         Shown::HostGroup {
             name,
             tenant,
             hosts,
         } => { put_host_group(sink, *name, *tenant, hosts.as_slice()) }
-        Shown::Group {
-            name,
-            tenant,
-            array,
-            exposed,
-            host_groups,
-            targets,
-            units,
-        } => {
-            let group = GroupHead {
-                name: *name,
-                tenant: *tenant,
-                array: *array,
-                exposed: *exposed,
-            };
-            put_group(
-                sink,
-                group,
-                host_groups.as_slice(),
-                targets.as_slice(),
-                units.as_slice(),
-            )
-        }
-        Shown::Plan {
-            name,
-            author,
-            state,
-            approvals,
-            text,
-        } => {
-            put_plan(
-                sink,
-                *name,
-                *author,
-                *state,
-                approvals.as_slice(),
-                text.as_str(),
-            )
-        }
+        Shown::Group(group) => put_group(sink, group),
+        Shown::Plan(plan) => put_plan(sink, plan),
         Shown::Members {
             fabric,
             name,
@@ -145,21 +101,17 @@ fn put_port<S: Sink>(
 }
 
 /// Puts the body of a host or an array.
-fn put_holder<S: Sink>(
+fn put_holder<A: Allocator + Copy, S: Sink>(
     sink: &mut S,
-    kind: HolderKind,
-    name: Name,
-    tenant: Name,
-    ports: &[Wwn],
+    holder: &ShownHolder<A>,
 ) -> Result<(), WriteFailed>
-    ensures { Takes S.took S.cut sink.old (json_text (holder_body kind name tenant ports.now))
-        sink.new result }
+    ensures { Takes S.took S.cut sink.old (json_text (holder_body holder.now)) sink.new result }
 {
     object! {
-        "kind": Text(kind_word(kind)),
-        "name": name,
-        "ports": Array(ports),
-        "tenant": tenant
+        "kind": Text(kind_word(holder.kind)),
+        "name": holder.name,
+        "ports": Array(holder.ports.as_slice()),
+        "tenant": holder.tenant
     }
     .put(sink)
 }
@@ -190,57 +142,38 @@ fn put_host_group<S: Sink>(
     object! { "hosts": Array(hosts), "name": name, "tenant": tenant }.put(sink)
 }
 
-/// What a storage group has beside its parts.
-#[derive(Clone, Copy)]
-struct GroupHead {
-    name: Name,
-    tenant: Name,
-    array: Name,
-    exposed: bool,
-}
-
 /// Puts the body of a storage group.
-fn put_group<S: Sink>(
+fn put_group<A: Allocator + Copy, S: Sink>(
     sink: &mut S,
-    group: GroupHead,
-    host_groups: &[Name],
-    targets: &[Wwn],
-    units: &[(u16, Name)],
+    group: &ShownGroup<A>,
 ) -> Result<(), WriteFailed>
-    ensures { Takes S.took S.cut sink.old
-        (json_text (group_body group.name group.tenant group.array group.exposed host_groups.now targets.now units.now))
-        sink.new result }
+    ensures { Takes S.took S.cut sink.old (json_text (group_body group.now)) sink.new result }
 {
     object! {
         "array": group.array,
         "exposed": group.exposed,
-        "host_groups": Array(host_groups),
+        "host_groups": Array(group.host_groups.as_slice()),
         "name": group.name,
-        "targets": Array(targets),
+        "targets": Array(group.targets.as_slice()),
         "tenant": group.tenant,
-        "units": Parts(units)
+        "units": Parts(group.units.as_slice())
     }
     .put(sink)
 }
 
 /// Puts the body of a plan.
-fn put_plan<S: Sink>(
+fn put_plan<A: Allocator + Copy, S: Sink>(
     sink: &mut S,
-    name: Name,
-    author: Name,
-    state: PlanState,
-    approvals: &[Approval],
-    text: &str,
+    plan: &ShownPlan<A>,
 ) -> Result<(), WriteFailed>
-    ensures { Takes S.took S.cut sink.old
-        (json_text (plan_body name author state approvals.now text.now)) sink.new result }
+    ensures { Takes S.took S.cut sink.old (json_text (plan_body plan.now)) sink.new result }
 {
     object! {
-        "approvals": Parts(approvals),
-        "author": author,
-        "plan": name,
-        "state": Text(state_word(state)),
-        "text": Text(text)
+        "approvals": Parts(plan.approvals.as_slice()),
+        "author": plan.author,
+        "plan": plan.name,
+        "state": Text(state_word(plan.state)),
+        "text": Text(plan.text.as_str())
     }
     .put(sink)
 }

@@ -2,7 +2,7 @@
 
 use crate::faults::state_word;
 use crate::replies::tell_paths;
-use fab_desk_base::{Joint, Shown, ZoneMembers};
+use fab_desk_base::{Joint, Shown, ShownGroup, ShownHolder, ShownPlan, ZoneMembers};
 use fab_inventory::{HolderKind, Volume};
 use fab_names::{Fabric, Member, Name, Place, Wwn};
 use fab_policy::Approval;
@@ -134,6 +134,40 @@ fn tell_zoning(text: &mut String, shown: &Shown<Global>) -> Result<(), AllocErro
     }
 }
 
+fn tell_storage_group(text: &mut String, group: &ShownGroup<Global>) -> Result<(), AllocError> {
+    write!(
+        text,
+        "group {} {} {} {}",
+        group.name, group.tenant, group.array, group.exposed
+    )?;
+    tell_names(text, group.host_groups.as_slice())?;
+    tell_ports(text, group.targets.as_slice())?;
+    tell_units(text, group.units.as_slice())
+}
+
+fn tell_plan(text: &mut String, plan: &ShownPlan<Global>) -> Result<(), AllocError> {
+    write!(
+        text,
+        "plan {} {} {}",
+        plan.name,
+        plan.author,
+        state_word(plan.state)
+    )?;
+    tell_approvals(text, plan.approvals.as_slice())?;
+    write!(text, "\n{}", plan.text.as_str())
+}
+
+fn tell_holder(text: &mut String, holder: &ShownHolder<Global>) -> Result<(), AllocError> {
+    write!(
+        text,
+        "{} {} {}",
+        kind_word(holder.kind),
+        holder.name,
+        holder.tenant
+    )?;
+    tell_ports(text, holder.ports.as_slice())
+}
+
 fn tell_group(text: &mut String, shown: &Shown<Global>) -> Result<(), AllocError> {
     match shown {
         Shown::HostGroup {
@@ -144,38 +178,8 @@ fn tell_group(text: &mut String, shown: &Shown<Global>) -> Result<(), AllocError
             write!(text, "host group {name} {tenant}")?;
             tell_names(text, hosts.as_slice())
         }
-        Shown::Group {
-            name,
-            tenant,
-            array,
-            exposed,
-            host_groups,
-            targets,
-            units,
-        } => {
-            write!(text, "group {name} {tenant} {array} {exposed}")?;
-            tell_names(text, host_groups.as_slice())?;
-            tell_ports(text, targets.as_slice())?;
-            tell_units(text, units.as_slice())
-        }
+        Shown::Group(group) => tell_storage_group(text, group),
         _ => tell_zoning(text, shown),
-    }
-}
-
-fn tell_plan(text: &mut String, shown: &Shown<Global>) -> Result<(), AllocError> {
-    match shown {
-        Shown::Plan {
-            name,
-            author,
-            state,
-            approvals,
-            text: steps,
-        } => {
-            write!(text, "plan {name} {author} {}", state_word(*state))?;
-            tell_approvals(text, approvals.as_slice())?;
-            write!(text, "\n{}", steps.as_str())
-        }
-        _ => tell_group(text, shown),
     }
 }
 
@@ -191,16 +195,9 @@ pub fn tell_shown(text: &mut String, shown: &Shown<Global>) -> Result<(), AllocE
             write!(text, "port {name} {node}")?;
             tell_place(text, *at)
         }
-        Shown::Holder {
-            kind,
-            name,
-            tenant,
-            ports,
-        } => {
-            write!(text, "{} {name} {tenant}", kind_word(*kind))?;
-            tell_ports(text, ports.as_slice())
-        }
+        Shown::Holder(holder) => tell_holder(text, holder),
         Shown::Volume { name, volume } => tell_volume(text, name, volume),
-        _ => tell_plan(text, shown),
+        Shown::Plan(plan) => tell_plan(text, plan),
+        _ => tell_group(text, shown),
     }
 }

@@ -85,7 +85,7 @@ ShowsPort w n _ = ⊥
 
 -- the host or the array, and its ports
 abbrev pub ShowsHolder : {A : Type 0} → WorldRows → HolderKind → List ℕ → Shown A → Type 0
-ShowsHolder w k n (shown.Holder j name t ports) = (j ≡ k) × (name ≡ n) × IsHolderOf w.inventory k n t × IsListOf nat_cmp (Holds (map.get w.inventory.ports) n) ports.items
+ShowsHolder w k n (shown.Holder x) = (x.kind ≡ k) × (x.name ≡ n) × IsHolderOf w.inventory k n x.tenant × IsListOf nat_cmp (Holds (map.get w.inventory.ports) n) x.ports.items
 ShowsHolder w k n _ = ⊥
 
 -- the volume
@@ -106,7 +106,7 @@ pub record AreParts (g : StorageGroupRows) (host_groups : List (List ℕ)) (targ
 
 -- the storage group
 abbrev pub ShowsGroup : {A : Type 0} → WorldRows → List ℕ → Shown A → Type 0
-ShowsGroup w n (shown.Group name t array exposed hgs ts us) = (g : StorageGroupRows) × (map.get w.config.mapping.groups n ≡ Some g) × (name ≡ n) × (t ≡ g.tenant) × (array ≡ g.array) × (exposed ≡ g.exposed) × AreParts g hgs.items ts.items us.items
+ShowsGroup w n (shown.Group x) = (g : StorageGroupRows) × (map.get w.config.mapping.groups n ≡ Some g) × (x.name ≡ n) × (x.tenant ≡ g.tenant) × (x.array ≡ g.array) × (x.exposed ≡ g.exposed) × AreParts g x.host_groups.items x.targets.items x.units.items
 ShowsGroup w n _ = ⊥
 
 -- the approvals of the entries, in their order
@@ -118,7 +118,7 @@ AreEntries (e ∷ es) (x ∷ xs) = (x.caller ≡ e.0) × (x.revision ≡ e.1) ×
 
 -- the plan
 abbrev pub ShowsPlan : {A : Type 0} → WorldRows → List ℕ → Shown A → Type 0
-ShowsPlan w n (shown.Plan name author s xs text) = (p : PlanRecord) × IsPlan w n p × (name ≡ n) × (author ≡ p.author) × (s ≡ state_of p.standing) × AreEntries (map.entries p.approvals) xs.items × (string_bytes text ≡ plan_text p.steps)
+ShowsPlan w n (shown.Plan x) = (p : PlanRecord) × IsPlan w n p × (x.name ≡ n) × (x.author ≡ p.author) × (x.state ≡ state_of p.standing) × AreEntries (map.entries p.approvals) x.approvals.items × (string_bytes x.text ≡ plan_text p.steps)
 ShowsPlan w n _ = ⊥
 
 -- the alias or the zone, of these of the fabric

@@ -11,5 +11,5 @@ mod users;
 
 pub use command::{Command, Query};
 pub use fault::{DeskFault, DeskLimit};
-pub use reply::{Joint, Reply, Shown, ZoneMembers};
+pub use reply::{Joint, Reply, Shown, ShownGroup, ShownHolder, ShownPlan, ZoneMembers};
 pub use users::{holder_user, leaving_target, moved_volume_user, volume_user};

@@ -64,6 +64,38 @@ pub struct ZoneMembers<A: Allocator + Copy> {
     pub members: Vec<Member, A>,
 }
 
+/// A host or an array, and the ports that it holds, in order.
+#[derive(Drop)]
+pub struct ShownHolder<A: Allocator + Copy> {
+    pub kind: HolderKind,
+    pub name: Name,
+    pub tenant: Name,
+    pub ports: Vec<Wwn, A>,
+}
+
+/// A storage group, its host groups, its targets, and its volumes by their logical unit numbers,
+/// each in order.
+#[derive(Drop)]
+pub struct ShownGroup<A: Allocator + Copy> {
+    pub name: Name,
+    pub tenant: Name,
+    pub array: Name,
+    pub exposed: bool,
+    pub host_groups: Vec<Name, A>,
+    pub targets: Vec<Wwn, A>,
+    pub units: Vec<(u16, Name), A>,
+}
+
+/// A plan, its approvals by the names of the callers, in order, and the printed form of its steps.
+#[derive(Drop)]
+pub struct ShownPlan<A: Allocator + Copy> {
+    pub name: Name,
+    pub author: Name,
+    pub state: PlanState,
+    pub approvals: Vec<Approval, A>,
+    pub text: String<A>,
+}
+
 /// What a read shows. Lists are in order and have each item once: names by their bytes,
 /// world-wide names and units as numbers, members by their kind and then by number or name.
 #[derive(Drop)]
@@ -82,12 +114,7 @@ pub enum Shown<A: Allocator + Copy> {
         at: Option<(Fabric, Place)>,
     },
     /// A host or an array, and the ports that it holds.
-    Holder {
-        kind: HolderKind,
-        name: Name,
-        tenant: Name,
-        ports: Vec<Wwn, A>,
-    },
+    Holder(ShownHolder<A>),
     /// A volume.
     Volume {
         name: Name,
@@ -99,25 +126,10 @@ pub enum Shown<A: Allocator + Copy> {
         tenant: Name,
         hosts: Vec<Name, A>,
     },
-    /// A storage group, its host groups, its targets, and its volumes by their logical unit
-    /// numbers.
-    Group {
-        name: Name,
-        tenant: Name,
-        array: Name,
-        exposed: bool,
-        host_groups: Vec<Name, A>,
-        targets: Vec<Wwn, A>,
-        units: Vec<(u16, Name), A>,
-    },
-    /// A plan, its approvals by the names of the callers, and the printed form of its steps.
-    Plan {
-        name: Name,
-        author: Name,
-        state: PlanState,
-        approvals: Vec<Approval, A>,
-        text: String<A>,
-    },
+    /// A storage group, and its parts.
+    Group(ShownGroup<A>),
+    /// A plan, its approvals, and the printed form of its steps.
+    Plan(ShownPlan<A>),
     /// An alias or a zone, and its members.
     Members {
         fabric: Fabric,

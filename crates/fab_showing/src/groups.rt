@@ -5,7 +5,7 @@ ghost use Rattle.fab_showing.specs.Recorded.{IsFound};
 
 use crate::listed::{names_listed, ports_listed, units_listed};
 use crate::parts::mapping_in;
-use fab_desk_base::Shown;
+use fab_desk_base::{Shown, ShownGroup};
 use fab_mapping::{HostGroup, StorageGroup};
 use fab_names::Name;
 use fab_world::World;
@@ -52,7 +52,7 @@ pub fn group_shown<A: Allocator + Copy>(
     let host_groups = names_listed(alloc, group.host_groups())?;
     let targets = ports_listed(alloc, group.targets())?;
     let units = units_listed(alloc, group.units())?;
-    Ok(Some(Shown::Group {
+    Ok(Some(Shown::Group(ShownGroup {
         name: *name,
         tenant: group.tenant(),
         array: group.array(),
@@ -60,5 +60,5 @@ pub fn group_shown<A: Allocator + Copy>(
         host_groups,
         targets,
         units,
-    }))
+    })))
 }

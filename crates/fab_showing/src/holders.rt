@@ -5,7 +5,7 @@ ghost use Rattle.fab_desk_base.specs.declared.command.Query.TheVariants as query
 ghost use Rattle.fab_showing.specs.Recorded.{IsFound};
 
 use crate::parts::inventory_in;
-use fab_desk_base::Shown;
+use fab_desk_base::{Shown, ShownHolder};
 use fab_inventory::{HolderKind, Inventory};
 use fab_names::{Name, Wwn};
 use fab_world::World;
@@ -59,12 +59,12 @@ pub fn holder_shown<A: Allocator + Copy>(
         return Ok(None);
     };
     let ports = inventory.ports_of(name)?;
-    Ok(Some(Shown::Holder {
+    Ok(Some(Shown::Holder(ShownHolder {
         kind,
         name: *name,
         tenant,
         ports,
-    }))
+    })))
 }
 
 /// The volume of this name, if it is there. It takes no memory.

@@ -5,7 +5,7 @@ ghost use Rattle.fab_showing.specs.Recorded.{IsFound};
 
 use crate::listed::approvals_listed;
 use crate::parts::plan_in;
-use fab_desk_base::Shown;
+use fab_desk_base::{Shown, ShownPlan};
 use fab_names::Name;
 use fab_plans_base::print_plan;
 use fab_world::World;
@@ -28,11 +28,11 @@ pub fn plan_shown<A: Allocator + Copy>(
     let plan = kept.plan();
     let text = print_plan(alloc, plan.steps.as_slice())?;
     let approvals = approvals_listed(alloc, &plan.approvals)?;
-    Ok(Some(Shown::Plan {
+    Ok(Some(Shown::Plan(ShownPlan {
         name: *name,
         author: plan.author,
         state: kept.state(),
         approvals,
         text,
-    }))
+    })))
 }

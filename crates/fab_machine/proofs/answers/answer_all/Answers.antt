@@ -1,4 +1,4 @@
-use Rattle.std.proofs.Common.{◌≡◌, ◌∷◌, [], ◌++◌, List, map, length, sym, ap, subst, ◌∙◌, append_assoc, arith}
+use Rattle.std.proofs.Common.{◌≡◌, ◌∷◌, [], ◌++◌, List, map, length, refl, sym, ap, subst, ◌∙◌, append_assoc, arith}
 use Rattle.std.proofs.lemmas.List.{map-append}
 use Rattle.std.specs.Vec.Iter.{into_iter_items}
 use Rattle.fab_desk_base.specs.Answers.{Request}
@@ -6,6 +6,17 @@ use Rattle.fab_desk_base.specs.declared.reply.Reply.{Reply}
 use Rattle.fab_machine.specs.Proposals.{AreAnswered, asked_of}
 use Rattle.fab_machine.proofs.Answered.{answered_more}
 use Rattle.fab_machine.proofs.answers.answer_all.Goals as goal
+
+pub loop-asked-init : goal.loop-asked-init
+loop-asked-init g c =
+    record {
+      sound = c.requires.sound;
+      stands = c.requires.stands;
+      whole = refl;
+      left = search;
+      told = rw (c.in_ok-replies.ensures.items) refl;
+      room = omega (arith, c.in_ok-replies.ensures.len, c.in_ok-replies.ensures.capacity, c.len.ensures, c.into_iter-asked-iterator.ensures.into_iter_gives.1);
+    }
 
 pub loop-asked-preserved : goal.loop-asked-preserved
 loop-asked-preserved g c =
