@@ -1,8 +1,7 @@
 -- How the program ends.
 use Rattle.std.specs.Prelude.{ℕ, ◌≡◌, ◌⊎◌, Result, Ok, Err}
-use Rattle.fab_answers.specs.declared.answers.Answer.{Answer}
-use Rattle.fab_answers.specs.declared.answers.Answer.TheVariants as answer
-use Rattle.fab_desk_base.specs.declared.reply.Reply.TheVariants as reply
+use Rattle.fab_printing.specs.declared.printing.End.{End}
+use Rattle.fab_printing.specs.declared.printing.End.TheVariants.{Done, Refused}
 use Rattle.fab_wire.specs.declared.outcome.Outcome.{Outcome}
 use Rattle.fab_wire.specs.declared.outcome.Outcome.TheVariants as outcome
 use Rattle.fab_words.specs.declared.reading.WordsFault.{WordsFault}
@@ -11,14 +10,6 @@ use Rattle.fab_program.specs.declared.args.ArgsFault.{ArgsFault}
 use Rattle.fab_program.specs.declared.args.ArgsFault.TheVariants as args
 use Rattle.fab_program.specs.declared.faults.Fault.{Fault}
 use Rattle.fab_program.specs.declared.faults.Fault.TheVariants.{Stream}
-use Rattle.fab_program.specs.declared.printing.End.{End}
-use Rattle.fab_program.specs.declared.printing.End.TheVariants.{Done, Refused}
-
--- an answer says that something was refused, or that it was done
-abbrev pub end_of : {A : Type 0} → Answer A → End
-end_of (answer.Refused why) = Refused
-end_of (answer.Replied (reply.Refused why)) = Refused
-end_of (answer.Replied other) = Done
 
 -- a request is done where its answer was written, or there was none; else a stream failed
 abbrev pub ended : Outcome → Result End Fault

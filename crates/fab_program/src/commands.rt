@@ -3,10 +3,10 @@
 use crate::contents::{bytes_of, policy_of};
 use crate::database::tables_in;
 use crate::faults::Fault;
-use crate::printing::{End, Form};
 use crate::tasks::{Call, Task, do_over};
 use fab_desk_base::Query;
 use fab_policy_base::Policy;
+use fab_printing::{End, Form};
 use fab_words::{Access, DryRun, Export, Import, Paths};
 use std::io::Write;
 

@@ -1,6 +1,7 @@
 //! Why the program could not do what was asked.
 
 use fab_load::Table;
+use fab_printing::PrintFault;
 use fab_stores::OpenFault;
 use std::fmt;
 use std::fmt::Display;
@@ -36,6 +37,14 @@ impl Fault {
             OpenFault::NewerSchema(schema) => Fault::NewerSchema(schema),
             OpenFault::Store => Fault::Store,
             OpenFault::Memory => Fault::Memory,
+        }
+    }
+
+    /// The fault of an answer that is not printed.
+    pub fn of_printing(fault: PrintFault) -> Self {
+        match fault {
+            PrintFault::Memory => Fault::Memory,
+            PrintFault::Stream => Fault::Stream,
         }
     }
 

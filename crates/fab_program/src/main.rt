@@ -8,7 +8,6 @@ mod database;
 mod faults;
 mod front;
 mod once;
-mod printing;
 mod run;
 mod serving;
 mod tasks;

@@ -9,8 +9,8 @@ use crate::commands::{dry_run, export, import, paths, report};
 use crate::database::make;
 use crate::faults::Fault;
 use crate::once::once;
-use crate::printing::End;
 use crate::serving::serve;
+use fab_printing::End;
 use fab_words::{Words, WordsFault, read_words};
 use std::io::{Read, Write};
 

@@ -3,12 +3,12 @@
 use crate::contents::is_too_large;
 use crate::database::{ProgramDesk, desk_over};
 use crate::faults::Fault;
-use crate::printing::{End, Form, print};
 use fab_answers::answers::Answer;
 use fab_desk_base::{Command, DeskFault, Query, Reply};
 use fab_files_base::port_list::{FileFault, read_ports};
 use fab_names::{Fabric, Name};
 use fab_policy_base::Policy;
+use fab_printing::{End, Form, print};
 use fab_stores::Store;
 use fab_wire_base::requests::Refusal;
 use std::alloc::Global;
@@ -77,7 +77,10 @@ fn do_at<S: Store<Global>, W: Write + Drop>(
     match call.moment {
         Ok(moment) => {
             let answer = answer_to(alloc, desk, call.token, moment, task);
-            print(alloc, writer, form_of(task), &answer)
+            match print(alloc, writer, form_of(task), &answer) {
+                Ok((_writer, end)) => Ok(end),
+                Err(fault) => Err(Fault::of_printing(fault)),
+            }
         }
         Err(fault) => Err(fault),
     }
