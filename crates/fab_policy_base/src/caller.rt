@@ -31,7 +31,7 @@ fn has_name(names: &[Name], name: &Name) -> bool
 
 impl Caller {
     /// Whether the caller has the token.
-    fn has_token(&self, token: &str) -> bool
+    pub(crate) fn has_token(&self, token: &str) -> bool
         ensures { result ≡ spec.is_same self.now.token token.now }
     {
         self.token.as_str() == token
@@ -95,10 +95,8 @@ impl Policy {
         ensures nobody { IfNone result ((id : ℕ) → ¬ spec.HasToken self.now token.now id) }
         ensures only { IfSome result (spec.IsOnlyWith self.now token.now) }
     {
-        match place_of(&self.callers, token) {
-            Some(place) => Some(CallerId { place }),
-            None => None,
-        }
+        let place = place_of(&self.callers, token)?;
+        Some(CallerId { place })
     }
 
     /// The row of a caller, or none where the policy has no such caller.
@@ -112,10 +110,7 @@ impl Policy {
     pub fn name_of(&self, id: CallerId) -> Option<Name>
         ensures { result ≡ option_map (λ c. c.name) (slice_get self.now.callers id) }
     {
-        match self.row(id) {
-            Some(caller) => Some(caller.name),
-            None => None,
-        }
+        Some(self.row(id)?.name)
     }
 
     /// Whether the caller has the tenant, by name or as one of all. It takes no memory.

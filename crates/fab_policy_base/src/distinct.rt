@@ -63,20 +63,11 @@ pub(crate) fn distinct_names<T: Named>(items: &[T]) -> Result<(), PolicyFault>
     Ok(())
 }
 
-impl Caller {
-    /// The token.
-    fn token(&self) -> &str
-        ensures { result.now ≡ self.now.token }
-    {
-        self.token.as_str()
-    }
-}
-
-/// Whether one of the callers has the token.
-fn some_has_token(callers: &[Caller], token: &str) -> bool
-    ensures { result ≡ list_any (λ c. is_same c.token token.now) callers.now }
+/// Whether one of the callers has the token of the other.
+fn some_has_token(callers: &[Caller], other: &Caller) -> bool
+    ensures { result ≡ list_any (λ c. is_same c.token other.now.token) callers.now }
 {
-    callers.iter().any(|c| c.token() == token)
+    callers.iter().any(|c| c.has_token(other.token.as_str()))
 }
 
 /// Refuses a token that an earlier caller has.
@@ -86,7 +77,7 @@ pub(crate) fn distinct_tokens(callers: &[Caller]) -> Result<(), PolicyFault>
 {
     for i in 0..callers.len() {
         let caller = &callers[i];
-        if some_has_token(&callers[..i], caller.token()) {
+        if some_has_token(&callers[..i], caller) {
             return Err(PolicyFault::Repeated(caller.name()));
         }
     }
@@ -97,15 +88,13 @@ pub(crate) fn distinct_tokens(callers: &[Caller]) -> Result<(), PolicyFault>
 fn missing_window(windows: &[Window], asked: Option<Name>) -> Option<Name>
     ensures { result ≡ tables.missing_window (sound.window_names windows.now) asked }
 {
-    match asked {
-        Some(name) => {
-            if some_has_name(windows, &name) {
-                None
-            } else {
-                Some(name)
-            }
-        }
-        None => None,
+    let Some(name) = asked else {
+        return None;
+    };
+    if some_has_name(windows, &name) {
+        None
+    } else {
+        Some(name)
     }
 }
 

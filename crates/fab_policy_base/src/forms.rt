@@ -43,14 +43,7 @@ impl Read for Name {
 fn is_token_char(c: u8) -> bool
     ensures { result ≡ tokens.is_token_char c }
 {
-    c.is_ascii_alphanumeric()
-        || c == b'-'
-        || c == b'.'
-        || c == b'_'
-        || c == b'~'
-        || c == b'+'
-        || c == b'/'
-        || c == b'='
+    c.is_ascii_alphanumeric() || matches!(c, b'-' | b'.' | b'_' | b'~' | b'+' | b'/' | b'=')
 }
 
 /// Whether a token may hold each character.
@@ -101,10 +94,7 @@ impl Read for Tenants {
         match value.as_str() {
             Some("*") => Ok(Tenants::All),
             Some(_) => Err(PolicyFault::WrongType(key)),
-            None => match list(alloc, value, key, MOST_TENANTS) {
-                Ok(names) => Ok(Tenants::Listed(names)),
-                Err(e) => Err(e),
-            },
+            None => Ok(Tenants::Listed(list(alloc, value, key, MOST_TENANTS)?)),
         }
     }
 }
@@ -115,10 +105,8 @@ fn natural(value: &Value) -> Option<u64>
         ((n : ℕ) → ¬ (as_integer (view value.now) ≡ Some (pos n)))
         (λ n. as_integer (view value.now) ≡ Some (pos n)) }
 {
-    match value.as_integer() {
-        Some(n) => { if n < 0 { None } else { Some(n as u64) } }
-        None => None,
-    }
+    let n = value.as_integer()?;
+    if n < 0 { None } else { Some(n as u64) }
 }
 
 /// The two items, where there are two.
@@ -140,18 +128,9 @@ fn span(value: &Value) -> Option<(u64, u64)>
         ((from until : ℕ) → ¬ forms.IsSpan (view value.now) from until)
         (λ p. forms.IsSpan (view value.now) p.0 p.1) }
 {
-    let Some(items) = value.as_array() else {
-        return None;
-    };
-    let Some((first, second)) = two(items) else {
-        return None;
-    };
-    let Some(from) = natural(first) else {
-        return None;
-    };
-    let Some(until) = natural(second) else {
-        return None;
-    };
+    let (first, second) = two(value.as_array()?)?;
+    let from = natural(first)?;
+    let until = natural(second)?;
     if from < until {
         Some((from, until))
     } else {
@@ -256,10 +235,8 @@ impl Read for Actions {
         if items.is_empty() {
             return Err(PolicyFault::WrongType(key));
         }
-        match each(alloc, items, key) {
-            Ok(words) => Ok(Actions { words }),
-            Err(e) => Err(e),
-        }
+        let words = each(alloc, items, key)?;
+        Ok(Actions { words })
     }
 }
 
@@ -294,10 +271,9 @@ impl Read for Scope {
         let Some(text) = value.as_str() else {
             return Err(PolicyFault::WrongType(key));
         };
-        if text == "own" {
-            Ok(Scope::Own)
-        } else {
-            Err(unknown(alloc, text))
+        match text {
+            "own" => Ok(Scope::Own),
+            _ => Err(unknown(alloc, text)),
         }
     }
 }
@@ -316,10 +292,7 @@ impl Read for RuleName {
     ghost wrong = { RuleNameFault };
 
     fn read(alloc: Global, value: &Value, key: Key) -> Result<RuleName, PolicyFault> {
-        let name: Name = match Read::read(alloc, value, key) {
-            Ok(name) => name,
-            Err(e) => return Err(e),
-        };
+        let name: Name = Read::read(alloc, value, key)?;
         if name.as_str() == "no-rule" {
             Err(PolicyFault::Repeated(name))
         } else {

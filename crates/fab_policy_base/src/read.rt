@@ -5,7 +5,6 @@ ghost use Rattle.toml.specs.Data.{get_member};
 ghost use Rattle.toml.specs.View.{view, table_view, array_view};
 ghost use Rattle.fab_policy_base.specs.Shapes as shapes;
 ghost use Rattle.fab_policy_base.specs.Words.{key_word, is_word_of};
-ghost use Rattle.fab_policy_base.specs.Shapes.{IfRefused};
 
 use crate::fault::{PolicyFault, unknown};
 use crate::key::{Key, is_word_of};
@@ -26,7 +25,7 @@ pub(crate) trait Read {
     /// Reads the value that stands at the key.
     fn read(alloc: Global, value: &Value, key: Key) -> Result<Self, PolicyFault>
         ensures ok { IfOk result (means (view value.now)) }
-        ensures fault { IfRefused result (wrong key (view value.now)) };
+        ensures fault { shapes.IfRefused result (wrong key (view value.now)) };
 }
 
 /// The value at a key.
@@ -39,7 +38,7 @@ pub(crate) fn member(table: &Table, key: Key) -> Option<&Value>
 /// What the value at a key means.
 pub(crate) fn field<T: Read>(alloc: Global, table: &Table, key: Key) -> Result<T, PolicyFault>
     ensures ok { IfOk result (shapes.At key T.means (table_view table.now)) }
-    ensures fault { IfRefused result (shapes.FaultAt key T.wrong (table_view table.now)) }
+    ensures fault { shapes.IfRefused result (shapes.FaultAt key T.wrong (table_view table.now)) }
 {
     match member(table, key) {
         Some(value) => T::read(alloc, value, key),
@@ -54,15 +53,12 @@ pub(crate) fn optional<T: Read>(
     key: Key,
 ) -> Result<Option<T>, PolicyFault>
     ensures ok { IfOk result (shapes.MaybeAt key T.means (table_view table.now)) }
-    ensures fault { IfRefused result (shapes.FaultIn key T.wrong (table_view table.now)) }
+    ensures fault { shapes.IfRefused result (shapes.FaultIn key T.wrong (table_view table.now)) }
 {
     let Some(value) = member(table, key) else {
         return Ok(None);
     };
-    match T::read(alloc, value, key) {
-        Ok(x) => Ok(Some(x)),
-        Err(e) => Err(e),
-    }
+    Ok(Some(T::read(alloc, value, key)?))
 }
 
 /// What each item of an array means.
@@ -72,7 +68,7 @@ pub(crate) fn each<T: Read + Drop>(
     key: Key,
 ) -> Result<Vec<T>, PolicyFault>
     ensures ok { IfOk result (λ v. shapes.EachMeans T.means (array_view items.now) v.items) }
-    ensures fault { IfRefused result (shapes.ItemFault T.wrong key (array_view items.now)) }
+    ensures fault { shapes.IfRefused result (shapes.ItemFault T.wrong key (array_view items.now)) }
 {
     let mut read = Vec::new(alloc);
     for item in items {
@@ -96,7 +92,7 @@ pub(crate) fn list<T: Read + Drop>(
     limit: usize,
 ) -> Result<Vec<T>, PolicyFault>
     ensures ok { IfOk result (λ v. shapes.IsList T.means limit (view value.now) v.items) }
-    ensures fault { IfRefused result (shapes.ListFault T.wrong limit key (view value.now)) }
+    ensures fault { shapes.IfRefused result (shapes.ListFault T.wrong limit key (view value.now)) }
 {
     let Some(items) = value.as_array() else {
         return Err(PolicyFault::WrongType(key));
@@ -118,7 +114,7 @@ pub(crate) fn list_at<T: Read + Drop>(
     limit: usize,
 ) -> Result<Vec<T>, PolicyFault>
     ensures ok { IfOk result (λ v. shapes.At key (shapes.IsList T.means limit) (table_view table.now) v.items) }
-    ensures fault { IfRefused result (shapes.FaultAt key (shapes.ListFault T.wrong limit) (table_view table.now)) }
+    ensures fault { shapes.IfRefused result (shapes.FaultAt key (shapes.ListFault T.wrong limit) (table_view table.now)) }
 {
     match member(table, key) {
         Some(value) => list(alloc, value, key, limit),
@@ -134,7 +130,7 @@ pub(crate) fn optional_list<T: Read + Drop>(
     limit: usize,
 ) -> Result<Vec<T>, PolicyFault>
     ensures ok { IfOk result (λ v. shapes.ListAt key T.means limit (table_view table.now) v.items) }
-    ensures fault { IfRefused result (shapes.FaultIn key (shapes.ListFault T.wrong limit) (table_view table.now)) }
+    ensures fault { shapes.IfRefused result (shapes.FaultIn key (shapes.ListFault T.wrong limit) (table_view table.now)) }
 {
     match member(table, key) {
         Some(value) => list(alloc, value, key, limit),
@@ -153,7 +149,7 @@ fn other_key<'a>(table: &'a Table, keys: &[Key]) -> Option<&'a String>
 /// Refuses a table with a key that is none of these.
 pub(crate) fn only(alloc: Global, table: &Table, keys: &[Key]) -> Result<(), PolicyFault>
     ensures ok { OnOk result (shapes.HasOnly keys.now (table_view table.now)) }
-    ensures fault { IfRefused result (shapes.HasOther keys.now (table_view table.now)) }
+    ensures fault { shapes.IfRefused result (shapes.HasOther keys.now (table_view table.now)) }
 {
     match other_key(table, keys) {
         Some(key) => Err(unknown(alloc, key.as_str())),

@@ -2,7 +2,6 @@
 ghost use Rattle.std.specs.Prelude.{IfOk, OnOk};
 ghost use Rattle.toml.specs.View.{table_view};
 ghost use Rattle.fab_policy_base.specs.Shapes as shapes;
-ghost use Rattle.fab_policy_base.specs.Shapes.{IfRefused};
 ghost use Rattle.fab_policy_base.specs.Tables as tables;
 
 use crate::fault::{PolicyFault, unknown};
@@ -18,7 +17,7 @@ use toml::{Table, Value};
 /// Reads the table of a caller.
 fn caller_of(alloc: Global, table: &Table) -> Result<Caller, PolicyFault>
     ensures ok { IfOk result (tables.IsCallerTable (table_view table.now)) }
-    ensures fault { IfRefused result (tables.CallerFault (table_view table.now)) }
+    ensures fault { shapes.IfRefused result (tables.CallerFault (table_view table.now)) }
 {
     only(
         alloc,
@@ -56,7 +55,7 @@ impl Read for Caller {
 /// Reads the table of a window.
 fn window_of(alloc: Global, table: &Table) -> Result<Window, PolicyFault>
     ensures ok { IfOk result (tables.IsWindowTable (table_view table.now)) }
-    ensures fault { IfRefused result (tables.WindowFault (table_view table.now)) }
+    ensures fault { shapes.IfRefused result (tables.WindowFault (table_view table.now)) }
 {
     only(alloc, table, &[Key::Name, Key::Weekly, Key::Freeze])?;
     let name = field(alloc, table, Key::Name)?;
@@ -88,7 +87,7 @@ impl Read for Window {
 /// Refuses a table with a key that no rule has.
 fn only_rule_keys(alloc: Global, table: &Table) -> Result<(), PolicyFault>
     ensures ok { OnOk result (shapes.HasOnly tables.rule_keys (table_view table.now)) }
-    ensures fault { IfRefused result (shapes.HasOther tables.rule_keys (table_view table.now)) }
+    ensures fault { shapes.IfRefused result (shapes.HasOther tables.rule_keys (table_view table.now)) }
 {
     only(
         alloc,
@@ -110,7 +109,7 @@ fn only_rule_keys(alloc: Global, table: &Table) -> Result<(), PolicyFault>
 /// Reads the table of a rule.
 fn rule_of(alloc: Global, table: &Table) -> Result<Rule, PolicyFault>
     ensures ok { IfOk result (tables.IsRuleTable (table_view table.now)) }
-    ensures fault { IfRefused result (tables.RuleFault (table_view table.now)) }
+    ensures fault { shapes.IfRefused result (tables.RuleFault (table_view table.now)) }
 {
     only_rule_keys(alloc, table)?;
     let name: RuleName = field(alloc, table, Key::Name)?;

@@ -1,7 +1,9 @@
 //! How lines are read from rows that a query showed.
 ghost use Rattle.std.specs.Prelude.{◌≡◌, IfOk};
 ghost use Rattle.sqlite.specs.Order.{Row as Cells};
+ghost use Rattle.fab_load.specs.declared.fault.Table.TheVariants as table;
 ghost use Rattle.fab_load.specs.declared.fault.Table.{Table as AnyTable};
+ghost use Rattle.fab_tables.specs.Columns as column;
 ghost use Rattle.fab_sql.specs.Trees.{show_of};
 
 use fab_lines::{
@@ -34,12 +36,9 @@ pub trait Line: Sized + Drop {
 }
 
 impl Line for MetaLine<Global> {
-    ghost use Rattle.fab_load.specs.declared.fault.Table.TheVariants as table;
-    ghost use Rattle.fab_tables.specs.Columns.{meta_row};
-
     ghost place = { table.Meta };
 
-    ghost row = { meta_row };
+    ghost row = { column.meta_row };
 
     fn table() -> Table {
         Table::Meta
@@ -54,12 +53,9 @@ impl Line for MetaLine<Global> {
 }
 
 impl Line for PortLine<Global> {
-    ghost use Rattle.fab_load.specs.declared.fault.Table.TheVariants as table;
-    ghost use Rattle.fab_tables.specs.Columns.{port_row};
-
     ghost place = { table.Ports };
 
-    ghost row = { port_row };
+    ghost row = { column.port_row };
 
     fn table() -> Table {
         Table::Ports
@@ -78,12 +74,9 @@ impl Line for PortLine<Global> {
 }
 
 impl Line for HolderLine<Global> {
-    ghost use Rattle.fab_load.specs.declared.fault.Table.TheVariants as table;
-    ghost use Rattle.fab_tables.specs.Columns.{holder_row};
-
     ghost place = { table.Holders };
 
-    ghost row = { holder_row };
+    ghost row = { column.holder_row };
 
     fn table() -> Table {
         Table::Holders
@@ -99,12 +92,9 @@ impl Line for HolderLine<Global> {
 }
 
 impl Line for VolumeLine<Global> {
-    ghost use Rattle.fab_load.specs.declared.fault.Table.TheVariants as table;
-    ghost use Rattle.fab_tables.specs.Columns.{volume_row};
-
     ghost place = { table.Volumes };
 
-    ghost row = { volume_row };
+    ghost row = { column.volume_row };
 
     fn table() -> Table {
         Table::Volumes
@@ -121,12 +111,9 @@ impl Line for VolumeLine<Global> {
 }
 
 impl Line for ZoningLine<Global> {
-    ghost use Rattle.fab_load.specs.declared.fault.Table.TheVariants as table;
-    ghost use Rattle.fab_tables.specs.Columns.{zoning_row};
-
     ghost place = { table.Zoning };
 
-    ghost row = { zoning_row };
+    ghost row = { column.zoning_row };
 
     fn table() -> Table {
         Table::Zoning
@@ -143,12 +130,9 @@ impl Line for ZoningLine<Global> {
 }
 
 impl Line for ActiveLine<Global> {
-    ghost use Rattle.fab_load.specs.declared.fault.Table.TheVariants as table;
-    ghost use Rattle.fab_tables.specs.Columns.{active_row};
-
     ghost place = { table.Active };
 
-    ghost row = { active_row };
+    ghost row = { column.active_row };
 
     fn table() -> Table {
         Table::Active
@@ -164,12 +148,9 @@ impl Line for ActiveLine<Global> {
 }
 
 impl Line for GroupLine<Global> {
-    ghost use Rattle.fab_load.specs.declared.fault.Table.TheVariants as table;
-    ghost use Rattle.fab_tables.specs.Columns.{group_row};
-
     ghost place = { table.Groups };
 
-    ghost row = { group_row };
+    ghost row = { column.group_row };
 
     fn table() -> Table {
         Table::Groups
@@ -187,12 +168,9 @@ impl Line for GroupLine<Global> {
 }
 
 impl Line for PartLine<Global> {
-    ghost use Rattle.fab_load.specs.declared.fault.Table.TheVariants as table;
-    ghost use Rattle.fab_tables.specs.Columns.{part_row};
-
     ghost place = { table.GroupParts };
 
-    ghost row = { part_row };
+    ghost row = { column.part_row };
 
     fn table() -> Table {
         Table::GroupParts
@@ -210,12 +188,9 @@ impl Line for PartLine<Global> {
 }
 
 impl Line for PlanLine<Global> {
-    ghost use Rattle.fab_load.specs.declared.fault.Table.TheVariants as table;
-    ghost use Rattle.fab_tables.specs.Columns.{plan_row};
-
     ghost place = { table.Plans };
 
-    ghost row = { plan_row };
+    ghost row = { column.plan_row };
 
     fn table() -> Table {
         Table::Plans
@@ -233,12 +208,9 @@ impl Line for PlanLine<Global> {
 }
 
 impl Line for ApprovalLine<Global> {
-    ghost use Rattle.fab_load.specs.declared.fault.Table.TheVariants as table;
-    ghost use Rattle.fab_tables.specs.Columns.{approval_row};
-
     ghost place = { table.Approvals };
 
-    ghost row = { approval_row };
+    ghost row = { column.approval_row };
 
     fn table() -> Table {
         Table::Approvals
@@ -254,12 +226,9 @@ impl Line for ApprovalLine<Global> {
 }
 
 impl Line for UndoLine<Global> {
-    ghost use Rattle.fab_load.specs.declared.fault.Table.TheVariants as table;
-    ghost use Rattle.fab_tables.specs.Columns.{undo_row};
-
     ghost place = { table.Undo };
 
-    ghost row = { undo_row };
+    ghost row = { column.undo_row };
 
     fn table() -> Table {
         Table::Undo
@@ -275,12 +244,9 @@ impl Line for UndoLine<Global> {
 }
 
 impl Line for PathLine<Global> {
-    ghost use Rattle.fab_load.specs.declared.fault.Table.TheVariants as table;
-    ghost use Rattle.fab_tables.specs.Columns.{path_row};
-
     ghost place = { table.Paths };
 
-    ghost row = { path_row };
+    ghost row = { column.path_row };
 
     fn table() -> Table {
         Table::Paths

@@ -7,13 +7,13 @@ use Rattle.fab_policy_base.specs.Words.{action_word}
 use Rattle.fab_policy_base.proofs.Items.{each_length}
 use Rattle.fab_policy_base.proofs.forms.ActionsRead.read.Goals as goal
 
-pub returns-in-Ok-clause-ok : goal.returns-in-Ok-clause-ok
-returns-in-Ok-clause-ok c = record {
+pub returns-clause-ok : goal.returns-clause-ok
+returns-clause-ok c = record {
   items = array_view c.in-Some.items.now;
   array = sym c.in-Some.ensures;
-  each = c.in-Ok.ensures.ok;
+  each = c.in_ok-words.ensures.ok;
   some = λ none.
-      let same = each_length (IsWord action_word) c.in-Some.items.now.items _ c.in-Ok.ensures.ok in
+      let same = each_length (IsWord action_word) c.in-Some.items.now.items _ c.in_ok-words.ensures.ok in
       let empty : length c.in-Some.items.now.items ≡ 0 = sym same ∙ ap length none in
       let zero : vec_len c.in-Some.items.now ≡ 0 = omega arith in
       true≢false (sym (ap (λ n. n == 0) zero) ∙ sym c.if-is_empty.ensures);
