@@ -1,5 +1,5 @@
 -- Texts as the pieces that are put.
-use Rattle.std.proofs.Common.{◌≡◌, ℕ, ◌-◌, List, [], ◌∷◌, ◌++◌, codes, length, replicate, refl, append_assoc}
+use Rattle.std.proofs.Common.{◌≡◌, ℕ, ◌-◌, List, [], ◌∷◌, ◌++◌, codes, length, replicate, append_assoc}
 use Rattle.fab_files.specs.ActiveSets.{words_line}
 use Rattle.fab_files.specs.Reports.{row_line}
 

@@ -1,9 +1,9 @@
 -- A report from the counts of its volumes.
-use Rattle.std.proofs.Common.{◌≡◌, ℕ, suc, List, [], ◌∷◌, ◌++◌, Bool, true, ◌||◌, map, Option, Some, None, is_some, unwrap_or, refl, sym, ap, ◌∙◌}
+use Rattle.std.proofs.Common.{◌≡◌, ℕ, suc, List, [], ◌∷◌, ◌++◌, Bool, true, ◌||◌, Option, Some, unwrap_or, refl, sym, ap, ◌∙◌}
 use Rattle.std.specs.Prelude.{slice_get, Contains}
 use Rattle.std.specs.List.{flat_map, list_any}
 use Rattle.std.specs.Ordering.{eq_by_cmp}
-use Rattle.std.specs.BTreeMap.{BTreeMap, get, keys, is_at}
+use Rattle.std.specs.BTreeMap.{BTreeMap, keys, is_at}
 use Rattle.std.specs.Map.{keys_of}
 use Rattle.std.specs.FinSet as set
 use Rattle.std.specs.Cmp.{Equal-is}
@@ -13,10 +13,9 @@ use Rattle.std.proofs.lemmas.Map.Entries.{btree_map_get_place}
 use Rattle.std.proofs.lemmas.Map.Made.{is_some-lookup}
 use Rattle.std.proofs.lemmas.Map.Views.{list_any-from_Contains, Contains-from_any}
 use Rattle.fab_names.specs.Orders.{name_cmp}
-use Rattle.fab_maps.specs.Lists.{IsListOf}
 use Rattle.fab_reach.specs.declared.path.Path.{Path}
 use Rattle.fab_files.specs.Reports.{IsReport, counts_line, report_header, volume_line, volumes_of}
-use Rattle.fab_files.specs.Counting.{AreCounted, counts_over, entry_line, entry_lines, none_counted}
+use Rattle.fab_files.specs.Counting.{AreCounted, counts_over, entry_lines, none_counted}
 use Rattle.fab_files.specs.declared.counts.Counts.{Counts}
 
 -- a test over the volumes

@@ -1,10 +1,9 @@
 -- What a command comes to.
-use Rattle.std.proofs.Common.{ℕ, ◌≡◌, ◌⊎◌, inl, inr, List, Option, None, Some, IsSome, MatchOption, Result, Ok, Err, IfErr, refl, sym, ap, ◌∙◌, subst}
+use Rattle.std.proofs.Common.{ℕ, ◌≡◌, ◌⊎◌, inl, inr, List, Option, None, Some, IsSome, MatchOption, refl, sym, ap, subst}
 use mathlib.Core.Bool.{true≢false}
 use Rattle.std.proofs.lemmas.Option.{same_Some, none-some}
 use Rattle.fab_policy.specs.declared.act.Verdict.TheVariants.{Allowed}
-use Rattle.fab_policy_base.specs.Policies.{CallerRow, PolicyRows}
-use Rattle.fab_reach.specs.Books.{IsDelta}
+use Rattle.fab_policy_base.specs.Policies.{PolicyRows}
 use Rattle.fab_reach.specs.Records.{Records}
 use Rattle.fab_reach.specs.declared.book.Delta.{Delta}
 use Rattle.fab_world.specs.Soundness.{IsSound}
@@ -13,7 +12,7 @@ use Rattle.fab_next.specs.Nexts.{next_world, Suits}
 use Rattle.fab_next.specs.declared.next.Next.{Next}
 use Rattle.fab_desk_base.specs.Acts.{IsJudged}
 use Rattle.fab_desk_base.specs.Answers.{IsMove, IsReport, IsLeft, IsCarriedOut, IsOutcomeFor, IsAnswerTo, IsThere, HasPlan, IsStep}
-use Rattle.fab_desk_base.specs.Commands.{action_of, plan_of, tried, IsGiven}
+use Rattle.fab_desk_base.specs.Commands.{action_of, plan_of, IsGiven}
 use Rattle.fab_desk_base.specs.Refusals.{IsFirstFault}
 use Rattle.fab_desk_base.specs.Trying.{IsTryFault}
 use Rattle.fab_desk_base.specs.declared.command.Command.{Command}
@@ -23,11 +22,10 @@ use Rattle.fab_desk_base.specs.declared.fault.DeskFault.{DeskFault}
 use Rattle.fab_desk_base.specs.declared.fault.DeskFault.TheVariants as fault
 use Rattle.fab_desk_base.specs.declared.reply.Reply.{Reply}
 use Rattle.fab_desk_base.specs.declared.reply.Reply.TheVariants as reply
-use Rattle.fab_machine.specs.Proposals.{IsMemory, IsChangeFor, IsProposalFor, IsEnd, IsSenderOf, query_in, request_of}
+use Rattle.fab_machine.specs.Proposals.{IsChangeFor, IsProposalFor, IsEnd, IsSenderOf, query_in, request_of}
 use Rattle.fab_machine.specs.Reports.{reply_of, TellsOf, Tells}
 use Rattle.fab_machine.proofs.TriedEffects.{no_policy}
 use Rattle.fab_machine.specs.Trials.{effect_world, HasEffect, IsStepReady, dry_run_plan_of}
-use Rattle.fab_machine.specs.declared.change.Change.{Change}
 use Rattle.fab_machine.specs.declared.effects.Effect.{Effect}
 use Rattle.fab_machine.specs.declared.proposing.Proposal.{Proposal}
 use Rattle.fab_machine.specs.declared.proposing.Proposal.TheVariants.{Answer, Ready}

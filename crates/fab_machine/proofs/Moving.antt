@@ -1,8 +1,6 @@
 -- Whose paths a command moves.
-use Rattle.std.proofs.Common.{ℕ, ◌≡◌, ◌↔◌, List, [], true, sym, ap, ◌∙◌, subst}
-use mathlib.Core.Bool.{true≢false}
-use Rattle.std.specs.BTreeSet.{BTreeSet, contains}
-use Rattle.fab_names.specs.Orders.{name_cmp}
+use Rattle.std.proofs.Common.{ℕ, ◌≡◌, ◌↔◌, List, [], subst}
+use Rattle.std.specs.BTreeSet.{BTreeSet}
 use Rattle.fab_names.proofs.OrderLaws.{name_total, name_exact}
 use Rattle.fab_reach.proofs.Sets.{none_in}
 use Rattle.fab_reach.specs.Records.{Records}

@@ -1,5 +1,5 @@
 -- Lists of paths: how many there are, and none.
-use Rattle.std.proofs.Common.{ℕ, ◌≡◌, ◌≤◌, ◌<◌, List, [], length, Option, None, Some, Contains, sym, subst, arith}
+use Rattle.std.proofs.Common.{ℕ, ◌≡◌, ◌≤◌, ◌<◌, List, [], length, Option, None, Some, sym, subst, arith}
 use Rattle.std.specs.Cmp.{eq_by_cmp_equiv}
 use Rattle.std.specs.List.Sorted.{IsStrictlySortedBy}
 use Rattle.std.proofs.lemmas.Map.Keys.{IsDistinct-from_sorted}

@@ -1,5 +1,5 @@
 -- What is reported of a change is so.
-use Rattle.std.proofs.Common.{ℕ, ◌≡◌, ◌+◌, List, Bool, true, false, cond, is_some, Option, Some, length, refl, sym, ap, ◌∙◌, subst}
+use Rattle.std.proofs.Common.{ℕ, ◌≡◌, ◌+◌, List, Bool, cond, is_some, Option, Some, length, refl, sym, ap, ◌∙◌}
 use Rattle.std.specs.BTreeMap.{BTreeMap, IsOrdered, get}
 use Rattle.std.specs.Cmp.{tied_itself}
 use Rattle.std.specs.Ordering.{is_eq}
@@ -7,7 +7,6 @@ use Rattle.std.specs.FinMap as map
 use Rattle.fab_names.specs.Orders.{name_cmp}
 use Rattle.fab_names.proofs.OrderLaws.{name_total}
 use Rattle.fab_maps.proofs.SeenMaps.{len_entries, same_look_ups}
-use Rattle.fab_reach.specs.declared.book.Delta.{Delta}
 use Rattle.fab_world.specs.PlanRecords.{PlanRecord}
 use Rattle.fab_world.specs.Worlds.{WorldRows}
 use Rattle.fab_desk_base.specs.Commands.{IsPlan}

@@ -1,13 +1,13 @@
 -- From what is tried to what has effect, by the two limits.
-use Rattle.std.proofs.Common.{ℕ, ◌≡◌, ◌⊎◌, ◌≤◌, ◌<◌, inl, inr, List, Result, Ok, Err, IfErr, OnOk, true, sym, subst, arith}
+use Rattle.std.proofs.Common.{ℕ, ◌≤◌, ◌<◌, inl, inr, List, Result, Ok, Err, IfErr, OnOk, sym, subst, arith}
 use Rattle.fab_reach.specs.Serving.{IsServing}
 use Rattle.fab_reach.specs.Soundness.{IsSoundBeside}
 use Rattle.fab_reach.proofs.Lawful.{serves}
 use Rattle.fab_world.specs.Soundness.{IsSound}
 use Rattle.fab_world.specs.Worlds.{WorldRows, records_of}
 use Rattle.fab_world.specs.declared.limits.TheConstants.{MOST_CHANGES}
-use Rattle.fab_desk_base.specs.Commands.{is_counted, tried}
-use Rattle.fab_desk_base.specs.Refusals.{HasManyPaths, IsFirstFault}
+use Rattle.fab_desk_base.specs.Commands.{tried}
+use Rattle.fab_desk_base.specs.Refusals.{HasManyPaths}
 use Rattle.fab_desk_base.specs.Trying.{IsTryFault}
 use Rattle.fab_desk_base.specs.declared.command.Command.{Command}
 use Rattle.fab_desk_base.specs.declared.fault.DeskFault.{DeskFault}

@@ -1,6 +1,6 @@
 -- A text has one first faulty line as a plan, or spells steps, and never both.
-use Rattle.std.proofs.Common.{ℕ, ◌≡◌, ◌+◌, ◌<◌, ◌≤◌, List, [], ◌∷◌, ◌++◌, length, length-append, map, refl, sym, ap, ◌∙◌, subst, arith, ◌⊎◌, inl, inr}
-use Rattle.fab_steps.specs.Limits.{most_bytes, most_steps}
+use Rattle.std.proofs.Common.{ℕ, ◌≡◌, ◌+◌, ◌<◌, ◌≤◌, List, [], ◌∷◌, ◌++◌, length, length-append, map, refl, sym, ap, ◌∙◌, subst, arith, inl, inr}
+use Rattle.fab_steps.specs.Limits.{most_bytes}
 use Rattle.fab_steps.specs.Texts.{lines_of, words_of}
 use Rattle.fab_steps.specs.Values.{Value, kind_of, SpellsValues}
 use Rattle.fab_steps.specs.Steps.{PlanStep}

@@ -1,22 +1,14 @@
 -- A request means one thing at most.
-use Rattle.std.proofs.Common.{ℕ, ◌≡◌, ◌⊎◌, List, refl, sym, ap, ◌∙◌, subst, inl, inr}
-use Rattle.std.specs.Prelude.{IsUtf8}
-use Rattle.fab_names.specs.Fabrics.{SpellsFabric}
+use Rattle.std.proofs.Common.{ℕ, ◌≡◌, List, refl, sym, ap, ◌∙◌, inl, inr}
 use Rattle.fab_names.specs.Names.{SpellsName}
-use Rattle.fab_names.specs.WorldWideNames.{SpellsWwn}
-use Rattle.fab_names.specs.declared.fabric.Fabric.{Fabric}
 use Rattle.fab_names.proofs.Unique.{one_fabric, one_wwn}
-use Rattle.fab_inventory.specs.declared.port.PortRow.{PortRow}
 use Rattle.fab_inventory.specs.declared.holder.Volume.{Volume}
-use Rattle.fab_steps.specs.Steps.{PlanStep}
 use Rattle.fab_plans_base.proofs.Unique.{one_plan}
-use Rattle.fab_bodies.specs.Bodies.{SpellsHolder, SpellsVolume, SpellsNoHolder, SpellsNoVolume}
+use Rattle.fab_bodies.specs.Bodies.{SpellsVolume, SpellsNoHolder, SpellsNoVolume}
 use Rattle.fab_bodies.proofs.ReadLemmas.{one-body}
-use Rattle.fab_files_base.specs.PortLists.{ListsPorts, IsFaultAt}
 use Rattle.fab_files_base.proofs.RecordLemmas.{one_listing}
 use Rattle.fab_files_base.proofs.FaultLemmas.{no-fault, one_fault}
 use Rattle.fab_wire_base.specs.Parts.{part_at}
-use Rattle.fab_wire_base.specs.Table.{form_of}
 use Rattle.fab_wire_base.specs.declared.kinds.Kind.{Kind}
 use Rattle.fab_wire_base.specs.declared.kinds.Form.{Form}
 use Rattle.fab_wire_base.specs.declared.kinds.Form.TheVariants as form

@@ -4,8 +4,6 @@ use Rattle.fab_names.specs.Fabrics.{SpellsFabric}
 use Rattle.fab_names.specs.Names.{SpellsName}
 use Rattle.fab_names.specs.WorldWideNames.{SpellsWwn}
 use Rattle.fab_names.specs.declared.fabric.Fabric.{Fabric}
-use Rattle.fab_inventory.specs.declared.port.PortRow.{PortRow}
-use Rattle.fab_inventory.specs.declared.holder.Volume.{Volume}
 use Rattle.fab_steps.specs.Steps.{PlanStep}
 use Rattle.fab_steps.specs.Plans.{Spells}
 use Rattle.fab_plans_base.specs.Faults.{IsPlanFault}

@@ -1,5 +1,5 @@
 -- A part of a group is told by its group and itself: a unit has one volume.
-use Rattle.std.proofs.Common.{ℕ, ◌≡◌, ◌≢◌, ◌⊎◌, inl, inr, List, [], Some, codes, refl, sym, ap, ◌∙◌, subst, arith, lit<}
+use Rattle.std.proofs.Common.{ℕ, ◌≡◌, ◌⊎◌, inl, inr, List, [], Some, codes, sym, ◌∙◌, subst, arith, lit<}
 use Rattle.std.specs.FinMap as map
 use Rattle.fab_changes.specs.Tables.{IsConfigRow}
 use Rattle.fab_lines.proofs.Unique.{one_decimal, same_name}

@@ -1,12 +1,10 @@
 -- A row of settings, of an inventory, of groups, of plans or of approvals is told by its key.
-use Rattle.std.proofs.Common.{ℕ, ◌≡◌, ◌<◌, ◌⊎◌, inl, inr, List, [], Contains, Option, Some, Bool, codes, get_or, refl, sym, ap, ◌∙◌, subst, arith}
+use Rattle.std.proofs.Common.{ℕ, ◌≡◌, ◌<◌, inl, inr, List, Option, Some, codes, get_or, sym, ap, ◌∙◌, subst, arith}
 use Rattle.fab_changes.proofs.PlacedNames.{one_place, placed_name}
 use Rattle.fab_changes.specs.Positions.{IsPosition, IsOrder}
 use Rattle.fab_changes.specs.Standing.{IsPlanRow, IsApprovalRow}
 use Rattle.fab_changes.specs.Tables.{IsPortRow, IsHolderRow, IsVolumeRow, IsConfigRow}
 use Rattle.fab_inventory.specs.Ports.{port_at}
-use Rattle.fab_inventory.specs.declared.holder.Holder.{Holder}
-use Rattle.fab_inventory.specs.declared.holder.Volume.{Volume}
 use Rattle.fab_inventory.specs.declared.port.Port.{Port}
 use Rattle.fab_lines.proofs.Unique.{one_port_line, one_holder_line, one_volume_line}
 use Rattle.fab_lines.proofs.UniqueConfig.{one_meta_line, one_group_line, one_approval_line}

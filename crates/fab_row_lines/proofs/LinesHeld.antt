@@ -1,15 +1,14 @@
 -- The columns of lines, and the rows that stand in a world.
-use Rattle.std.proofs.Common.{ℕ, zero, suc, ◌≡◌, ◌↔◌, List, [], ◌∷◌, map, slice_get, Contains, Some, refl, sym, ap, ◌∙◌, subst}
+use Rattle.std.proofs.Common.{ℕ, zero, suc, ◌≡◌, ◌↔◌, List, [], ◌∷◌, slice_get, Contains, Some, refl, sym, subst}
 use Rattle.sqlite.specs.Order.{Row}
 use Rattle.std.specs.List.{AllZip}
 use Rattle.std.proofs.lemmas.Option.{slice_get_within, get_or_from_slice_get}
 use Rattle.fab_changes.specs.Positions.{IsOrder}
 use Rattle.fab_lines.proofs.Unique.{same_name}
-use Rattle.fab_lines.specs.PlanLines.{PlanColumns, ShowsPlan}
+use Rattle.fab_lines.specs.PlanLines.{ShowsPlan}
 use Rattle.fab_load.specs.declared.fault.Table.{Table}
 use Rattle.fab_load.specs.declared.fault.Table.TheVariants as table
 use Rattle.fab_names.specs.Names.{SpellsName}
-use Rattle.fab_rows.specs.PlanEntries.{PlanEntry}
 use Rattle.fab_rows.specs.declared.table_rows.TableRows.{TableRows}
 use Rattle.fab_row_lines_base.proofs.LinesOfTables.{one_table_line}
 use Rattle.fab_row_lines_base.proofs.OneRow.{one_row, one_line}
@@ -27,7 +26,6 @@ use Rattle.fab_tables.specs.Columns.{meta_row, port_row, holder_row, volume_row,
 use Rattle.fab_tables.specs.Tables.{table_of, row_of}
 use Rattle.fab_tables.specs.declared.line.TableLine.{TableLine}
 use Rattle.fab_tables.specs.declared.line.TableLine.TheVariants as line
-use Rattle.fab_world.specs.Soundness.{IsSound}
 use Rattle.fab_world.specs.Worlds.{WorldRows}
 
 -- the columns of a line are in its table

@@ -3,20 +3,11 @@ use Rattle.std.proofs.Common.{ℕ, ◌≡◌, List, [], refl, sym, ap, ◌∙◌
 use Rattle.sqlite.specs.Order.{Row, column}
 use Rattle.sqlite.specs.declared.types.Value.{Value}
 use Rattle.sqlite.specs.declared.types.Value.TheVariants.{Text}
-use Rattle.fab_changes.specs.Standing.{IsPlanRow, IsApprovalRow, IsUndoRow}
-use Rattle.fab_changes.specs.Tables.{IsPortRow, IsHolderRow, IsVolumeRow, IsConfigRow, IsRowOfPath}
-use Rattle.fab_lines.specs.GroupLines.{ShowsGroup, ShowsPart}
-use Rattle.fab_lines.specs.InventoryLines.{ShowsPort, ShowsHolder, ShowsVolume}
-use Rattle.fab_lines.specs.MetaLines.{ShowsMeta}
-use Rattle.fab_lines.specs.PlanLines.{ShowsPlan}
-use Rattle.fab_lines.specs.RecordLines.{ShowsApproval}
 use Rattle.fab_load.specs.declared.fault.Table.{Table}
 use Rattle.fab_load.specs.declared.fault.Table.TheVariants as table
-use Rattle.fab_rows.specs.declared.config_row.ConfigRow.TheVariants as config
 use Rattle.fab_row_lines.proofs.KeysOfParts.{one_part_key}
 use Rattle.fab_row_lines.proofs.KeysOfRows.{one_meta_key, one_port_key, one_holder_key, one_volume_key, one_group_key, one_plan_key, one_approval_key}
-use Rattle.fab_stores.specs.Worlds.{IsShown, IsMetaRow, StandsIn}
-use Rattle.fab_tables.specs.Columns.{meta_row, port_row, holder_row, volume_row, zoning_row, active_row, group_row, part_row, plan_row, approval_row, undo_row, path_row}
+use Rattle.fab_stores.specs.Worlds.{IsShown, StandsIn}
 use Rattle.fab_tables.specs.Tables.{key_of}
 use Rattle.fab_world.specs.Soundness.{IsSound}
 use Rattle.fab_world.specs.Worlds.{WorldRows}

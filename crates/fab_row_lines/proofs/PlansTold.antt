@@ -1,15 +1,13 @@
 -- Plans and their rows: each row stands, and each that stands is there.
-use Rattle.std.proofs.Common.{◌≡◌, ℕ, ◌↔◌, List, slice_get, Contains, Option, None, Some, is_some, Bool, true, false, inl, inr, refl, sym, ap, ◌∙◌, subst, get_or, length, ◌<◌}
+use Rattle.std.proofs.Common.{◌≡◌, ℕ, ◌↔◌, List, Contains, Option, Some, is_some, Bool, true, false, inl, inr, refl, sym, ap, ◌∙◌, subst}
 use mathlib.Core.Bool.{true≢false}
 use Rattle.std.specs.FinMap as map
 use Rattle.std.proofs.lemmas.List.Elements.{All-contains, All-contains_itself, All-weaker}
-use Rattle.std.proofs.lemmas.Option.{slice_get-get_or}
 use Rattle.fab_changes.proofs.PlacedNames.{one_place, placed_name, place_of}
 use Rattle.fab_changes.specs.Placed.{plan_row}
-use Rattle.fab_changes.specs.Positions.{IsPosition, IsOrder}
+use Rattle.fab_changes.specs.Positions.{IsPosition}
 use Rattle.fab_changes.specs.Standing.{IsPlanRow, HaveRows}
 use Rattle.fab_rows.specs.PlanEntries.{PlanEntry}
-use Rattle.fab_rows.specs.declared.record_row.PlanState.{PlanState}
 use Rattle.fab_rows.specs.declared.record_row.PlanState.TheVariants as state
 use Rattle.fab_steps.specs.Plans.{Spells, plan_text}
 use Rattle.fab_store_base.specs.Orders as orders

@@ -1,8 +1,6 @@
 -- The rows of lines that stand in a world.
-use Rattle.std.proofs.Common.{◌≡◌, ◌↔◌, List, Contains, refl, sym, ap, ◌∙◌, subst}
+use Rattle.std.proofs.Common.{◌≡◌, refl, sym, subst}
 use Rattle.sqlite.specs.Order.{Row}
-use Rattle.fab_changes.specs.Standing.{IsPlanRow, IsApprovalRow, IsUndoRow}
-use Rattle.fab_changes.specs.Tables.{IsPortRow, IsHolderRow, IsVolumeRow, IsConfigRow, IsRowOfPath}
 use Rattle.fab_lines.specs.MetaLines.{ShowsMeta}
 use Rattle.fab_lines.specs.declared.meta_lines.MetaRow.{MetaRow}
 use Rattle.fab_lines.specs.declared.meta_lines.MetaRow.TheVariants as meta

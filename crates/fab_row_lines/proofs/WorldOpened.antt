@@ -1,12 +1,10 @@
 -- The rows of tables and the rows that stand in a world.
-use Rattle.std.proofs.Common.{◌≡◌, ◌↔◌, List, Contains}
-use Rattle.std.specs.FinMap as map
+use Rattle.std.proofs.Common.{◌↔◌}
 use Rattle.fab_changes.specs.Standing.{HaveRows}
 use Rattle.fab_changes.specs.Tables.{IsCountRow}
 use Rattle.fab_load.specs.Faults.{OfTable}
 use Rattle.fab_load.specs.declared.fault.LoadFault.{LoadFault}
 use Rattle.fab_load.specs.declared.fault.LoadFault.TheVariants.{Damaged, Memory}
-use Rattle.fab_load.specs.declared.fault.Table.{Table}
 use Rattle.fab_opening.proofs.OneWorld.{one_world}
 use Rattle.fab_opening.specs.Tables as opening
 use Rattle.fab_opening.specs.Tables.{IsCount, AreTableRows}

@@ -1,5 +1,5 @@
 -- The world that the lines of all tables show.
-use Rattle.std.specs.Prelude.{ℕ, ◌≡◌, List, map, slice_get, Some}
+use Rattle.std.specs.Prelude.{ℕ, ◌≡◌, map, slice_get, Some}
 use Rattle.fab_changes.specs.Standing.{HaveRows}
 use Rattle.fab_lines.specs.PlanLines.{PlanColumns}
 use Rattle.fab_load.specs.declared.fault.Table.TheVariants as table

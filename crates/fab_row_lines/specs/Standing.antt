@@ -1,5 +1,4 @@
 -- Which rows of any table stand in a world.
-use Rattle.std.specs.Prelude.{Option}
 use Rattle.fab_changes.specs.Standing.{IsPlanRow, IsApprovalRow, IsUndoRow}
 use Rattle.fab_changes.specs.Tables.{IsCountRow, IsPortRow, IsHolderRow, IsVolumeRow, IsConfigRow, IsRowOfPath}
 use Rattle.fab_row_lines_base.specs.Rows.{AnyRow, count, port, holder, volume, config_row, plan, approval, undo, path}

@@ -1,6 +1,5 @@
 -- A line shows one row at most, and a row is shown by one line.
 use Rattle.std.proofs.Common.{◌≡◌, refl, sym, ap, ◌∙◌, subst}
-use Rattle.fab_inventory.specs.declared.port.Port.{Port}
 use Rattle.fab_lines.proofs.Unique.{one_port, one_port_line, one_holder, one_holder_line, one_volume, one_volume_line}
 use Rattle.fab_lines.proofs.UniqueConfig.{one_meta, one_meta_line, one_zoning, one_zoning_line, one_active, one_active_line, one_group, one_group_line, one_part, one_part_line, one_approval, one_approval_line, one_path, one_path_line}
 use Rattle.fab_lines.proofs.UniquePlan.{one_plan, one_plan_line}

@@ -1,5 +1,5 @@
 -- Paths that are added, line by line.
-use Rattle.std.proofs.Common.{◌≡◌, refl, sym, ap, ◌∙◌, subst}
+use Rattle.std.proofs.Common.{◌≡◌, sym, ap, ◌∙◌}
 use Rattle.fab_lines.proofs.UniqueConfig.{one_path}
 use Rattle.fab_lines.specs.RecordLines.{PathColumns, ShowsPath}
 use Rattle.fab_reach.proofs.Adding.{adds_as}

@@ -1,12 +1,12 @@
 -- The rows that the lines of all tables show, put together.
-use Rattle.std.proofs.Common.{◌≡◌, ◌⊎◌, inl, inr, ⊎_elim, List, Contains, Option, None, Some, refl, sym, subst}
+use Rattle.std.proofs.Common.{◌≡◌, ◌⊎◌, inl, inr, ⊎_elim, List, Contains, Some, refl, sym, subst}
 use Rattle.std.specs.List.{AllZip, filter_map}
-use Rattle.fab_lines.specs.GroupLines.{GroupColumns, ShowsGroup, PartColumns, ShowsPart}
+use Rattle.fab_lines.specs.GroupLines.{ShowsGroup, ShowsPart}
 use Rattle.fab_lines.specs.MetaLines.{MetaColumns, ShowsMeta}
 use Rattle.fab_lines.specs.PlanLines.{ShowsPlan}
 use Rattle.fab_lines.specs.InventoryLines.{ShowsPort, ShowsHolder, ShowsVolume}
 use Rattle.fab_lines.specs.RecordLines.{ShowsApproval, ShowsPath}
-use Rattle.fab_lines.specs.ZoningLines.{ZoningColumns, ShowsZoning, ActiveColumns, ShowsActive}
+use Rattle.fab_lines.specs.ZoningLines.{ShowsZoning, ShowsActive}
 use Rattle.fab_lines.specs.declared.meta_lines.MetaRow.{MetaRow}
 use Rattle.fab_lines.specs.declared.meta_lines.MetaRow.TheVariants as meta
 use Rattle.fab_rows.specs.declared.config_row.ConfigRow.{ConfigRow}

@@ -1,5 +1,5 @@
 -- The lines of the rows of all tables.
-use Rattle.std.specs.Prelude.{ℕ, ◌≡◌, ◌↔◌, List, [], ◌∷◌, ◌++◌, map, Contains}
+use Rattle.std.specs.Prelude.{◌↔◌, List, [], ◌∷◌, ◌++◌, map, Contains}
 use Rattle.fab_rows.specs.declared.table_rows.TableRows.{TableRows}
 use Rattle.fab_tables.specs.Tables.{AreOnce}
 use Rattle.fab_tables.specs.declared.line.TableLine.{TableLine}

@@ -1,8 +1,7 @@
 -- Rows tell what they are the rows of.
-use Rattle.std.proofs.Common.{◌≡◌, ℕ, List, Contains, Option, None, Some, Bool, true, false, refl, sym, ap, ◌∙◌, subst}
+use Rattle.std.proofs.Common.{◌≡◌, ℕ, List, Option, None, Some, Bool, true, false, refl, sym, ap, ◌∙◌, subst}
 use mathlib.Core.Bool.{true≢false}
 use Rattle.std.specs.declared.cmp.Ordering.{Ordering}
-use Rattle.std.specs.Ordering.{nat_cmp}
 use Rattle.std.specs.Cmp.{IsTotalOrder, nat_cmp_total}
 use Rattle.std.specs.FinMap as map
 use Rattle.std.specs.FinSet as set
@@ -11,26 +10,21 @@ use Rattle.std.specs.List.Sorted.{IsStrictlySortedBy}
 use Rattle.std.proofs.lemmas.Map.Made.{is_member-Decides}
 use Rattle.fab_names.specs.declared.fabric.Fabric.{Fabric}
 use Rattle.fab_names.specs.declared.fabric.Fabric.TheVariants.{A, B}
-use Rattle.fab_names.specs.declared.member.Member.{Member}
-use Rattle.fab_names.specs.Orders.{name_cmp, member_cmp}
 use Rattle.fab_names.proofs.OrderLaws.{name_total, name_exact, member_total, member_exact}
 use Rattle.fab_inventory.specs.declared.port.Known.{Known}
 use Rattle.fab_inventory.specs.declared.port.Port.{Port}
 use Rattle.fab_inventory.specs.declared.holder.Holder.{Holder}
 use Rattle.fab_inventory.specs.declared.holder.Volume.{Volume}
 use Rattle.fab_inventory.specs.Ports.{KnownPorts, port_at, port_of}
-use Rattle.fab_inventory.specs.Inventories.{InventoryRows, HolderRows, VolumeRows}
+use Rattle.fab_inventory.specs.Inventories.{InventoryRows}
 use Rattle.fab_maps.specs.MapsOfSets.{has, in_set}
 use Rattle.fab_maps.specs.Lists.{IsListOf}
 use Rattle.fab_maps.proofs.SeenSets.{tie_decides}
-use Rattle.fab_zoning.specs.declared.flag.DefaultFlag.{DefaultFlag}
-use Rattle.fab_zoning.specs.Rows.{Row, Rows, row_cmp as active_cmp}
 use Rattle.fab_zoning.specs.Soundness.{AreListings, IsSound}
-use Rattle.fab_zoning.specs.Zonings.{FabricZoning, NamedSets, permits, flag_of, flag_of-permits}
+use Rattle.fab_zoning.specs.Zonings.{NamedSets, permits, flag_of, flag_of-permits}
 use Rattle.fab_zoning.proofs.RowSets.{row_total as active_total, row_exact as active_exact}
 use Rattle.fab_zoning.proofs.Keeping.{set_at}
 use Rattle.fab_mapping_base.specs.Groups.{HostGroupRows, StorageGroupRows}
-use Rattle.fab_mapping.specs.Mappings.{MappingRows}
 use Rattle.fab_reach.specs.Records.{ConfigRows, zoning_at}
 use Rattle.fab_reach.specs.Soundness.{HasSoundZonings}
 use Rattle.fab_reach.proofs.SameLists.{same_sorted}
@@ -42,8 +36,7 @@ use Rattle.fab_rows.specs.declared.config_row.PartRow.TheVariants as parts
 use Rattle.fab_rows.specs.declared.config_row.ConfigRow.{ConfigRow}
 use Rattle.fab_rows.specs.declared.config_row.ConfigRow.TheVariants as config
 use Rattle.fab_rows.specs.declared.inventory_row.InventoryRow.TheVariants as inventory
-use Rattle.fab_rows.specs.RowOrder.{row_cmp, row_order}
-use Rattle.fab_rows.specs.Standing.{Stands, IsKnown}
+use Rattle.fab_rows.specs.RowOrder.{row_order}
 use Rattle.fab_rows.specs.Telling.{HaveSameRows, KnowSameRows}
 use Rattle.fab_rows.proofs.OrderOfRows.{row_total, row_exact, same_order}
 

@@ -1,5 +1,5 @@
 -- The order of rows is total, tells rows apart, and is the one that is stated.
-use Rattle.std.proofs.Common.{◌≡◌, Option, None, Some, Bool, true, false, refl, sym, ap, ◌∙◌, subst}
+use Rattle.std.proofs.Common.{◌≡◌, None, Some, Bool, true, false, refl, sym, ap, ◌∙◌}
 use Rattle.std.specs.declared.cmp.Ordering.{Ordering}
 use Rattle.std.specs.declared.cmp.Ordering.TheVariants.{Less, Equal, Greater}
 use Rattle.std.specs.Ordering.{nat_cmp, bool_cmp, ordering_then}
@@ -20,8 +20,6 @@ use Rattle.fab_rows.specs.declared.config_row.ZoningItem.{ZoningItem}
 use Rattle.fab_rows.specs.declared.config_row.ZoningItem.TheVariants.{Alias, Zone, Set}
 use Rattle.fab_rows.specs.declared.config_row.ZoningRow.{ZoningRow}
 use Rattle.fab_rows.specs.declared.config_row.ActiveRow.{ActiveRow}
-use Rattle.fab_rows.specs.declared.config_row.HostGroupRow.{HostGroupRow}
-use Rattle.fab_rows.specs.declared.config_row.StorageGroupRow.{StorageGroupRow}
 use Rattle.fab_rows.specs.declared.config_row.GroupRow.{GroupRow}
 use Rattle.fab_rows.specs.declared.config_row.GroupRow.TheVariants as group
 use Rattle.fab_rows.specs.declared.config_row.StoragePart.{StoragePart}
@@ -36,7 +34,7 @@ use Rattle.fab_rows.specs.contracts.config_row.GroupRowOrd.TheImpl as groups
 use Rattle.fab_rows.specs.contracts.config_row.StoragePartOrd.TheImpl as storage_parts
 use Rattle.fab_rows.specs.contracts.config_row.PartRowOrd.TheImpl as group_parts
 use Rattle.fab_rows.specs.contracts.config_row.ConfigRowOrd.TheImpl.Laws.{total-law}
-use Rattle.fab_rows.specs.RowOrder.{setting_order, item_order, zoning_order, active_order, host_group_order, storage_group_order, group_order, storage_part_order, part_order, row_order, row_cmp}
+use Rattle.fab_rows.specs.RowOrder.{setting_order, item_order, zoning_order, active_order, group_order, storage_part_order, part_order, row_order, row_cmp}
 
 pub row_total : IsTotalOrder row_cmp
 row_total = total-law

@@ -18,7 +18,6 @@ use Rattle.fab_maps.specs.MapsOfSets.{has}
 use Rattle.fab_maps.proofs.Filters.{list_as}
 use Rattle.fab_zoning.specs.Zonings.{FabricZoning, permits}
 use Rattle.fab_mapping_base.specs.Groups.{HostGroupRows, StorageGroupRows}
-use Rattle.fab_mapping.specs.Mappings.{MappingRows}
 use Rattle.fab_reach.specs.Adding.{Adds}
 use Rattle.fab_reach.specs.Records.{ConfigRows, zoning_at}
 use Rattle.fab_reach.proofs.Adding.{Before, adds_as, from_none}

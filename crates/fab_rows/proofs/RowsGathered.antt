@@ -1,5 +1,5 @@
 -- Rows that are gathered one by one, but for those that stand in another configuration.
-use Rattle.std.proofs.Common.{◌≡◌, List, [], ◌∷◌, ◌++◌, Bool, true, cond, Contains, Option, ◌⊎◌, inl, inr, refl, sym, ap, ◌∙◌, subst}
+use Rattle.std.proofs.Common.{◌≡◌, List, true, cond, Contains, Option, ◌⊎◌, inl, inr, sym, subst}
 use Rattle.std.specs.BTreeMap.{is_at}
 use Rattle.std.specs.BTreeSet.{BTreeSet, contains}
 use Rattle.fab_reach.specs.Adding.{Adds}

@@ -1,8 +1,7 @@
 -- What the loops have gathered is what stands.
-use Rattle.std.proofs.Common.{◌≡◌, ℕ, List, Contains, Option, None, Some, Bool, true, ◌⊎◌, inl, inr, refl, sym, ap, ◌∙◌, subst}
+use Rattle.std.proofs.Common.{◌≡◌, ℕ, List, Contains, Option, Some, true, ◌⊎◌, inl, inr, refl, sym, ap, ◌∙◌, subst}
 use Rattle.std.specs.declared.cmp.Ordering.{Ordering}
-use Rattle.std.specs.Ordering.{nat_cmp}
-use Rattle.std.specs.Cmp.{IsTotalOrder, nat_cmp_total}
+use Rattle.std.specs.Cmp.{IsTotalOrder}
 use Rattle.std.specs.BTreeSet.{BTreeSet}
 use Rattle.std.specs.FinMap as map
 use Rattle.std.specs.FinSet as set
@@ -11,7 +10,6 @@ use Rattle.std.specs.List.Sorted.{IsStrictlySortedBy}
 use Rattle.fab_names.specs.declared.fabric.Fabric.{Fabric}
 use Rattle.fab_names.specs.declared.fabric.Fabric.TheVariants.{A, B}
 use Rattle.fab_names.specs.declared.member.Member.{Member}
-use Rattle.fab_names.specs.Orders.{name_cmp, member_cmp}
 use Rattle.fab_names.proofs.OrderLaws.{name_total, name_exact}
 use Rattle.fab_maps.specs.MapsOfSets.{MapOfSets, seen_sets, has}
 use Rattle.fab_maps.proofs.SeenEntries.{entry_decides}
@@ -32,7 +30,7 @@ use Rattle.fab_rows.specs.declared.config_row.PartRow.TheVariants as parts
 use Rattle.fab_rows.specs.declared.config_row.ConfigRow.{ConfigRow}
 use Rattle.fab_rows.specs.declared.config_row.ConfigRow.TheVariants as config
 use Rattle.fab_rows.specs.Standing.{HasItem, HasPart, Stands}
-use Rattle.fab_rows.specs.Gathering.{Lacking, RowOfSome, RowOfSets, alias_row, zone_row, set_row, active_row, host_row, host_group_row, target_row, unit_row, host_head_row, storage_head_row, IsAliasRow, IsZoneRow, IsSetRow, IsActiveRow, IsDefinitionRow, IsSettingRow, IsFabricRow, IsHostGroupRow, IsStorageGroupRow, IsHostGroupsRow, IsStorageGroupsRow}
+use Rattle.fab_rows.specs.Gathering.{Lacking, RowOfSome, RowOfSets, active_row, host_row, host_group_row, target_row, unit_row, host_head_row, storage_head_row, IsAliasRow, IsZoneRow, IsSetRow, IsActiveRow, IsDefinitionRow, IsSettingRow, IsFabricRow, IsHostGroupRow, IsStorageGroupRow, IsHostGroupsRow, IsStorageGroupsRow}
 use Rattle.fab_rows.proofs.SetsTold.{has_listed, listed_has, active_listed, listed_active}
 use Rattle.fab_rows.proofs.RowsGathered.{lacking_as, lacking_both, same_row}
 

@@ -1,12 +1,12 @@
 -- How the rows of a configuration are gathered, table by table: what the private loops say of
 -- themselves. No public contract names anything of this file.
-use Rattle.std.specs.Prelude.{ℕ, ◌≡◌, ◌⊎◌, List, Contains, Option, None, Some, Bool, true, IsTrue}
+use Rattle.std.specs.Prelude.{ℕ, ◌≡◌, ◌⊎◌, List, Contains, Option, None, Some, true, IsTrue}
 use Rattle.std.specs.BTreeSet.{BTreeSet, contains}
 use Rattle.std.specs.FinMap as map
 use Rattle.std.specs.FinSet as set
 use Rattle.fab_names.specs.declared.fabric.Fabric.{Fabric}
 use Rattle.fab_names.specs.declared.member.Member.{Member}
-use Rattle.fab_maps.specs.MapsOfSets.{MapOfSets, has}
+use Rattle.fab_maps.specs.MapsOfSets.{has}
 use Rattle.fab_zoning.specs.Zonings.{FabricZoning, permits}
 use Rattle.fab_mapping_base.specs.Groups.{HostGroupRows, StorageGroupRows}
 use Rattle.fab_mapping.specs.Mappings.{MappingRows}
@@ -20,7 +20,7 @@ use Rattle.fab_rows.specs.declared.config_row.PartRow.TheVariants as parts
 use Rattle.fab_rows.specs.declared.config_row.ConfigRow.{ConfigRow}
 use Rattle.fab_rows.specs.declared.config_row.ConfigRow.TheVariants as config
 use Rattle.fab_rows.specs.RowOrder.{row_cmp}
-use Rattle.fab_rows.specs.Standing.{HasItem, IsHostHead, IsStorageHead, HasPart, Stands}
+use Rattle.fab_rows.specs.Standing.{HasPart, Stands}
 
 -- the set has the row
 abbrev pub Has : BTreeSet ConfigRow → ConfigRow → Type 0

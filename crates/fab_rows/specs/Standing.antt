@@ -1,8 +1,7 @@
 -- Which rows stand in a configuration, and in an inventory: what each table says of a row.
-use Rattle.std.specs.Prelude.{ℕ, ◌≡◌, List, Option, Some, true}
+use Rattle.std.specs.Prelude.{◌≡◌, Some, true}
 use Rattle.std.specs.FinMap as map
 use Rattle.std.specs.FinSet as set
-use Rattle.fab_inventory.specs.declared.port.Port.{Port}
 use Rattle.fab_inventory.specs.declared.holder.Holder.{Holder}
 use Rattle.fab_inventory.specs.declared.holder.Volume.{Volume}
 use Rattle.fab_inventory.specs.Ports.{port_at}

@@ -1,5 +1,5 @@
 -- The lines that lead from the rows of one world to those of another.
-use Rattle.std.specs.Prelude.{◌⊎◌, List}
+use Rattle.std.specs.Prelude.{◌⊎◌}
 use Rattle.sqlite.specs.Order.{Row}
 use Rattle.fab_load.specs.declared.fault.Table.{Table}
 use Rattle.fab_tables.specs.Tables.{IsAmong, AreOnce}

@@ -3,18 +3,16 @@ use Rattle.std.specs.Prelude.{◌≡◌, ◌↔◌, ℕ, List, Contains}
 use Rattle.sqlite.specs.Order.{Row}
 use Rattle.fab_changes.specs.Standing.{IsPlanRow, IsApprovalRow, IsUndoRow}
 use Rattle.fab_changes.specs.Tables.{IsCountRow, IsPortRow, IsHolderRow, IsVolumeRow, IsConfigRow, IsRowOfPath}
-use Rattle.fab_inventory.specs.declared.port.Port.{Port}
-use Rattle.fab_lines.specs.GroupLines.{GroupColumns, ShowsGroup, PartColumns, ShowsPart}
-use Rattle.fab_lines.specs.InventoryLines.{PortColumns, ShowsPort, HolderColumns, ShowsHolder, VolumeColumns, ShowsVolume}
-use Rattle.fab_lines.specs.MetaLines.{MetaColumns, ShowsMeta}
-use Rattle.fab_lines.specs.PlanLines.{PlanColumns, ShowsPlan}
-use Rattle.fab_lines.specs.RecordLines.{ApprovalColumns, ShowsApproval, PathColumns, ShowsPath}
-use Rattle.fab_lines.specs.ZoningLines.{ZoningColumns, ShowsZoning, ActiveColumns, ShowsActive}
+use Rattle.fab_lines.specs.GroupLines.{ShowsGroup, ShowsPart}
+use Rattle.fab_lines.specs.InventoryLines.{ShowsPort, ShowsHolder, ShowsVolume}
+use Rattle.fab_lines.specs.MetaLines.{ShowsMeta}
+use Rattle.fab_lines.specs.PlanLines.{ShowsPlan}
+use Rattle.fab_lines.specs.RecordLines.{ShowsApproval, ShowsPath}
+use Rattle.fab_lines.specs.ZoningLines.{ShowsZoning, ShowsActive}
 use Rattle.fab_lines.specs.declared.meta_lines.MetaRow.{MetaRow}
 use Rattle.fab_lines.specs.declared.meta_lines.MetaRow.TheVariants as meta
 use Rattle.fab_load.specs.declared.fault.Table.{Table}
 use Rattle.fab_load.specs.declared.fault.Table.TheVariants as table
-use Rattle.fab_maps.specs.Lists.{IsListOf}
 use Rattle.fab_reach.specs.Orders.{IsListOf as IsPathList}
 use Rattle.fab_reach.specs.declared.path.Path.{Path}
 use Rattle.fab_rows.specs.declared.config_row.ConfigRow.TheVariants as config
@@ -22,7 +20,7 @@ use Rattle.fab_rows.specs.declared.record_row.PathRow.{PathRow}
 use Rattle.fab_rows.specs.declared.table_rows.CountRow.TheVariants as count
 use Rattle.fab_tables.specs.Columns.{meta_row, port_row, holder_row, volume_row, zoning_row, active_row, group_row, part_row, plan_row, approval_row, undo_row, path_row}
 use Rattle.fab_tables.specs.Tables.{Tables}
-use Rattle.fab_undo_lines.specs.UndoLines.{UndoColumns, ShowsUndo}
+use Rattle.fab_undo_lines.specs.UndoLines.{ShowsUndo}
 use Rattle.fab_world.specs.Worlds.{WorldRows}
 
 -- the columns are those of a line that shows something that has P

@@ -1,5 +1,5 @@
 -- The subcommand that a parse found, and what it asks for.
-use Rattle.std.proofs.Common.{◌≡◌, ◌≢◌, ℕ, List, Bool, true, false, Option, Some, None, option_map, is_some, refl, sym, ap, ap₂, ◌∙◌, subst}
+use Rattle.std.proofs.Common.{◌≡◌, List, false, Option, Some, None, option_map, is_some, sym, ap, ◌∙◌}
 use Rattle.std.specs.Prelude.{Box}
 use Rattle.std.specs.Box.{box_value}
 use Rattle.clap.specs.Words.{Row, Text, has_subcommand, subcommand_name_of, subcommand_rows, subcommand_rows_of}
@@ -7,7 +7,7 @@ use Rattle.clap.specs.declared.parser.matches.ArgMatches.{ArgMatches}
 use Rattle.clap.specs.declared.parser.matches.ArgMatches.TheViews.{out-ArgMatches, out-SubCommand}
 use Rattle.clap.specs.declared.parser.matches.SubCommand.{SubCommand}
 use Rattle.fab_words.specs.CommandLine.{subcommand_name}
-use Rattle.fab_words.specs.Asking.{HasValues, IsAsked, subcommand_in}
+use Rattle.fab_words.specs.Asking.{IsAsked, subcommand_in}
 use Rattle.fab_words.specs.Reading.{IsFound, IsRead}
 use Rattle.fab_words.specs.declared.subcommands.Subcommand.{Subcommand}
 use Rattle.fab_words.specs.declared.words.Words.{Words}

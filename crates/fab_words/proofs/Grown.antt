@@ -1,5 +1,5 @@
 -- Commands that grow by options and by subcommands.
-use Rattle.std.proofs.Common.{◌≡◌, ℕ, suc, ◌+◌, ◌<◌, List, [], ◌∷◌, ◌++◌, Bool, true, false, ◌||◌, Some, map, drop, get_or, length, refl, sym, ap, ap₂, ◌∙◌, append_assoc, append-nil, add-one, subst}
+use Rattle.std.proofs.Common.{◌≡◌, ℕ, ◌+◌, ◌<◌, List, [], ◌∷◌, ◌++◌, Bool, true, false, ◌||◌, Some, map, drop, get_or, length, refl, sym, ap, ◌∙◌, append_assoc, append-nil, add-one}
 use Rattle.std.proofs.Math.Seq.{drop-cons}
 use Rattle.std.specs.Borrow.{Bor}
 use Rattle.clap.specs.declared.builder.texts.Texts.TheVariants.{One}

@@ -1,7 +1,7 @@
 -- Subcommands and their names.
-use Rattle.std.proofs.Common.{◌≡◌, ℕ, List, [], Option, Some, None, find, codes, refl, sym, ap, ◌∙◌, subst}
+use Rattle.std.proofs.Common.{◌≡◌, Option, Some, find, refl, sym, ap, ◌∙◌}
 use Rattle.std.specs.Str.{bytes_eq}
-use Rattle.clap.specs.Words.{Row, Text}
+use Rattle.clap.specs.Words.{Text}
 use Rattle.fab_words.specs.declared.subcommands.Subcommand.{Subcommand}
 use Rattle.fab_words.specs.declared.subcommands.Subcommand.TheVariants.{Init, Serve, Once, Import, Paths, Report, Export, DryRun}
 use Rattle.fab_words.specs.CommandLine.{all_subcommands, subcommand_name}

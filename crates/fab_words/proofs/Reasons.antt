@@ -1,5 +1,5 @@
 -- What a parse says of the words.
-use Rattle.std.proofs.Common.{◌≡◌, ◌≢◌, ℕ, List, [], ◌∷◌, Bool, true, ◌&&◌, Option, refl, sym, ◌∙◌, subst, inl, inr}
+use Rattle.std.proofs.Common.{◌≡◌, List, [], ◌∷◌, true, Option, refl, subst, inl, inr}
 use Rattle.clap.specs.Words.{App, HasKind, HasMatchesOf, Kinds, Row, Text, fault_of, is_simple, is_simple_and_free, kind_of, subcommand_of, subcommand_rows_of}
 use Rattle.clap.specs.declared.error.Error.{Error}
 use Rattle.clap.specs.declared.error.kind.ErrorKind.TheVariants.{OutOfMemory}
@@ -8,7 +8,7 @@ use Rattle.clap.proofs.OnLiterals.{clap_on_literals}
 use Rattle.clap.proofs.WalkLemmas.{both}
 use Rattle.fab_words.specs.CommandLine.{desk_app, option_rule, program_app, subcommand_app}
 use Rattle.fab_words.specs.Asking.{AreUnderstood, Asks, IsAsked, IsReason}
-use Rattle.fab_words.specs.Reading.{IsFaultOf, IsFound}
+use Rattle.fab_words.specs.Reading.{IsFaultOf}
 use Rattle.fab_words.specs.declared.reading.WordsFault.{WordsFault}
 use Rattle.fab_words.specs.declared.reading.WordsFault.TheVariants.{Refused, BadText, Memory}
 use Rattle.fab_words.specs.declared.words.Words.{Words}

@@ -1,4 +1,4 @@
-use Rattle.std.proofs.Common.{ℕ, List, drop, subst}
+use Rattle.std.proofs.Common.{ℕ, List, subst}
 use Rattle.std.specs.List.{flat_map}
 use Rattle.fab_json.proofs.SentLemmas.{flat-cut}
 use Rattle.fab_json.proofs.Turns.{Gone, gone-cut, gone-more}

@@ -1,4 +1,4 @@
-use Rattle.std.proofs.Common.{length, Bor, List, ℕ, ◌∙◌, sym, refl, inl, inr, Some, ◌∷◌, [], ◌++◌, ap, arith, Vec}
+use Rattle.std.proofs.Common.{length, Bor, List, ℕ, ◌∙◌, sym, refl, inl, inr, Some, ◌∷◌, [], ◌++◌, ap, Vec}
 use Rattle.csv.specs.Reading.{default_config, strip_bom, Reached}
 use Rattle.csv.specs.Records.{fields_of}
 use Rattle.csv.specs.declared.parser.State.TheVariants as state

@@ -1,5 +1,4 @@
-use Rattle.std.proofs.Common.{ℕ, List, IfOk, IfErr, refl, sym, ap, subst}
-use Rattle.fab_policy_base.specs.Policies.{PolicyRows}
+use Rattle.std.proofs.Common.{IfOk, IfErr, refl, sym, ap, subst}
 use Rattle.fab_desk_base.specs.Commands.{tried}
 use Rattle.fab_desk_base.specs.Trying.{IsTryFault}
 use Rattle.fab_desk_base.specs.declared.command.Command.TheVariants as command

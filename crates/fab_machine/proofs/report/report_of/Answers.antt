@@ -1,6 +1,5 @@
 use Rattle.std.proofs.Common.{◌+◌, sym, ap, subst}
 use Rattle.fab_world.specs.Worlds.{WorldRows}
-use Rattle.fab_desk_base.specs.declared.command.Command.TheVariants as command
 use Rattle.fab_machine.specs.Reports.{Tells}
 use Rattle.fab_machine.specs.declared.report.Report.TheVariants.{Approved, Reconfigured}
 use Rattle.fab_machine.proofs.Reported.{approval_told, activation_told, rollback_told}

@@ -1,9 +1,7 @@
-use Rattle.std.proofs.Common.{◌≡◌, sym, ap, ◌∙◌, nat_eq}
+use Rattle.std.proofs.Common.{sym, ◌∙◌}
 use Rattle.std.specs.Cmp.Lexicographic.{bytes_decides}
 use Rattle.std.specs.FinMap as map
 use Rattle.fab_rows.specs.Standing.{IsHostHead}
-use Rattle.fab_rows.specs.declared.config_row.HostGroupRow.{HostGroupRow}
-use Rattle.fab_mapping_base.specs.Groups.{HostGroupRows}
 use Rattle.fab_rows.proofs.RowsFound.{found_has}
 use Rattle.fab_rows.proofs.standing.has_host_group.Goals as goal
 
