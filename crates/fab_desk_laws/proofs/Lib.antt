@@ -2,7 +2,9 @@ pub mod OneInventory
 pub mod OneEffect
 pub mod Tried
 pub mod OneVerdict
+pub mod OneFault
 pub mod OneAnswer
+pub mod OneRefusal
 pub mod SameLists
 pub mod Ends
 pub mod Confined

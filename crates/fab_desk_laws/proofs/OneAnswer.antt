@@ -20,15 +20,15 @@ use Rattle.fab_desk_laws.proofs.OneVerdict.{judged_once}
 use Rattle.fab_desk_laws.proofs.Tried.{done_not_refused, one_done}
 
 -- what is denied is not allowed
-denied_or_allowed : (rule : ℕ) (name : List ℕ) (need : Need) → ¬ (Denied rule name need ≡ Allowed)
+pub denied_or_allowed : (rule : ℕ) (name : List ℕ) (need : Need) → ¬ (Denied rule name need ≡ Allowed)
 denied_or_allowed rule name need e = absurd cc
 
 -- what is shown, and what is reported, is no refusal
-shown_not_refused : {A : Type 0} (r : Reply A) (s : Shown A) → r ≡ reply.Shown s → ¬ IsRefusal r
+pub shown_not_refused : {A : Type 0} (r : Reply A) (s : Shown A) → r ≡ reply.Shown s → ¬ IsRefusal r
 shown_not_refused r s is (f, refused) = let e : reply.Shown s ≡ reply.Refused f = sym is ∙ refused in absurd cc
 
 module _ {A : Type 0} (w : WorldRows) where
-  report_not_refused : (c : Command A) (new : WorldRows) (r : Reply A) → IsReport w c new r → ¬ IsRefusal r
+  pub report_not_refused : (c : Command A) (new : WorldRows) (r : Reply A) → IsReport w c new r → ¬ IsRefusal r
   report_not_refused (Import f rows) new r is (q, refused) = let e : reply.Changed new.revision ≡ reply.Refused q = sym is ∙ refused in absurd cc
   report_not_refused (PutHolder kind n t ports) new r is (q, refused) = let e : reply.Changed new.revision ≡ reply.Refused q = sym is ∙ refused in absurd cc
   report_not_refused (PutVolume n x) new r is (q, refused) = let e : reply.Changed new.revision ≡ reply.Refused q = sym is ∙ refused in absurd cc

@@ -5,6 +5,7 @@ ghost use Rattle.fab_world.specs.Worlds.{WorldRows};
 ghost use Rattle.fab_desk_base.specs.Answers.{IsDeniedWith, Request, IsStep};
 ghost use Rattle.fab_desk_base.specs.Refusals.{IsEffect};
 ghost use Rattle.fab_desk_base.specs.declared.fault.DeskFault.{DeskFault};
+ghost use Rattle.fab_desk_base.specs.declared.reply.Reply.TheVariants as reply;
 ghost use Rattle.fab_desk_laws.specs.Laws.{Agree};
 
 use fab_desk_base::{Command, Reply};
@@ -33,3 +34,9 @@ pub fn one_answer<A: Allocator + Copy>(reply: &Reply<A>, other: &Reply<A>)
     let _reply = reply;
     let _other = other;
 }
+
+/// Two refusals of one request, by one policy and in one world, are one and the same: no two checks
+/// name two faults, and no check names another than the policy's denial.
+pub fn one_refusal<A: Allocator + Copy>(_alloc: A)
+    ensures { (p : PolicyRows) (w : WorldRows) (q : Request A) (f g : DeskFault) (a b : WorldRows) → IsStep p w q (reply.Refused f) a → IsStep p w q (reply.Refused g) b → f ≡ g }
+{}
