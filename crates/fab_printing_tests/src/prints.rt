@@ -1,0 +1,116 @@
+//! Answers are printed.
+
+use super::answers::{Kind, answer_of};
+use fab_answers::answers::Answer;
+use fab_exchanges::streams::Breaking;
+use fab_printing::{End, Form, PrintFault, print};
+use std::alloc::Global;
+use std::test::Fail;
+
+/// An answer, the form in which it is printed, how it ended, and the text.
+type Case = (Kind, Form, End, &'static str);
+
+const ONE_PATH: &str = "{\"host\":\"db1\",\"paths\":[{\"fabric\":\"A\",\
+    \"initiator\":\"10:00:00:00:00:00:00:01\",\"lun\":0,\
+    \"target\":\"50:00:00:00:00:00:00:01\",\"volume\":\"v1\"}]}\n";
+
+const NOTHING: &str = "{\"active\":null,\"default\":\"deny\",\"fabric\":\"A\",\"zones\":[]}\n";
+
+const CSV: &str = "fabric,host,initiator,target,volume,lun\n\
+    A,db1,10:00:00:00:00:00:00:01,50:00:00:00:00:00:00:01,v1,0\n";
+
+const REPORT: &str = "HOST                     VOLUME                        A      B STATE\n\
+    db1                      v1                            1      0 ONE\n";
+
+const CHANGED: &str = "{\"revision\":7}\n";
+
+const CASES: &[Case] = &[
+    (
+        Kind::Unheard,
+        Form::Json,
+        End::Refused,
+        "{\"code\":1,\"error\":\"no-caller\"}\n",
+    ),
+    (
+        Kind::Refused,
+        Form::Paths,
+        End::Refused,
+        "{\"code\":9,\"error\":\"not-found\"}\n",
+    ),
+    (
+        Kind::Refused,
+        Form::Report,
+        End::Refused,
+        "{\"code\":9,\"error\":\"not-found\"}\n",
+    ),
+    (
+        Kind::Refused,
+        Form::Active,
+        End::Refused,
+        "{\"code\":9,\"error\":\"not-found\"}\n",
+    ),
+    (Kind::Changed, Form::Json, End::Done, CHANGED),
+    (Kind::Paths, Form::Json, End::Done, ONE_PATH),
+    (Kind::Paths, Form::Paths, End::Done, CSV),
+    (Kind::Paths, Form::Report, End::Done, REPORT),
+    (Kind::Paths, Form::Active, End::Done, ONE_PATH),
+    (Kind::Active, Form::Json, End::Done, NOTHING),
+    (Kind::Active, Form::Paths, End::Done, NOTHING),
+    (
+        Kind::Active,
+        Form::Active,
+        End::Done,
+        "fabric A\nactive -\ndefault deny\n",
+    ),
+];
+
+/// Whether an answer is printed so.
+fn is_printed(alloc: Global, answer: &Answer<Global>, form: Form, end: End, text: &str) -> bool {
+    match print(alloc, Vec::new(alloc), form, answer) {
+        Ok((bytes, came)) => came == end && bytes.as_slice() == text.as_bytes(),
+        Err(_) => false,
+    }
+}
+
+/// Fails unless the answer is printed so.
+fn prints(alloc: Global, case: &Case) -> Result<(), Fail> {
+    let answer = answer_of(alloc, case.0)?;
+    if is_printed(alloc, &answer, case.1, case.2, case.3) {
+        Ok(())
+    } else {
+        Err(Fail::new(format_args!("{}", case.3)))
+    }
+}
+
+/// Each form of answers that fit it, and of others.
+#[test]
+fn answers_in_each_form(rt: HostRuntime) -> Result<(), Fail> {
+    for case in CASES {
+        prints(rt.alloc(), case)?;
+    }
+    Ok(())
+}
+
+/// What a writer has taken that takes five bytes a write, and fails at the first, second or third.
+const BEGINNINGS: &[&str] = &["", "{\"rev", "{\"revision"];
+
+/// Whether printing to a writer that takes five bytes a write, and fails at this write, ends there:
+/// it has taken just this beginning of the text, though it would take more.
+fn ends_at(alloc: Global, answer: &Answer<Global>, k: u64, taken: &str) -> bool {
+    let mut writer = Breaking::new(alloc, 5, k);
+    let came = matches!(
+        print(alloc, &mut writer, Form::Json, answer),
+        Err(PrintFault::Stream)
+    );
+    came && writer.taken() == taken.as_bytes()
+}
+
+/// A writer that fails is not asked again.
+#[test]
+fn writer_fails(rt: HostRuntime) -> Result<(), Fail> {
+    let answer = answer_of(rt.alloc(), Kind::Changed)?;
+    for (k, taken) in BEGINNINGS.iter().enumerate() {
+        assert!(rt; ends_at(rt.alloc(), &answer, k as u64, taken));
+    }
+    Ok(())
+}
