@@ -5,6 +5,7 @@ pub mod OneVerdict
 pub mod OneFault
 pub mod OneAnswer
 pub mod OneRefusal
+pub mod OneReport
 pub mod SameLists
 pub mod Ends
 pub mod Confined

@@ -11,7 +11,7 @@ use Rattle.fab_reach.specs.declared.book.Delta.{Delta}
 use Rattle.fab_desk_laws.specs.Laws.{AreSameLists, TellsActivation}
 use Rattle.fab_desk_laws.proofs.OneEffect.{one_effect}
 
-same_moves : {A : Type 0} (w new : WorldRows) (d e : Delta A) → IsMove w new d → IsMove w new e → AreSameLists d e
+pub same_moves : {A : Type 0} (w new : WorldRows) (d e : Delta A) → IsMove w new d → IsMove w new e → AreSameLists d e
 same_moves w new d e h k =
     (one_list (IsGained (records_of w) (records_of new)) d.gained.items e.gained.items h.gains k.gains, one_list (IsGained (records_of new) (records_of w)) d.lost.items e.lost.items h.loses k.loses)
 

@@ -29,11 +29,17 @@ pub record Agree {A : Type 0} (r s : Reply A) (a b : WorldRows) : Type 0 where
   pub world : a ≡ b
   pub refused : IsRefusal r ↔ IsRefusal s
 
--- ---- a dry run and an activation
+-- ---- what is told
 
 -- the lists are the same
 abbrev pub AreSameLists : {A : Type 0} → Delta A → Delta A → Type 0
 AreSameLists d e = (d.gained.items ≡ e.gained.items) × (d.lost.items ≡ e.lost.items)
+
+-- the replies tell the same: the values are equal, and lists have the same items
+abbrev pub TellTheSame : {A : Type 0} → Reply A → Reply A → Type 0
+TellTheSame (reply.Tried n d) (reply.Tried m e) = (n ≡ m) × AreSameLists d e
+TellTheSame (reply.Reconfigured n d k) (reply.Reconfigured m e l) = (n ≡ m) × AreSameLists d e × (k ≡ l)
+TellTheSame r s = r ≡ s
 
 -- the dry run of the plan tells just what its activation gains and loses
 abbrev pub TellsActivation : {A : Type 0} → List ℕ → Reply A → Reply A → Type 0

@@ -2,11 +2,11 @@
 ghost use Rattle.std.specs.Prelude.{◌≡◌, ℕ, List};
 ghost use Rattle.fab_policy_base.specs.Policies.{PolicyRows};
 ghost use Rattle.fab_world.specs.Worlds.{WorldRows};
-ghost use Rattle.fab_desk_base.specs.Answers.{IsDeniedWith, Request, IsStep};
+ghost use Rattle.fab_desk_base.specs.Answers.{IsCarriedOut, IsDeniedWith, Request, IsStep};
 ghost use Rattle.fab_desk_base.specs.Refusals.{IsEffect};
 ghost use Rattle.fab_desk_base.specs.declared.fault.DeskFault.{DeskFault};
 ghost use Rattle.fab_desk_base.specs.declared.reply.Reply.TheVariants as reply;
-ghost use Rattle.fab_desk_laws.specs.Laws.{Agree};
+ghost use Rattle.fab_desk_laws.specs.Laws.{Agree, TellTheSame};
 
 use fab_desk_base::{Command, Reply};
 use std::alloc::Allocator;
@@ -40,3 +40,14 @@ pub fn one_answer<A: Allocator + Copy>(reply: &Reply<A>, other: &Reply<A>)
 pub fn one_refusal<A: Allocator + Copy>(_alloc: A)
     ensures { (p : PolicyRows) (w : WorldRows) (q : Request A) (f g : DeskFault) (a b : WorldRows) → IsStep p w q (reply.Refused f) a → IsStep p w q (reply.Refused g) b → f ≡ g }
 {}
+
+/// What is carried out is told in one way: two replies to one command, by one policy and in one
+/// world, have the same revision, the same counts, and the same paths gained and lost.
+pub fn one_report<A: Allocator + Copy>(command: &Command<A>, reply: &Reply<A>, other: &Reply<A>)
+    ensures { (p : PolicyRows) (w : WorldRows) (id : ℕ) (caller : List ℕ) (moment : ℕ) (a b : WorldRows)
+        → IsCarriedOut p w id caller moment command.now reply.now a → IsCarriedOut p w id caller moment command.now other.now b → TellTheSame reply.now other.now }
+{
+    let _command = command;
+    let _reply = reply;
+    let _other = other;
+}

@@ -11,7 +11,7 @@ mod confinement;
 mod dry_runs;
 mod keeping;
 
-pub use answers::{one_answer, one_denial, one_effect, one_refusal};
+pub use answers::{one_answer, one_denial, one_effect, one_refusal, one_report};
 pub use confinement::paths_are_confined;
 pub use dry_runs::dry_run_tells_activation;
 pub use keeping::{holders_are_kept, steps_are_done};
