@@ -5,7 +5,8 @@ use crate::stock::{place, wwn};
 use fab_inventory::{HolderKind, Inventory, PortRow};
 use fab_mapping::Mapping;
 use fab_names::{Fabric, Name, Wwn};
-use fab_reach::{Config, PathsFault, few_paths, plain_paths};
+use fab_path_bounds::offer_few_paths;
+use fab_reach::{Config, PathsFault, View, few_paths, plain_paths};
 use fab_zoning::DefaultFlag;
 use std::alloc::Global;
 use std::test::Fail;
@@ -224,6 +225,16 @@ fn are_all(
     Ok(all(alloc, inventory, config)? == count)
 }
 
+/// Whether it is told as it is, without a listing, that no more paths are offered than there may be.
+fn are_offered(
+    alloc: Global,
+    inventory: &Inventory<Global>,
+    config: &Config<Global>,
+    few: bool,
+) -> Result<bool, Fail> {
+    Ok(offer_few_paths(alloc, &View::of(inventory, config))? == few)
+}
+
 /// Whether the listing under the limit has so many paths, or none where there are too many.
 fn are_few(
     alloc: Global,
@@ -238,7 +249,7 @@ fn are_few(
     }
 }
 
-/// Whether both calls list so many.
+/// Whether both calls list so many, and the third tells whether there may be.
 fn are_so_many(
     alloc: Global,
     inventory: &Inventory<Global>,
@@ -246,6 +257,9 @@ fn are_so_many(
     case: Case,
 ) -> Result<bool, Fail> {
     if !are_all(alloc, inventory, config, case.2)? {
+        return Ok(false);
+    }
+    if !are_offered(alloc, inventory, config, case.3.is_some())? {
         return Ok(false);
     }
     are_few(alloc, inventory, config, case.3)

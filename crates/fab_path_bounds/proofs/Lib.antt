@@ -1,0 +1,4 @@
+pub mod Pairs
+pub mod Bounding
+pub mod Holding
+pub mod Offering
