@@ -19,6 +19,7 @@ use crate::effects::Effect;
 use fab_desk_base::{Command, DeskFault, DeskLimit};
 use fab_names::Name;
 use fab_next::Next;
+use fab_path_bounds::offer_few_paths;
 use fab_reach::{PathsFault, View, few_paths};
 use fab_world::{MOST_CHANGES, World};
 use std::alloc::Allocator;
@@ -39,12 +40,12 @@ pub fn moved_view<'a, A: Allocator + Copy>(
     }
 }
 
-/// Checks that a view has no more paths than there may be. It takes memory for the paths that it
-/// counts, at most one pair's past the limit.
+/// Checks that a view has no more paths than there may be, by listing them. It takes memory for the
+/// paths that it lists, at most one pair's past the limit.
 ///
 /// # Errors
 /// `Limit(Paths)`, or `Memory`.
-fn check_paths<A: Allocator + Copy>(alloc: A, view: &View<'_, A>) -> Result<(), DeskFault>
+fn check_listed<A: Allocator + Copy>(alloc: A, view: &View<'_, A>) -> Result<(), DeskFault>
     ensures ok { OnOk result (¬ MoreThan MOST_PATHS (Reaches (seen view.now))) }
     ensures err { IfErr result (IsLimitFault (fault.Limit limit.Paths) (MoreThan MOST_PATHS (Reaches (seen view.now)))) }
 {
@@ -52,6 +53,22 @@ fn check_paths<A: Allocator + Copy>(alloc: A, view: &View<'_, A>) -> Result<(), 
         Ok(_paths) => Ok(()),
         Err(PathsFault::TooMany) => Err(DeskFault::Limit(DeskLimit::Paths)),
         Err(PathsFault::Memory) => Err(DeskFault::Memory),
+    }
+}
+
+/// Checks that a view has no more paths than there may be. They are listed only where the exposed
+/// storage groups offer more than that.
+///
+/// # Errors
+/// `Limit(Paths)`, or `Memory`.
+fn check_paths<A: Allocator + Copy>(alloc: A, view: &View<'_, A>) -> Result<(), DeskFault>
+    ensures ok { OnOk result (¬ MoreThan MOST_PATHS (Reaches (seen view.now))) }
+    ensures err { IfErr result (IsLimitFault (fault.Limit limit.Paths) (MoreThan MOST_PATHS (Reaches (seen view.now)))) }
+{
+    match offer_few_paths(alloc, view) {
+        Ok(true) => Ok(()),
+        Ok(false) => check_listed(alloc, view),
+        Err(_) => Err(DeskFault::Memory),
     }
 }
 

@@ -12,12 +12,13 @@ use anyhow::{Result, bail};
 use fab_desk_base::{Command, Query, Reply, Shown};
 use fab_judging::judged;
 use fab_names::Name;
+use fab_path_bounds::offer_few_paths;
 use fab_plans::trial;
 use fab_policy::Verdict;
 use fab_policy_base::{CallerId, Policy};
 use fab_reach::{Delta, PathBook, View};
 use fab_steps::Step;
-use fab_world::{World, has_few_paths};
+use fab_world::World;
 use std::alloc::Global;
 use std::collections::BTreeSet;
 
@@ -133,9 +134,10 @@ fn is_tried(alloc: Global, world: &World<Global>) -> bool {
     comes_to(world, steps.as_slice())
 }
 
-/// Whether there are few paths enough.
+/// Whether the storage groups offer few paths enough.
 fn is_counted(alloc: Global, world: &World<Global>) -> bool {
-    has_few_paths(alloc, &world.inventory, &world.config).is_ok_and(|few| few)
+    let view = View::of(&world.inventory, &world.config);
+    offer_few_paths(alloc, &view).is_ok_and(|few| few)
 }
 
 /// Whether the policy allows the staging of a plan, which moves no path.
