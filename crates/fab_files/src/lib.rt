@@ -10,8 +10,6 @@ mod columns;
 mod counts;
 mod paths;
 mod reports;
-#[cfg(test)]
-mod tests;
 
 pub use active::active_text;
 pub use columns::{COUNT_WIDTH, NAME_WIDTH};

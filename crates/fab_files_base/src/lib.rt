@@ -3,6 +3,4 @@
 
 pub mod laws;
 pub mod port_list;
-#[cfg(test)]
-mod tests;
 pub mod texts;

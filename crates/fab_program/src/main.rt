@@ -1,34 +1,22 @@
-//! `sandesk`: a change desk for SAN zoning and volume mapping, over HTTP.
+//! `sandesk`: a change desk for SAN zoning and volume mapping, over HTTP. What it does for which words
+//! is in `fab_program_base`.
 #![tactic(auto)]
 
-mod args;
-mod commands;
-mod contents;
-mod database;
-mod faults;
-mod front;
-mod once;
-mod run;
-mod serving;
-mod tasks;
-#[cfg(test)]
-mod tests;
-mod trial;
-
+use fab_program_base::{refuse_args, run, seconds, words_of};
 use std::io;
 use std::process::ExitCode;
 
 fn main(rt: HostRuntime) -> ExitCode {
-    let status = match args::words_of(&rt) {
-        Ok(words) => run::run(
+    let status = match words_of(&rt) {
+        Ok(words) => run(
             &rt,
             words.as_slice(),
-            || args::seconds(&rt),
+            || seconds(&rt),
             rt.reader(),
             io::writer(&rt),
             &mut rt.stderr(),
         ),
-        Err(fault) => run::refuse_args(&mut rt.stderr(), fault),
+        Err(fault) => refuse_args(&mut rt.stderr(), fault),
     };
     ExitCode::from(status)
 }

@@ -2,7 +2,7 @@
 ghost use Rattle.std.specs.Prelude.{◌≡◌, ◌<◌, map, string_bytes};
 ghost use Rattle.fab_words.specs.Asking.{Asks};
 ghost use Rattle.fab_words.specs.declared.words.Words.{Words};
-ghost use Rattle.fab_program.specs.Exits.{IsExitStatus, args_status, status_of, words_status};
+ghost use Rattle.fab_program_base.specs.Exits.{IsExitStatus, args_status, status_of, words_status};
 
 use crate::args::ArgsFault;
 use crate::commands::{dry_run, export, import, paths, report};

@@ -12,6 +12,3 @@ mod lists;
 mod small;
 #[cfg(test)]
 mod worlds;
-
-/// Nothing: the tests are all there is.
-fn main() {}

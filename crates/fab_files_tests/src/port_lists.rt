@@ -1,6 +1,6 @@
 //! Port lists as `csv` reads them, and lists of many sizes.
 
-use crate::port_list::{FileFault, read_ports};
+use fab_files_base::port_list::{FileFault, read_ports};
 use fab_inventory::PortRow;
 use fab_names::{Place, Wwn};
 use std::alloc::Global;

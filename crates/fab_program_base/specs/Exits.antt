@@ -6,10 +6,10 @@ use Rattle.fab_wire.specs.declared.outcome.Outcome.{Outcome}
 use Rattle.fab_wire.specs.declared.outcome.Outcome.TheVariants as outcome
 use Rattle.fab_words.specs.declared.reading.WordsFault.{WordsFault}
 use Rattle.fab_words.specs.declared.reading.WordsFault.TheVariants as words
-use Rattle.fab_program.specs.declared.args.ArgsFault.{ArgsFault}
-use Rattle.fab_program.specs.declared.args.ArgsFault.TheVariants as args
-use Rattle.fab_program.specs.declared.faults.Fault.{Fault}
-use Rattle.fab_program.specs.declared.faults.Fault.TheVariants.{Stream}
+use Rattle.fab_program_base.specs.declared.args.ArgsFault.{ArgsFault}
+use Rattle.fab_program_base.specs.declared.args.ArgsFault.TheVariants as args
+use Rattle.fab_program_base.specs.declared.faults.Fault.{Fault}
+use Rattle.fab_program_base.specs.declared.faults.Fault.TheVariants.{Stream}
 
 -- a request is done where its answer was written, or there was none; else a stream failed
 abbrev pub ended : Outcome → Result End Fault

@@ -6,6 +6,3 @@
 mod answers;
 #[cfg(test)]
 mod prints;
-
-/// Nothing: the tests are all there is.
-fn main() {}

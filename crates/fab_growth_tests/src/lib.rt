@@ -10,6 +10,3 @@ mod desks;
 mod growth;
 #[cfg(test)]
 mod tables;
-
-/// Nothing: the tests are all there is.
-fn main() {}

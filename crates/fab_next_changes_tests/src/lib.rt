@@ -10,6 +10,3 @@ mod worked;
 
 pub use asks::Ask;
 pub use desk::{Sizes, Turn, holds};
-
-/// Nothing: the tests are all there is.
-fn main() {}

@@ -1,6 +1,6 @@
 //! Texts of lists of paths, and of active sets.
-use crate::{active_text, paths_csv, report};
 use fab_desk_base::ZoneMembers;
+use fab_files::{active_text, paths_csv, report};
 use fab_json::counted::Counted;
 use fab_json::sink::Size;
 use fab_names::{Fabric, Member, Name, Wwn};

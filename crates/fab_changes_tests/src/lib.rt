@@ -8,6 +8,3 @@ mod desk;
 mod lines;
 #[cfg(test)]
 mod worlds;
-
-/// Nothing: the tests are all there is.
-fn main() {}

@@ -8,6 +8,3 @@ mod odd;
 mod stored;
 #[cfg(test)]
 mod worlds;
-
-/// Nothing: the tests are all there is.
-fn main() {}

@@ -26,6 +26,3 @@ mod stored;
 mod worked;
 #[cfg(test)]
 mod worlds;
-
-/// Nothing: the tests are all there is.
-fn main() {}

@@ -11,6 +11,3 @@ mod judged;
 mod refusals;
 #[cfg(test)]
 mod shows;
-
-/// Nothing: the tests are all there is.
-fn main() {}

@@ -1,6 +1,6 @@
 //! One request from standard input, answered on standard output.
 ghost use Rattle.std.specs.Prelude.{◌≡◌};
-ghost use Rattle.fab_program.specs.Exits.{ended};
+ghost use Rattle.fab_program_base.specs.Exits.{ended};
 
 use crate::contents::{policy_in, policy_of};
 use crate::database::{ProgramDesk, desk_over, new_tables, tables_in};

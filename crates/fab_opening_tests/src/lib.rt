@@ -14,6 +14,3 @@ mod records;
 mod stock;
 #[cfg(test)]
 mod tables;
-
-/// Nothing: the tests are all there is.
-fn main() {}

@@ -29,6 +29,3 @@ mod shows;
 mod stages;
 #[cfg(test)]
 mod turns;
-
-/// Nothing: the tests are all there is.
-fn main() {}

@@ -28,7 +28,7 @@ impl<S: Store<Global>> Server for Front<S> {
 
     type Outcome = Outcome;
 
-    ghost use Rattle.fab_program.specs.Fronts.{is_halted_desk, ServesDesk, ReleasesDesk, ReopensDesk, RefusesDesk};
+    ghost use Rattle.fab_program_base.specs.Fronts.{is_halted_desk, ServesDesk, ReleasesDesk, ReopensDesk, RefusesDesk};
 
     ghost is_halted = { λ f. is_halted_desk f.desk };
 

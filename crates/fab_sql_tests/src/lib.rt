@@ -8,6 +8,3 @@ mod lines;
 mod tables;
 #[cfg(test)]
 mod texts;
-
-/// Nothing: the tests are all there is.
-fn main() {}

@@ -24,6 +24,3 @@ mod texts;
 mod verdicts;
 #[cfg(test)]
 mod worlds;
-
-/// Nothing: the tests are all there is.
-fn main() {}

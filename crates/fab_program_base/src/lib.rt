@@ -1,0 +1,19 @@
+//! The program `sandesk` by its words, clock and streams: what each subcommand does, and the exit
+//! status. What starts it is `fab_program`.
+#![tactic(auto)]
+
+mod args;
+mod commands;
+mod contents;
+mod database;
+mod faults;
+mod front;
+mod once;
+mod run;
+mod serving;
+mod tasks;
+mod trial;
+
+pub use args::{ArgsFault, seconds, words_of};
+pub use run::{DONE, FAILED, REFUSED, WRONG_WORDS, refuse_args, run};
+pub use trial::TRIAL_POLICY;

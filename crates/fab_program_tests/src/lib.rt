@@ -1,0 +1,5 @@
+//! Tests of the program `sandesk`, by calls of `run`. Nothing here is part of the product.
+#![tactic(auto)]
+
+#[cfg(test)]
+mod runs;
