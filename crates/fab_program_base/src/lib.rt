@@ -9,11 +9,11 @@ mod database;
 mod faults;
 mod front;
 mod once;
-mod run;
+mod running;
 mod serving;
 mod tasks;
 mod trial;
 
 pub use args::{ArgsFault, seconds, words_of};
-pub use run::{DONE, FAILED, REFUSED, WRONG_WORDS, refuse_args, run};
+pub use running::{DONE, FAILED, REFUSED, WRONG_WORDS, refuse_args, run};
 pub use trial::TRIAL_POLICY;
