@@ -1,9 +1,10 @@
 -- Bounds of what loops count, item by item.
 use Rattle.std.proofs.Common.{ℕ, ◌≡◌, ◌≤◌, ◌<◌, ◌+◌, ◌*◌, min, length, map, List, [], ◌∷◌, ◌++◌, Contains, ◌⊎◌, inl, inr, sym, subst, arith, length-append, zero, suc, lit<}
 use Rattle.std.proofs.lemmas.Nat.{mul-le}
+use Rattle.std.proofs.lemmas.List.{length-map}
 use Rattle.std.proofs.lemmas.List.Elements.{Contains-push_cases, Contains-append_left, Contains-append_right}
 use Rattle.fab_path_bounds.specs.Counting.{AreAmong, Bounds}
-use Rattle.fab_path_bounds.proofs.Pairs.{first_in, none_in, pairs, length_pairs, in_pairs, in_map, length_map}
+use Rattle.fab_path_bounds.proofs.Pairs.{first_in, none_in, pairs, length_pairs, in_pairs, in_map}
 
 mul-le_self : (n m : ℕ) → n ≤ n * suc m
 mul-le_self n m = let one : 1 ≤ suc m = omega arith in let e : n * 1 ≤ n * suc m = mul-le n 1 n (suc m) (omega arith) one in omega (arith, e)
@@ -80,7 +81,7 @@ module _ {X Y : Type 0} where
   bounds_by P Q f n from b lt =
       let a = b lt in record {
         some = map f a.some;
-        few = omega (arith, length_map f a.some, a.few);
+        few = omega (arith, length-map a.some f, a.few);
         all = λ y q. let w = from y q in subst (Contains (map f a.some)) w.2 (in_map f a.some w.0 (a.all w.0 w.1));
       }
 

@@ -14,10 +14,10 @@ use Rattle.fab_inventory.specs.declared.port.Known.{Known}
 use Rattle.fab_inventory.specs.Inventories.{InventoryRows}
 use Rattle.fab_maps.proofs.Walks.{walked}
 use Rattle.fab_maps.proofs.SeenEntries.{entry_decides}
-use Rattle.fab_maps.proofs.SeenSets.{listed_decides}
 use Rattle.fab_mapping_base.specs.Groups.{HostGroupRows}
 use Rattle.fab_mapping.specs.Mappings.{MappingRows}
 use Rattle.fab_reach.proofs.Same.{same_some}
+use Rattle.fab_reach.proofs.Services.{listed_in}
 use Rattle.fab_path_bounds.specs.Counting.{Bounds, Counts, CountsOne, count_at}
 use Rattle.fab_path_bounds.specs.Offers.{IsAt, IsHeldAt, AreHeld, OfHosts, AreOfHostGroups}
 use Rattle.fab_path_bounds.proofs.Bounding.{Among, bounds_as, bounds_one, bound_start, bound_more, bound_skip}
@@ -66,10 +66,6 @@ module _ (f : Fabric) where
 
 -- ---- by host group
 
--- a listed set of names has just what is listed
-pub listed_in : (s : set.FinSet name_cmp) (ks : List (List ℕ)) → set.from_list ks ≡ s → (k : List ℕ) → set.contains s k ≡ true → Contains ks k
-listed_in s ks is k h = (listed_decides name_total name_exact ks k).0 (ap (λ x. set.contains x k) is ∙ h)
-
 -- the hosts so far bound their ports, where the numbers bound those of each holder
 abbrev pub HostsSoFar : Counts → List (List ℕ) → ℕ → Type 0
 HostsSoFar held before n = (v : InventoryRows) (f : Fabric) → AreHeld v f held → Bounds (Among (IsHeldAt v f) before) n
@@ -78,7 +74,7 @@ pub hosts_more : (held : Counts) (before : List (List ℕ)) (h : List ℕ) (n : 
 hosts_more held before h n so_far v f are = bound_more (IsHeldAt v f) before h n (count_at held h) (so_far v f are) (are h)
 
 pub hosts_end : (held : Counts) (hosts : HostGroupRows) (hs before : List (List ℕ)) (n : ℕ) → set.from_list hs ≡ hosts.hosts → before ≡ hs → HostsSoFar held before n → (v : InventoryRows) (f : Fabric) → AreHeld v f held → Bounds (OfHosts v f hosts) n
-hosts_end held hosts hs before n is whole so_far v f are = bounds_as (Among (IsHeldAt v f) before) (OfHosts v f hosts) n (λ p w. (w.0, subst (λ ks. Contains ks w.0) (sym whole) (listed_in hosts.hosts hs is w.0 w.1), w.2)) (so_far v f are)
+hosts_end held hosts hs before n is whole so_far v f are = bounds_as (Among (IsHeldAt v f) before) (OfHosts v f hosts) n (λ p w. (w.0, subst (λ ks. Contains ks w.0) (sym whole) ((listed_in hosts.hosts hs is w.0).0 w.1), w.2)) (so_far v f are)
 
 -- the host groups so far have their numbers
 abbrev pub GroupsSoFar : Counts → List (List ℕ × HostGroupRows) → Counts → Type 0

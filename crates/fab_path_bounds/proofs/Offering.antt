@@ -27,10 +27,10 @@ use Rattle.fab_reach.specs.Records.{Records, zoning_at}
 use Rattle.fab_reach.specs.declared.path.Path.{Path}
 use Rattle.fab_reach.proofs.PathOrder.{path_total, path_exact}
 use Rattle.fab_reach.proofs.Same.{same_some, same_fabric}
+use Rattle.fab_reach.proofs.Services.{listed_in}
 use Rattle.fab_path_bounds.specs.Counting.{Bounds, Counts, count_at}
 use Rattle.fab_path_bounds.specs.Offers.{PortIsAt, OfHosts, AreOfHostGroups, ByHostGroup, OfGroup, IsTargetAt, IsUnit, Offers, OffersIn}
 use Rattle.fab_path_bounds.proofs.Bounding.{Among, bounds_none, bounds_as, bounds_one, bounds_both, bounds_pairs, bounds_by, bound_more, bound_skip}
-use Rattle.fab_path_bounds.proofs.Holding.{listed_in}
 
 -- ---- the ports of a storage group's hosts
 
@@ -51,7 +51,7 @@ served_more t before k n so_far v f m are = bound_more (ByHostGroup v f m) befor
 
 pub served_end : (t : Counts) (g : StorageGroupRows) (ks before : List (List ℕ)) (n : ℕ) → set.from_list ks ≡ g.host_groups → before ≡ ks → ServedSoFar t before n
     → (v : InventoryRows) (f : Fabric) (m : MappingRows) → AreOfHostGroups v f m t → Bounds (OfGroup v f m g) n
-served_end t g ks before n is whole so_far v f m are = bounds_as (Among (ByHostGroup v f m) before) (OfGroup v f m g) n (λ p w. (w.0, subst (λ xs. Contains xs w.0) (sym whole) (listed_in g.host_groups ks is w.0 w.1), w.2)) (so_far v f m are)
+served_end t g ks before n is whole so_far v f m are = bounds_as (Among (ByHostGroup v f m) before) (OfGroup v f m g) n (λ p w. (w.0, subst (λ xs. Contains xs w.0) (sym whole) ((listed_in g.host_groups ks is w.0).0 w.1), w.2)) (so_far v f m are)
 
 -- ---- targets
 

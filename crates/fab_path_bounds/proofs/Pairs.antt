@@ -56,7 +56,3 @@ module _ {X Y : Type 0} where
   pub in_map : (f : X → Y) (xs : List X) (x : X) → Contains xs x → Contains (map f xs) (f x)
   in_map f [] x h = absurd (none_in x h)
   in_map f (z ∷ xs) x h = elim (in_cases z xs x h) [ inl e ↦ subst (λ w. Contains (map f (z ∷ xs)) (f w)) e (first_in (f z) (map f xs)) | inr t ↦ later_in (f z) (map f xs) (f x) (in_map f xs x t) ]
-
-  pub length_map : (f : X → Y) (xs : List X) → length (map f xs) ≡ length xs
-  length_map f [] = refl
-  length_map f (x ∷ xs) = omega (arith, length_map f xs)

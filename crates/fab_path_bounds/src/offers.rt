@@ -106,7 +106,8 @@ fn offered_with<A: Allocator + Copy>(
     count
 }
 
-/// The same, of what the records of the fabric say.
+/// The paths that all exposed storage groups could give in the fabric; the ports of their hosts are
+/// counted first.
 fn offered_in<A: Allocator + Copy>(
     alloc: A,
     inventory: &Inventory<A>,
