@@ -1,5 +1,5 @@
 //! Whether an inventory and a configuration are sound together.
-ghost use Rattle.std.specs.Prelude.{◌≡◌, ◌↔◌, IsTrue, IfOk};
+ghost use Rattle.std.specs.Prelude.{◌≡◌, ◌↔◌, false, IsTrue, IfOk};
 ghost use Rattle.fab_inventory.specs.Inventories.{IsSound as IsSoundInventory};
 ghost use Rattle.fab_zoning.specs.Soundness.{IsSound as IsSoundZoning};
 ghost use Rattle.fab_reach.specs.Limits.{MoreThan};
@@ -11,7 +11,8 @@ ghost use Rattle.fab_world.specs.Soundness.{IsSoundNow};
 
 use fab_inventory::Inventory;
 use fab_names::{Fabric, Wwn};
-use fab_reach::{Config, PathsFault, few_paths};
+use fab_path_bounds::offer_few_paths;
+use fab_reach::{Config, PathsFault, View, few_paths};
 use std::alloc::{AllocError, Allocator};
 
 /// Whether the zoning of a fabric is its own, and sound.
@@ -50,8 +51,9 @@ fn is_sound_alone<A: Allocator + Copy>(config: &Config<A>) -> Result<bool, Alloc
     Ok(clash.is_none())
 }
 
-/// Whether there are no more paths than there may be. It takes memory for the paths, at most one
-/// pair's past the limit.
+/// Whether there are no more paths than there may be. They are listed only where the exposed storage
+/// groups offer more than that. It takes memory for the paths that it lists, at most one pair's past
+/// the limit.
 ///
 /// # Errors
 /// `AllocError` where there is no memory.
@@ -60,8 +62,12 @@ pub fn has_few_paths<A: Allocator + Copy>(
     inventory: &Inventory<A>,
     config: &Config<A>,
 ) -> Result<bool, AllocError>
-    ensures { IfOk result (λ few. IsTrue few ↔ ¬ MoreThan MOST_PATHS (Reaches (record { inventory = inventory.now; config = config.now }))) }
+    ensures few { IfOk result (λ few. IsTrue few ↔ ¬ MoreThan MOST_PATHS (Reaches (record { inventory = inventory.now; config = config.now }))) }
+    ensures many { IfOk result (λ few. few ≡ false → MoreThan MOST_PATHS (Reaches (record { inventory = inventory.now; config = config.now }))) }
 {
+    if offer_few_paths(alloc, &View::of(inventory, config))? {
+        return Ok(true);
+    }
     match few_paths(alloc, inventory, config) {
         Ok(_paths) => Ok(true),
         Err(PathsFault::TooMany) => Ok(false),
