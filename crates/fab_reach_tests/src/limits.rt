@@ -36,13 +36,19 @@ fn row(number: u64) -> Result<PortRow, Fail> {
     })
 }
 
-/// Fabric A lists ports 1 to 96.
-fn list(inventory: &mut Inventory<Global>, alloc: Global) -> Result<(), Fail> {
+/// The fabric lists the ports of these numbers.
+fn list(
+    inventory: &mut Inventory<Global>,
+    alloc: Global,
+    fabric: Fabric,
+    first: u64,
+    end: u64,
+) -> Result<(), Fail> {
     let mut rows = Vec::new(alloc);
-    for number in 1..97 {
+    for number in first..end {
         rows.push(row(number)?)?;
     }
-    inventory.import(Fabric::A, rows.as_slice())?;
+    inventory.import(fabric, rows.as_slice())?;
     Ok(())
 }
 
@@ -79,10 +85,10 @@ fn hold_targets(inventory: &mut Inventory<Global>, alloc: Global) -> Result<(), 
     hold(inventory, HolderKind::Array, "arr1", &ports)
 }
 
-/// All ports are logged in at fabric A; the array `arr1` has its targets, and the volumes.
+/// Ports 1 to 96 are logged in at fabric A; the array `arr1` has its targets, and the volumes.
 fn stock(alloc: Global) -> Result<Inventory<Global>, Fail> {
     let mut inventory = Inventory::new(alloc);
-    list(&mut inventory, alloc)?;
+    list(&mut inventory, alloc, Fabric::A, 1, 97)?;
     hold_targets(&mut inventory, alloc)?;
     volumes(&mut inventory)?;
     Ok(inventory)
@@ -281,6 +287,81 @@ fn is_right(alloc: Global, case: Case) -> Result<bool, Fail> {
 fn paths_limit(rt: HostRuntime) -> Result<(), Fail> {
     for case in CASES {
         assert!(rt; is_right(rt.alloc(), case)?);
+    }
+    Ok(())
+}
+
+/// What is done to a world that has too many paths, so that it has none.
+#[derive(Clone, Copy)]
+enum Turn {
+    /// The group is hidden.
+    Hide,
+    /// The targets go to fabric B, and the initiators stay in fabric A.
+    Part,
+    /// The default zone denies.
+    Deny,
+}
+
+/// Turns, each with whether few paths are offered then. Zones are not asked.
+const TURNS: [(Turn, bool); 3] = [(Turn::Hide, true), (Turn::Part, true), (Turn::Deny, false)];
+
+/// The group is hidden.
+fn hide(mapping: &mut Mapping<Global>) -> Result<(), Fail> {
+    mapping.hide(&Name::read("g")?)?;
+    Ok(())
+}
+
+/// Makes the turn.
+fn make_turn(
+    alloc: Global,
+    inventory: &mut Inventory<Global>,
+    config: &mut Config<Global>,
+    turn: Turn,
+) -> Result<(), Fail> {
+    match turn {
+        Turn::Hide => hide(&mut config.mapping),
+        Turn::Part => list(inventory, alloc, Fabric::B, 65, 97),
+        Turn::Deny => {
+            config.a.set_default(DefaultFlag::Deny);
+            Ok(())
+        }
+    }
+}
+
+/// Whether there is no path, and it is told as it is whether few are offered.
+fn is_bare(
+    alloc: Global,
+    inventory: &Inventory<Global>,
+    config: &Config<Global>,
+    few: bool,
+) -> Result<bool, Fail> {
+    if !are_few(alloc, inventory, config, Some(0))? {
+        return Ok(false);
+    }
+    are_offered(alloc, inventory, config, few)
+}
+
+/// Whether a turn is as it says beside an inventory.
+fn is_bare_beside(
+    alloc: Global,
+    inventory: &mut Inventory<Global>,
+    case: (Turn, bool),
+) -> Result<bool, Fail> {
+    let mut config = permitting(alloc, inventory, 33)?;
+    make_turn(alloc, inventory, &mut config, case.0)?;
+    is_bare(alloc, inventory, &config, case.1)
+}
+
+/// Whether a turn is as it says.
+fn is_bare_turned(alloc: Global, case: (Turn, bool)) -> Result<bool, Fail> {
+    let mut inventory = world(alloc, 63)?;
+    is_bare_beside(alloc, &mut inventory, case)
+}
+
+#[test]
+fn paths_offered(rt: HostRuntime) -> Result<(), Fail> {
+    for case in TURNS {
+        assert!(rt; is_bare_turned(rt.alloc(), case)?);
     }
     Ok(())
 }
