@@ -1,25 +1,11 @@
 -- Lists of paths: how many there are, and none.
-use Rattle.std.proofs.Common.{ℕ, ◌≡◌, ◌≤◌, ◌<◌, List, [], length, Option, None, Some, sym, subst, arith}
-use Rattle.std.specs.Cmp.{eq_by_cmp_equiv}
+use Rattle.std.proofs.Common.{ℕ, ◌≡◌, ◌<◌, List, [], Option, None, Some, sym, subst, arith}
 use Rattle.std.specs.List.Sorted.{IsStrictlySortedBy}
-use Rattle.std.proofs.lemmas.Map.Keys.{IsDistinct-from_sorted}
-use Rattle.std.proofs.lemmas.Map.Made.{length-le_from_is_member, is_member-Decides}
-use Rattle.fab_maps.proofs.SeenSets.{tie_decides}
 use Rattle.fab_reach.specs.Books.{IsGained, IsDelta}
-use Rattle.fab_reach.specs.Limits.{MoreThan}
-use Rattle.fab_reach.specs.Orders.{path_order, IsListOf}
+use Rattle.fab_reach.specs.Orders.{IsListOf}
 use Rattle.fab_reach.specs.Records.{Records}
 use Rattle.fab_reach.specs.declared.path.Path.{Path}
-use Rattle.fab_reach.proofs.PathOrder.{path_total, path_exact}
 use Rattle.fab_machine.specs.Trials.{IsStepReady}
-
--- a list of all is as long as any
-pub not_more : (most : ℕ) (P : Path → Type 0) (xs : List Path) → IsListOf P xs → length xs ≤ most → ¬ MoreThan most P
-not_more most P xs l few more =
-    let fewer : length more.some ≤ length xs =
-    length-le_from_is_member (eq_by_cmp_equiv path_total) more.some xs (IsDistinct-from_sorted path_order more.some more.sorted)
-    (λ q member. (is_member-Decides (tie_decides path_total path_exact) xs q).1 (l.complete q (more.sound q ((is_member-Decides (tie_decides path_total path_exact) more.some q).0 member)))) in
-    omega (arith, few, fewer, more.many)
 
 nowhere : {k : ℕ} → ¬ (k < 0)
 nowhere h = omega (arith, h)

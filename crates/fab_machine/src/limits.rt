@@ -19,9 +19,8 @@ use crate::effects::Effect;
 use fab_desk_base::{Command, DeskFault, DeskLimit};
 use fab_names::Name;
 use fab_next::Next;
-use fab_path_bounds::offer_few_paths;
-use fab_reach::{PathsFault, View, few_paths};
-use fab_world::{MOST_CHANGES, World};
+use fab_reach::View;
+use fab_world::{MOST_CHANGES, World, has_few_paths};
 use std::alloc::Allocator;
 
 /// The inventory and the configuration after an effect, where one of them is another.
@@ -40,24 +39,7 @@ pub fn moved_view<'a, A: Allocator + Copy>(
     }
 }
 
-/// Checks that a view has no more paths than there may be, by listing them. It takes memory for the
-/// paths that it lists, at most one pair's past the limit.
-///
-/// # Errors
-/// `Limit(Paths)`, or `Memory`.
-fn check_listed<A: Allocator + Copy>(alloc: A, view: &View<'_, A>) -> Result<(), DeskFault>
-    ensures ok { OnOk result (¬ MoreThan MOST_PATHS (Reaches (seen view.now))) }
-    ensures err { IfErr result (IsLimitFault (fault.Limit limit.Paths) (MoreThan MOST_PATHS (Reaches (seen view.now)))) }
-{
-    match few_paths(alloc, view.inventory, view.config) {
-        Ok(_paths) => Ok(()),
-        Err(PathsFault::TooMany) => Err(DeskFault::Limit(DeskLimit::Paths)),
-        Err(PathsFault::Memory) => Err(DeskFault::Memory),
-    }
-}
-
-/// Checks that a view has no more paths than there may be. They are listed only where the exposed
-/// storage groups offer more than that.
+/// Checks that a view has no more paths than there may be.
 ///
 /// # Errors
 /// `Limit(Paths)`, or `Memory`.
@@ -65,9 +47,9 @@ fn check_paths<A: Allocator + Copy>(alloc: A, view: &View<'_, A>) -> Result<(), 
     ensures ok { OnOk result (¬ MoreThan MOST_PATHS (Reaches (seen view.now))) }
     ensures err { IfErr result (IsLimitFault (fault.Limit limit.Paths) (MoreThan MOST_PATHS (Reaches (seen view.now)))) }
 {
-    match offer_few_paths(alloc, view) {
+    match has_few_paths(alloc, view.inventory, view.config) {
         Ok(true) => Ok(()),
-        Ok(false) => check_listed(alloc, view),
+        Ok(false) => Err(DeskFault::Limit(DeskLimit::Paths)),
         Err(_) => Err(DeskFault::Memory),
     }
 }
