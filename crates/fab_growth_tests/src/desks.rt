@@ -1,8 +1,7 @@
 //! A desk whose memory comes from an allocator of the test's.
 
 use fab_desk::Desk;
-use fab_exchanges::policy::POLICY;
-use fab_policy_base::Policy;
+use fab_policy_base::{Policy, TRIAL_POLICY};
 use fab_reach::PathBook;
 use fab_store::SqlStore;
 use fab_stores::Store;
@@ -35,7 +34,7 @@ pub fn new_tables(global: Global) -> Result<Tables, Fail> {
 
 /// The policy of the tests.
 fn policy_of(global: Global) -> Result<Policy, Fail> {
-    match Policy::read(global, POLICY) {
+    match Policy::read(global, TRIAL_POLICY) {
         Ok(policy) => Ok(policy),
         Err(_) => Err(Fail::new("no policy")),
     }

@@ -17,9 +17,11 @@ mod read;
 mod reading;
 mod tables;
 mod text;
+mod trial;
 
 pub use caller::CallerId;
 pub use fault::PolicyFault;
 pub use key::Key;
 pub use policy::{Action, Caller, Freeze, Policy, Quorum, Rule, Scope, Tenants, WeekSpan, Window};
 pub use text::Text;
+pub use trial::TRIAL_POLICY;

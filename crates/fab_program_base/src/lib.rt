@@ -12,8 +12,6 @@ mod once;
 mod running;
 mod serving;
 mod tasks;
-mod trial;
 
 pub use args::{ArgsFault, seconds, words_of};
 pub use running::{DONE, FAILED, REFUSED, WRONG_WORDS, refuse_args, run};
-pub use trial::TRIAL_POLICY;

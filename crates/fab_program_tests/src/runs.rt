@@ -1,7 +1,8 @@
 //! Runs of the program, each by the words of its command line: what it reads and writes, and its exit
 //! status. The desk stands in a file, which each run opens anew.
 
-use fab_program_base::{TRIAL_POLICY, run};
+use fab_policy_base::TRIAL_POLICY;
+use fab_program_base::run;
 use std::alloc::{AllocError, Global};
 use std::fs;
 use std::test::Fail;

@@ -5,7 +5,7 @@ use super::bytes::Bytes;
 use super::desks::{DeskOver, desk_of, new_tables};
 use super::stages::sets;
 use super::turns::{plays_all, plays_text, serves_each};
-use fab_exchanges::policy::POLICY;
+use fab_policy_base::TRIAL_POLICY;
 use fab_stores::Store;
 use std::alloc::Global;
 use std::test::Fail;
@@ -116,7 +116,7 @@ pub fn do_over<S: Store<Global>>(
 /// # Errors
 /// The first deed that fails, and where there is no memory.
 pub fn does(alloc: Global, deeds: &[Deed<'_>]) -> Result<(), Fail> {
-    do_over(alloc, new_tables(alloc), POLICY, deeds)
+    do_over(alloc, new_tables(alloc), TRIAL_POLICY, deeds)
 }
 
 /// Serves lists of requests, and then the bytes of further ones, over a new desk.

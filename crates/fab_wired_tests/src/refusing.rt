@@ -5,7 +5,7 @@ use super::bytes::Bytes;
 use super::deeds::{Deed, do_over, does};
 use super::desks::new_tables;
 use super::stages::ROW_1;
-use fab_exchanges::policy::POLICY;
+use fab_policy_base::TRIAL_POLICY;
 use fab_stores::{RefusingStore, Store};
 use std::alloc::Global;
 use std::test::Fail;
@@ -21,7 +21,7 @@ fn refusing<S: Store<Global>>(
 
 /// Does each with a new desk over a store that refuses one call.
 fn does_refused(alloc: Global, calls: u64, deeds: &[Deed<'_>]) -> Result<(), Fail> {
-    do_over(alloc, refusing(new_tables(alloc), calls), POLICY, deeds)
+    do_over(alloc, refusing(new_tables(alloc), calls), TRIAL_POLICY, deeds)
 }
 
 /// The store refuses to commit, which halts the desk: a path that has no route and a body that is none

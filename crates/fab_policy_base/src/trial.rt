@@ -1,7 +1,11 @@
 //! The sample policy of a trial.
 
-/// The policy under which `once` answers where none is given: the callers ada, bob, cyd, dan and eve,
-/// whose tokens are `t-` and their names. It keeps nothing secret.
+/// The policy that `sandesk once` takes where no file is given, and that tests take. It keeps nothing
+/// secret: the tokens of its callers are `t-` and their names.
+///
+/// An operator and two approvers who hold every tenant (ada, bob and dan), an operator of `blue`
+/// (cyd), and a caller without a role (eve). Activations in fabric B need two fresh approvals and an
+/// open window.
 pub const TRIAL_POLICY: &str = "\
     [[callers]]\n\
     name = \"ada\"\n\
