@@ -20,7 +20,7 @@ CASES = [
     ("read", "a read of one host's paths"),
     ("copy", "the copy of the configuration"),
     ("trial", "the trial, with its copy"),
-    ("paths", "the paths, counted for the limit"),
+    ("paths", "the limit on paths"),
     ("prepare", "the book's step, made ready"),
     ("verdict", "the verdict on the staging of the plan"),
 ]

@@ -33,7 +33,7 @@ pub enum Case {
     Copy,
     /// The steps of that plan are tried on a copy of it.
     Trial,
-    /// The paths are counted.
+    /// What the storage groups offer is counted.
     Paths,
     /// A step of the book is made ready.
     Prepare,
