@@ -49,11 +49,17 @@ pub enum See {
 }
 
 /// The name of this text.
+///
+/// # Errors
+/// Where it is no name.
 pub fn name(text: &str) -> Result<Name, Fail> {
     Ok(Name::read(text)?)
 }
 
 /// The port of this number.
+///
+/// # Errors
+/// Where it is 0.
 pub fn port(number: u64) -> Result<Wwn, Fail> {
     if number == 0 {
         return Err(Fail::from("port"));
@@ -109,6 +115,9 @@ fn put_volume(
 }
 
 /// The plan of a name and the text of its steps, to be staged.
+///
+/// # Errors
+/// Where one text is no name or the other no plan, or there is no memory.
 pub fn stage(alloc: Global, plan: &str, text: &str) -> Result<Command<Global>, Fail> {
     let plan = name(plan)?;
     let steps = read_plan(alloc, text)?;
@@ -190,6 +199,9 @@ fn on_names(ask: Ask) -> Result<Command<Global>, Fail> {
 }
 
 /// The command.
+///
+/// # Errors
+/// Where what is asked is no command, or there is no memory.
 pub fn command(alloc: Global, ask: Ask) -> Result<Command<Global>, Fail> {
     match ask {
         Ask::Import(fabric, text) => import(alloc, fabric, text),

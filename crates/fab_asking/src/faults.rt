@@ -99,6 +99,9 @@ fn tell_plan_fault(text: &mut String, fault: DeskFault) -> Result<(), AllocError
 }
 
 /// Writes the refusal.
+///
+/// # Errors
+/// Where there is no memory.
 pub fn tell_fault(text: &mut String, fault: DeskFault) -> Result<(), AllocError> {
     match fault {
         DeskFault::NoCaller => write!(text, "no-caller"),

@@ -18,5 +18,8 @@ pub use asks::{Ask, See, command};
 pub use desk::{Turn, holds, holds_in, is_told, opened};
 pub use lists::holds_at_once;
 pub use policies::policy;
-pub use stages::{ADA, FIRST, FIRST_PLAN, I1, I2, I3, NO_PORTS, PORTS, SECOND, TP1, TP2, WORLD};
+pub use stages::{
+    ADA, FIRST, FIRST_INITIATOR, FIRST_PLAN, FIRST_TARGET, NO_PORTS, PORTS, SECOND,
+    SECOND_INITIATOR, SECOND_TARGET, THIRD_INITIATOR, WORLD,
+};
 pub use wide::Wide;

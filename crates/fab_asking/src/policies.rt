@@ -5,6 +5,9 @@ use std::alloc::Global;
 use std::test::Fail;
 
 /// The policy.
+///
+/// # Errors
+/// Where there is no memory.
 pub fn policy(alloc: Global) -> Result<Policy, Fail> {
     let Ok(policy) = Policy::read(alloc, TRIAL_POLICY) else {
         return Err(Fail::from("policy"));

@@ -8,6 +8,9 @@ use fab_reach::{Delta, Path};
 use std::alloc::{AllocError, Global};
 
 /// Writes the paths, each on a line of its own behind the sign.
+///
+/// # Errors
+/// Where there is no memory.
 pub fn tell_paths(text: &mut String, sign: &str, paths: &[Path]) -> Result<(), AllocError> {
     for path in paths {
         write!(
@@ -40,6 +43,9 @@ fn tell_done(
 }
 
 /// Writes the reply.
+///
+/// # Errors
+/// Where there is no memory.
 pub fn tell(text: &mut String, reply: &Reply<Global>) -> Result<(), AllocError> {
     match reply {
         Reply::Changed { revision } => write!(text, "changed at {revision}"),

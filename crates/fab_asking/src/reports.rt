@@ -184,6 +184,9 @@ fn tell_group(text: &mut String, shown: &Shown<Global>) -> Result<(), AllocError
 }
 
 /// Writes what a read shows.
+///
+/// # Errors
+/// Where there is no memory.
 pub fn tell_shown(text: &mut String, shown: &Shown<Global>) -> Result<(), AllocError> {
     match shown {
         Shown::Paths { host, paths } => {

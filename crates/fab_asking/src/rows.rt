@@ -3,24 +3,24 @@
 
 use crate::asks::{Ask, See};
 use crate::desk::Turn;
-use crate::stages::{ADA, I1, NO_PORTS, PORTS, TP1, TP2};
+use crate::stages::{ADA, FIRST_INITIATOR, FIRST_TARGET, NO_PORTS, PORTS, SECOND_TARGET};
 use fab_inventory::HolderKind::Host;
 use fab_names::Fabric;
 
 /// An empty list takes all ports of its fabric out.
-pub const ROW_3: &[Turn] = &[
+pub const PORTS_GONE: &[Turn] = &[
     (ADA, 0, Ask::Import(Fabric::A, NO_PORTS), "changed at 8"),
     (ADA, 0, Ask::Show(See::Paths("db1")), "paths db1"),
     (
         ADA,
         0,
-        Ask::Show(See::Port(I1)),
+        Ask::Show(See::Port(FIRST_INITIATOR)),
         "port 10:00:00:00:00:00:00:01 20:00:00:00:00:00:00:01 nowhere",
     ),
 ];
 
 /// What is active is a copy, until it is activated again.
-pub const ROW_6: &[Turn] = &[
+pub const ACTIVE_IS_A_COPY: &[Turn] = &[
     (
         ADA,
         0,
@@ -44,7 +44,7 @@ pub const ROW_6: &[Turn] = &[
 ];
 
 /// Zones overlap, and one of them is enough.
-pub const ROW_7: &[Turn] = &[
+pub const ZONES_OVERLAP: &[Turn] = &[
     (
         ADA,
         0,
@@ -65,13 +65,23 @@ activate A s1
         "staged p3 of 2",
     ),
     (ADA, 0, Ask::DryRun("p3"), "tried p3"),
-    (ADA, 0, Ask::Show(See::Joined(I1, TP1)), "joined by zone z1"),
+    (
+        ADA,
+        0,
+        Ask::Show(See::Joined(FIRST_INITIATOR, FIRST_TARGET)),
+        "joined by zone z1",
+    ),
     (ADA, 0, Ask::Activate("p3"), "done p3 at 9"),
-    (ADA, 0, Ask::Show(See::Joined(I1, TP1)), "joined by zone z2"),
+    (
+        ADA,
+        0,
+        Ask::Show(See::Joined(FIRST_INITIATOR, FIRST_TARGET)),
+        "joined by zone z2",
+    ),
 ];
 
 /// A port that is in a zone is not in the default zone.
-pub const ROW_8: &[Turn] = &[
+pub const DEFAULT_ZONE: &[Turn] = &[
     (
         ADA,
         0,
@@ -99,7 +109,7 @@ pub const ROW_8: &[Turn] = &[
 ];
 
 /// A place stands for all ports that are logged in there, and a node for all its ports.
-pub const ROW_9: &[Turn] = &[
+pub const PLACE_AND_NODE: &[Turn] = &[
     (
         ADA,
         0,
@@ -112,18 +122,23 @@ activate A s1
         ),
         "staged p3 of 3",
     ),
-    (ADA, 0, Ask::Show(See::Joined(TP1, TP2)), "apart"),
+    (
+        ADA,
+        0,
+        Ask::Show(See::Joined(FIRST_TARGET, SECOND_TARGET)),
+        "apart",
+    ),
     (ADA, 0, Ask::Activate("p3"), "done p3 at 9"),
     (
         ADA,
         0,
-        Ask::Show(See::Joined(TP1, TP2)),
+        Ask::Show(See::Joined(FIRST_TARGET, SECOND_TARGET)),
         "joined by zone z4",
     ),
 ];
 
 /// Another volume at a host's unit, and then in place of the first.
-pub const ROW_14: &[Turn] = &[
+pub const UNIT_CLASH: &[Turn] = &[
     (
         ADA,
         0,
@@ -187,7 +202,7 @@ pub const UNMAPPED: &[Turn] = &[
 ];
 
 /// The volume goes, so that the way back is barred.
-pub const ROW_15: &[Turn] = &[
+pub const VOLUME_GONE: &[Turn] = &[
     (ADA, 0, Ask::DropVolume("v1"), "changed at 9"),
     (ADA, 0, Ask::Rollback("p2"), "gone volume v1"),
     (ADA, 0, Ask::Rollback("p1"), "not-last p2"),
@@ -212,7 +227,12 @@ pub const UNDONE: &[Turn] = &[
         "done p1 at 10
 -A 10:00:00:00:00:00:00:01 50:00:00:00:00:00:00:01 v1 0",
     ),
-    (ADA, 0, Ask::Show(See::Joined(I1, TP1)), "apart"),
+    (
+        ADA,
+        0,
+        Ask::Show(See::Joined(FIRST_INITIATOR, FIRST_TARGET)),
+        "apart",
+    ),
     (ADA, 0, Ask::Show(See::Group("g1")), "not-found"),
     (ADA, 0, Ask::Drop(Host, "db1"), "changed at 11"),
 ];
@@ -248,10 +268,10 @@ pub const THAWED: &[Turn] = &[(ADA, 351_000, Ask::Activate("q1"), "done q1 at 7"
 pub const LATE: &[Turn] = &[(ADA, 352_799, Ask::Activate("q1"), "done q1 at 7")];
 
 /// The moments at which the window is shut, and those at which it is open.
-pub const ROW_10: [&[Turn]; 4] = [SHUT, FREEZING, THAWED, LATE];
+pub const WINDOW: [&[Turn]; 4] = [SHUT, FREEZING, THAWED, LATE];
 
 /// No approval, and a caller without the role.
-pub const ROW_11: &[Turn] = &[
+pub const NO_APPROVAL: &[Turn] = &[
     ("t-eve", 349_200, Ask::Activate("q1"), "denied 1 ops role"),
     (
         ADA,
@@ -262,7 +282,7 @@ pub const ROW_11: &[Turn] = &[
 ];
 
 /// The author's approval is none, one caller's two are one, and all are stale after a change.
-pub const ROW_12: &[Turn] = &[
+pub const APPROVALS: &[Turn] = &[
     (ADA, 349_200, Ask::Approve("q1"), "own-plan"),
     (
         "t-bob",
@@ -298,7 +318,7 @@ pub const ROW_12: &[Turn] = &[
 ];
 
 /// A plan that the records refuse: nothing of it is done, and the policy is asked before.
-pub const ROW_13: &[Turn] = &[
+pub const REFUSED_PLAN: &[Turn] = &[
     (
         ADA,
         0,
@@ -312,6 +332,11 @@ set.put A s8 z9
         "staged r1 of 3",
     ),
     (ADA, 0, Ask::Activate("r1"), "step 3 unknown z9"),
-    (ADA, 0, Ask::Show(See::Joined(I1, TP1)), "apart"),
+    (
+        ADA,
+        0,
+        Ask::Show(See::Joined(FIRST_INITIATOR, FIRST_TARGET)),
+        "apart",
+    ),
     ("t-eve", 0, Ask::Activate("r1"), "denied 1 ops role"),
 ];

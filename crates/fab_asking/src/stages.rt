@@ -5,15 +5,20 @@ use crate::desk::Turn;
 use fab_inventory::HolderKind::{Array, Host};
 use fab_names::Fabric;
 
-pub const I1: u64 = 0x1000_0000_0000_0001;
+/// The port of the first host.
+pub const FIRST_INITIATOR: u64 = 0x1000_0000_0000_0001;
 
-pub const I2: u64 = 0x1000_0000_0000_0002;
+/// A port of the second host.
+pub const SECOND_INITIATOR: u64 = 0x1000_0000_0000_0002;
 
-pub const I3: u64 = 0x1000_0000_0000_0003;
+/// The other port of the second host, logged in at the same place.
+pub const THIRD_INITIATOR: u64 = 0x1000_0000_0000_0003;
 
-pub const TP1: u64 = 0x5000_0000_0000_0001;
+/// A port of the array.
+pub const FIRST_TARGET: u64 = 0x5000_0000_0000_0001;
 
-pub const TP2: u64 = 0x5000_0000_0000_0002;
+/// The other port of the array, of the same node.
+pub const SECOND_TARGET: u64 = 0x5000_0000_0000_0002;
 
 /// A port list without records.
 pub const NO_PORTS: &str = "port_name,node_name,domain,port\n";
@@ -58,17 +63,22 @@ pub const ADA: &str = "t-ada";
 /// The worked world: ports, two hosts, an array, two volumes.
 pub const WORLD: &[Turn] = &[
     (ADA, 0, Ask::Import(Fabric::A, PORTS), "changed at 1"),
-    (ADA, 0, Ask::Put(Host, "db1", "blue", &[I1]), "changed at 2"),
     (
         ADA,
         0,
-        Ask::Put(Host, "db2", "green", &[I2, I3]),
+        Ask::Put(Host, "db1", "blue", &[FIRST_INITIATOR]),
+        "changed at 2",
+    ),
+    (
+        ADA,
+        0,
+        Ask::Put(Host, "db2", "green", &[SECOND_INITIATOR, THIRD_INITIATOR]),
         "changed at 3",
     ),
     (
         ADA,
         0,
-        Ask::Put(Array, "arr1", "store", &[TP1, TP2]),
+        Ask::Put(Array, "arr1", "store", &[FIRST_TARGET, SECOND_TARGET]),
         "changed at 4",
     ),
     (
@@ -109,7 +119,12 @@ pub const FIRST: &[Turn] = &[
         "paths db1
 A 10:00:00:00:00:00:00:01 50:00:00:00:00:00:00:01 v1 0",
     ),
-    (ADA, 0, Ask::Show(See::Joined(I1, TP1)), "joined by zone z1"),
+    (
+        ADA,
+        0,
+        Ask::Show(See::Joined(FIRST_INITIATOR, FIRST_TARGET)),
+        "joined by zone z1",
+    ),
 ];
 
 /// The second worked plan.

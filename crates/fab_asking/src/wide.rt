@@ -121,6 +121,9 @@ fn plan(alloc: Global, units: u64) -> Result<Command<Global>, Fail> {
 }
 
 /// The command for a part.
+///
+/// # Errors
+/// Where the list is longer than 65536, the text of the plan is none, or there is no memory.
 pub fn command_for(alloc: Global, part: Wide) -> Result<Command<Global>, Fail> {
     match part {
         Wide::Ports => import(alloc, 96),

@@ -3,7 +3,7 @@
 use crate::desks::{DeskOver, store_after, tables_of};
 use crate::lists::List;
 use crate::memory::{Tables, tables_after};
-use fab_asking::{ADA, Ask, FIRST, NO_PORTS, See, TP1, TP2, Turn, policy};
+use fab_asking::{ADA, Ask, FIRST, FIRST_TARGET, NO_PORTS, SECOND_TARGET, See, Turn, policy};
 use fab_inventory::HolderKind::Array;
 use fab_names::Fabric;
 use fab_stores::{OpenFault, Store, Table};
@@ -31,13 +31,13 @@ const MOVED: &[Turn] = &[
     (
         ADA,
         0,
-        Ask::Put(Array, "arr1", "store", &[TP1]),
+        Ask::Put(Array, "arr1", "store", &[FIRST_TARGET]),
         "changed at 8",
     ),
     (
         ADA,
         0,
-        Ask::Put(Array, "arr2", "store", &[TP2]),
+        Ask::Put(Array, "arr2", "store", &[SECOND_TARGET]),
         "changed at 9",
     ),
 ];

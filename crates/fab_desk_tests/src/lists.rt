@@ -1,8 +1,9 @@
 //! The worked lists of turns, by name: a table of names is cheaper to prove than one of lists.
 
 use fab_asking::rows::{
-    FREEZING, LATE, ROW_3, ROW_6, ROW_7, ROW_8, ROW_9, ROW_11, ROW_12, ROW_13, ROW_14, ROW_15,
-    SHUT, SIGNED, STAGED, THAWED, UNDONE, UNMAPPED,
+    ACTIVE_IS_A_COPY, APPROVALS, DEFAULT_ZONE, FREEZING, LATE, NO_APPROVAL, PLACE_AND_NODE,
+    PORTS_GONE, REFUSED_PLAN, SHUT, SIGNED, STAGED, THAWED, UNDONE, UNIT_CLASH, UNMAPPED,
+    VOLUME_GONE, ZONES_OVERLAP,
 };
 use fab_asking::{FIRST, SECOND, Turn, WORLD};
 
@@ -47,9 +48,9 @@ fn turns_on_fabric_b(list: List) -> &'static [Turn] {
         List::Freezing => FREEZING,
         List::Thawed => THAWED,
         List::Late => LATE,
-        List::Row11 => ROW_11,
-        List::Row12 => ROW_12,
-        _ => ROW_13,
+        List::Row11 => NO_APPROVAL,
+        List::Row12 => APPROVALS,
+        _ => REFUSED_PLAN,
     }
 }
 
@@ -59,14 +60,14 @@ pub fn turns_of(list: List) -> &'static [Turn] {
         List::World => WORLD,
         List::First => FIRST,
         List::Second => SECOND,
-        List::Row3 => ROW_3,
-        List::Row6 => ROW_6,
-        List::Row7 => ROW_7,
-        List::Row8 => ROW_8,
-        List::Row9 => ROW_9,
-        List::Row14 => ROW_14,
+        List::Row3 => PORTS_GONE,
+        List::Row6 => ACTIVE_IS_A_COPY,
+        List::Row7 => ZONES_OVERLAP,
+        List::Row8 => DEFAULT_ZONE,
+        List::Row9 => PLACE_AND_NODE,
+        List::Row14 => UNIT_CLASH,
         List::Unmapped => UNMAPPED,
-        List::Row15 => ROW_15,
+        List::Row15 => VOLUME_GONE,
         List::Undone => UNDONE,
         _ => turns_on_fabric_b(list),
     }

@@ -5,7 +5,7 @@ use crate::desks::{Came, DeskOver, ask, ask_all, left, opened};
 use crate::lists::{List, turns_of};
 use crate::memory::{Tables, tables};
 use crate::worlds::are_kept;
-use fab_asking::{ADA, Ask, I1, NO_PORTS, See, TP1, Turn, policy};
+use fab_asking::{ADA, Ask, FIRST_INITIATOR, FIRST_TARGET, NO_PORTS, See, Turn, policy};
 use fab_desk::Desk;
 use fab_names::Fabric;
 use fab_stores::{OpenFault, RefusingStore, Store};
@@ -50,7 +50,12 @@ fn is_released<S: Store<Global>>(desk: &mut DeskRefused<S>) -> bool {
 /// What a halted desk answers.
 const HALTED: &[Turn] = &[
     (ADA, 0, Ask::Show(See::Paths("db1")), "halted"),
-    (ADA, 0, Ask::Show(See::Joined(I1, TP1)), "halted"),
+    (
+        ADA,
+        0,
+        Ask::Show(See::Joined(FIRST_INITIATOR, FIRST_TARGET)),
+        "halted",
+    ),
     (ADA, 0, Ask::Import(Fabric::A, NO_PORTS), "halted"),
     ("t-zed", 0, Ask::DropVolume("v1"), "no-caller"),
 ];

@@ -1,6 +1,6 @@
 //! The worked requests of which each run makes some.
 
-use fab_asking::rows::{ROW_6, ROW_9, ROW_15, UNMAPPED};
+use fab_asking::rows::{ACTIVE_IS_A_COPY, PLACE_AND_NODE, UNMAPPED, VOLUME_GONE};
 use fab_asking::{FIRST, SECOND, Turn, WORLD};
 use std::alloc::Global;
 use std::test::Fail;
@@ -18,9 +18,9 @@ pub enum Worked {
 fn rest(row: Worked) -> [&'static [Turn]; 2] {
     match row {
         Worked::Row5 => [&[], &[]],
-        Worked::Row6 => [ROW_6, &[]],
-        Worked::Row9 => [SECOND, ROW_9],
-        Worked::Row15 => [UNMAPPED, ROW_15],
+        Worked::Row6 => [ACTIVE_IS_A_COPY, &[]],
+        Worked::Row9 => [SECOND, PLACE_AND_NODE],
+        Worked::Row15 => [UNMAPPED, VOLUME_GONE],
     }
 }
 

@@ -18,7 +18,7 @@ pub const WORLD: &[&str] = &[
 ];
 
 /// The first worked plan staged, tried and activated.
-pub const ROW_5: &[&str] = &[
+pub const FIRST_PLAN: &[&str] = &[
     r#"ada PUT /plans/p1 alias.put A disk wwpn=50:00:00:00:00:00:00:01
 zone.put A z1 wwpn=10:00:00:00:00:00:00:01 alias=disk
 set.put A s1 z1
@@ -37,7 +37,7 @@ sg.expose g1
 ];
 
 /// An alias put anew moves no path before the set is activated again.
-pub const ROW_6: &[&str] = &[
+pub const ALIAS_PUT_ANEW: &[&str] = &[
     r#"ada PUT /plans/p2 alias.put A disk wwpn=50:00:00:00:00:00:00:02
  -> 200 OK: {"plan":"p2","steps":1}"#,
     r#"ada POST /plans/p2/activate -> 200 OK: {"gained":[],"lost":[],"plan":"p2","revision":8}"#,
@@ -48,7 +48,7 @@ pub const ROW_6: &[&str] = &[
 
 /// The second worked plan after the first: the second host gets the second volume, by a zone of a
 /// place at which both its ports are logged in.
-pub const ROW_9: &[&str] = &[
+pub const SECOND_PLAN: &[&str] = &[
     r#"ada PUT /plans/p2 zone.put A z3 dp=12,5 wwpn=50:00:00:00:00:00:00:01
 set.put A s1 z1 z3
 activate A s1
@@ -63,7 +63,7 @@ sg.expose g2
 ];
 
 /// Approvals by the author, by one caller twice, by two, and of an earlier revision.
-pub const ROW_12: &[&str] = &[
+pub const APPROVALS: &[&str] = &[
     r#"ada@349200 PUT /plans/q1 default B deny
  -> 200 OK: {"plan":"q1","steps":1}"#,
     r#"ada@349200 POST /plans/q1/approve -> 409 Conflict: {"code":19,"error":"own-plan"}"#,
@@ -82,7 +82,7 @@ pub const ROW_12: &[&str] = &[
 ];
 
 /// Two volumes at one unit, and one in place of the other.
-pub const ROW_14: &[&str] = &[
+pub const UNIT_CLASH: &[&str] = &[
     r#"ada PUT /plans/p2 sg.new g3 blue arr1
 sg.host g3 hosts1
 sg.target g3 50:00:00:00:00:00:00:01
@@ -108,7 +108,7 @@ pub const UNMAPPED: &[&str] = &[
 ];
 
 /// A rollback once the volume is gone.
-pub const ROW_15: &[&str] = &[
+pub const VOLUME_GONE: &[&str] = &[
     r#"ada DELETE /volumes/v1 -> 200 OK: {"revision":9}"#,
     r#"ada POST /plans/p2/rollback -> 409 Conflict: {"code":18,"error":"gone","name":"v1"}"#,
     r#"ada POST /plans/p1/rollback -> 409 Conflict: {"code":17,"error":"not-last","last":"p2"}"#,

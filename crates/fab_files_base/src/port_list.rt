@@ -25,8 +25,10 @@ pub enum FileFault {
 /// Reads the rows of a port list: the header `port_name,node_name,domain,port`, and then a record
 /// of four fields for each row, as `csv` reads records.
 ///
-/// `Line` names the first record that is none of these, and 1 where there is no record. Rows come
-/// from `alloc`, and what `csv` needs from `global`.
+/// Rows come from `alloc`, and what `csv` needs from `global`.
+///
+/// # Errors
+/// `Line` with the first record that is none of these, and 1 where there is no record; `Memory`.
 pub fn read_ports<A: Allocator + Copy>(
     alloc: A,
     global: Global,

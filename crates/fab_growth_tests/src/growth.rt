@@ -10,7 +10,8 @@ use super::desks::{Tables, desk_of, new_tables};
 use super::tables::{opened_again, with_world};
 use fab_desk::Desk;
 use fab_exchanges::rows::{
-    ROLLED_BACK, ROW_5, ROW_6, ROW_9, ROW_12, ROW_14, ROW_15, UNMAPPED, WORLD,
+    ALIAS_PUT_ANEW, APPROVALS, FIRST_PLAN, ROLLED_BACK, SECOND_PLAN, UNIT_CLASH, UNMAPPED,
+    VOLUME_GONE, WORLD,
 };
 use fab_reach::{PathBook, PlainBook};
 use fab_refusing::Refusing;
@@ -252,13 +253,13 @@ fn try_row(global: Global, way: Way, row: &Row) -> Result<(), Fail> {
 /// The worked world and the worked rows.
 const ROWS: [Row; 8] = [
     (&[], WORLD),
-    (&[WORLD], ROW_5),
-    (&[WORLD, ROW_5], ROW_6),
-    (&[WORLD, ROW_5], ROW_9),
-    (&[WORLD], ROW_12),
-    (&[WORLD, ROW_5], ROW_14),
-    (&[WORLD, ROW_5, UNMAPPED], ROW_15),
-    (&[WORLD, ROW_5, UNMAPPED], ROLLED_BACK),
+    (&[WORLD], FIRST_PLAN),
+    (&[WORLD, FIRST_PLAN], ALIAS_PUT_ANEW),
+    (&[WORLD, FIRST_PLAN], SECOND_PLAN),
+    (&[WORLD], APPROVALS),
+    (&[WORLD, FIRST_PLAN], UNIT_CLASH),
+    (&[WORLD, FIRST_PLAN, UNMAPPED], VOLUME_GONE),
+    (&[WORLD, FIRST_PLAN, UNMAPPED], ROLLED_BACK),
 ];
 
 #[test]

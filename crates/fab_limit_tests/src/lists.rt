@@ -1,12 +1,19 @@
 //! Lists of requests are answered as the same requests one by one.
 
-use fab_asking::{ADA, Ask, FIRST, I1, SECOND, See, TP1, Turn, WORLD, holds, holds_at_once};
+use fab_asking::{
+    ADA, Ask, FIRST, FIRST_INITIATOR, FIRST_TARGET, SECOND, See, Turn, WORLD, holds, holds_at_once,
+};
 use std::alloc::Global;
 use std::test::Fail;
 
 /// Requests that are answered by what those before them in the list left, refused ones among them.
 const MIXED: &[Turn] = &[
-    ("t-zed", 0, Ask::Show(See::Joined(I1, TP1)), "no-caller"),
+    (
+        "t-zed",
+        0,
+        Ask::Show(See::Joined(FIRST_INITIATOR, FIRST_TARGET)),
+        "no-caller",
+    ),
     (ADA, 0, Ask::Rollback("p1"), "not-last p2"),
     (
         ADA,
@@ -24,7 +31,12 @@ const MIXED: &[Turn] = &[
         "done p1 at 10
 -A 10:00:00:00:00:00:00:01 50:00:00:00:00:00:00:01 v1 0",
     ),
-    (ADA, 0, Ask::Show(See::Joined(I1, TP1)), "apart"),
+    (
+        ADA,
+        0,
+        Ask::Show(See::Joined(FIRST_INITIATOR, FIRST_TARGET)),
+        "apart",
+    ),
     (ADA, 0, Ask::Rollback("p1"), "wrong-state rolled-back"),
     (ADA, 0, Ask::DropVolume("v2"), "changed at 11"),
     (ADA, 0, Ask::DropVolume("v2"), "not-found"),

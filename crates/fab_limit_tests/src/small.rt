@@ -3,7 +3,7 @@ ghost use Rattle.std.specs.Prelude.{◌<◌};
 ghost use Rattle.fab_world.specs.Soundness.{IsSound};
 ghost use Rattle.fab_world.specs.Worlds.{records_of};
 
-use fab_asking::{ADA, FIRST_PLAN, I1, TP1, opened};
+use fab_asking::{ADA, FIRST_INITIATOR, FIRST_PLAN, FIRST_TARGET, opened};
 use fab_changes::changes;
 use fab_desk_base::{Command, DeskFault, Query, Reply, Shown};
 use fab_files_base::port_list::read_ports;
@@ -128,8 +128,8 @@ fn paths<'a>() -> Result<Command<Heap<'a>>, Fail> {
 pub fn command(heap: Heap<'_>, alloc: Global, order: Order) -> Result<Command<Heap<'_>>, Fail> {
     match order {
         Order::Ports => import(heap, alloc, PORTS),
-        Order::Host => put(heap, HolderKind::Host, "db1", I1),
-        Order::Array => put(heap, HolderKind::Array, "arr1", TP1),
+        Order::Host => put(heap, HolderKind::Host, "db1", FIRST_INITIATOR),
+        Order::Array => put(heap, HolderKind::Array, "arr1", FIRST_TARGET),
         Order::Volume => put_volume(),
         Order::Stage => stage(heap),
         Order::Activate => activate(),

@@ -1,7 +1,13 @@
 //! The worked changes: what each gains and loses, and what is there then.
 
-use fab_asking::rows::{ROW_3, ROW_6, ROW_7, ROW_8, ROW_9, ROW_14, ROW_15, UNDONE, UNMAPPED};
-use fab_asking::{ADA, Ask, FIRST, FIRST_PLAN, I1, NO_PORTS, SECOND, See, TP1, Turn, WORLD, holds};
+use fab_asking::rows::{
+    ACTIVE_IS_A_COPY, DEFAULT_ZONE, PLACE_AND_NODE, PORTS_GONE, UNDONE, UNIT_CLASH, UNMAPPED,
+    VOLUME_GONE, ZONES_OVERLAP,
+};
+use fab_asking::{
+    ADA, Ask, FIRST, FIRST_INITIATOR, FIRST_PLAN, FIRST_TARGET, NO_PORTS, SECOND, See, Turn, WORLD,
+    holds,
+};
 use fab_names::Fabric;
 use std::test::Fail;
 
@@ -19,7 +25,12 @@ const ROW_2: &[Turn] = &[
         ),
         "changed at 1",
     ),
-    (ADA, 0, Ask::Show(See::Joined(I1, TP1)), "apart"),
+    (
+        ADA,
+        0,
+        Ask::Show(See::Joined(FIRST_INITIATOR, FIRST_TARGET)),
+        "apart",
+    ),
     (
         ADA,
         0,
@@ -27,8 +38,18 @@ const ROW_2: &[Turn] = &[
         "staged p1 of 1",
     ),
     (ADA, 0, Ask::Activate("p1"), "done p1 at 2"),
-    (ADA, 0, Ask::Show(See::Joined(I1, TP1)), "joined by default"),
-    (ADA, 0, Ask::Show(See::Joined(I1, I1)), "apart"),
+    (
+        ADA,
+        0,
+        Ask::Show(See::Joined(FIRST_INITIATOR, FIRST_TARGET)),
+        "joined by default",
+    ),
+    (
+        ADA,
+        0,
+        Ask::Show(See::Joined(FIRST_INITIATOR, FIRST_INITIATOR)),
+        "apart",
+    ),
 ];
 
 #[test]
@@ -39,7 +60,7 @@ fn row_2(rt: HostRuntime) -> Result<(), Fail> {
 
 #[test]
 fn row_3(rt: HostRuntime) -> Result<(), Fail> {
-    assert!(rt; holds(rt.alloc(), &[WORLD, FIRST, ROW_3])?);
+    assert!(rt; holds(rt.alloc(), &[WORLD, FIRST, PORTS_GONE])?);
     Ok(())
 }
 
@@ -79,37 +100,37 @@ fn row_5(rt: HostRuntime) -> Result<(), Fail> {
 
 #[test]
 fn row_6(rt: HostRuntime) -> Result<(), Fail> {
-    assert!(rt; holds(rt.alloc(), &[WORLD, FIRST, ROW_6])?);
+    assert!(rt; holds(rt.alloc(), &[WORLD, FIRST, ACTIVE_IS_A_COPY])?);
     Ok(())
 }
 
 #[test]
 fn row_7(rt: HostRuntime) -> Result<(), Fail> {
-    assert!(rt; holds(rt.alloc(), &[WORLD, FIRST, ROW_7])?);
+    assert!(rt; holds(rt.alloc(), &[WORLD, FIRST, ZONES_OVERLAP])?);
     Ok(())
 }
 
 #[test]
 fn row_8(rt: HostRuntime) -> Result<(), Fail> {
-    assert!(rt; holds(rt.alloc(), &[WORLD, FIRST, ROW_8])?);
+    assert!(rt; holds(rt.alloc(), &[WORLD, FIRST, DEFAULT_ZONE])?);
     Ok(())
 }
 
 #[test]
 fn row_9(rt: HostRuntime) -> Result<(), Fail> {
-    assert!(rt; holds(rt.alloc(), &[WORLD, FIRST, SECOND, ROW_9])?);
+    assert!(rt; holds(rt.alloc(), &[WORLD, FIRST, SECOND, PLACE_AND_NODE])?);
     Ok(())
 }
 
 #[test]
 fn row_14(rt: HostRuntime) -> Result<(), Fail> {
-    assert!(rt; holds(rt.alloc(), &[WORLD, FIRST, ROW_14])?);
+    assert!(rt; holds(rt.alloc(), &[WORLD, FIRST, UNIT_CLASH])?);
     Ok(())
 }
 
 #[test]
 fn row_15(rt: HostRuntime) -> Result<(), Fail> {
-    assert!(rt; holds(rt.alloc(), &[WORLD, FIRST, UNMAPPED, ROW_15])?);
+    assert!(rt; holds(rt.alloc(), &[WORLD, FIRST, UNMAPPED, VOLUME_GONE])?);
     Ok(())
 }
 

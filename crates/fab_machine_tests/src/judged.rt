@@ -1,14 +1,17 @@
 //! What the policy allows and denies.
 
-use fab_asking::rows::{ROW_10, ROW_11, ROW_12, ROW_13, SIGNED, STAGED};
-use fab_asking::{ADA, Ask, FIRST, I1, I2, PORTS, SECOND, See, TP1, Turn, WORLD, holds};
+use fab_asking::rows::{APPROVALS, NO_APPROVAL, REFUSED_PLAN, SIGNED, STAGED, WINDOW};
+use fab_asking::{
+    ADA, Ask, FIRST, FIRST_INITIATOR, FIRST_TARGET, PORTS, SECOND, SECOND_INITIATOR, See, Turn,
+    WORLD, holds,
+};
 use fab_inventory::HolderKind::Host;
 use fab_names::Fabric;
 use std::test::Fail;
 
 #[test]
 fn row_10(rt: HostRuntime) -> Result<(), Fail> {
-    for turns in ROW_10 {
+    for turns in WINDOW {
         assert!(rt; holds(rt.alloc(), &[WORLD, STAGED, SIGNED, turns])?);
     }
     Ok(())
@@ -16,19 +19,19 @@ fn row_10(rt: HostRuntime) -> Result<(), Fail> {
 
 #[test]
 fn row_11(rt: HostRuntime) -> Result<(), Fail> {
-    assert!(rt; holds(rt.alloc(), &[WORLD, STAGED, ROW_11])?);
+    assert!(rt; holds(rt.alloc(), &[WORLD, STAGED, NO_APPROVAL])?);
     Ok(())
 }
 
 #[test]
 fn row_12(rt: HostRuntime) -> Result<(), Fail> {
-    assert!(rt; holds(rt.alloc(), &[WORLD, STAGED, ROW_12])?);
+    assert!(rt; holds(rt.alloc(), &[WORLD, STAGED, APPROVALS])?);
     Ok(())
 }
 
 #[test]
 fn row_13(rt: HostRuntime) -> Result<(), Fail> {
-    assert!(rt; holds(rt.alloc(), &[WORLD, ROW_13])?);
+    assert!(rt; holds(rt.alloc(), &[WORLD, REFUSED_PLAN])?);
     Ok(())
 }
 
@@ -84,25 +87,25 @@ const PUTS: &[Turn] = &[
     (
         "t-eve",
         0,
-        Ask::Put(Host, "db2", "green", &[I2]),
+        Ask::Put(Host, "db2", "green", &[SECOND_INITIATOR]),
         "denied 1 ops role",
     ),
     (
         "t-cyd",
         0,
-        Ask::Put(Host, "db2", "green", &[I2]),
+        Ask::Put(Host, "db2", "green", &[SECOND_INITIATOR]),
         "denied 5 own scope",
     ),
     (
         "t-cyd",
         0,
-        Ask::Put(Host, "db2", "blue", &[I2]),
+        Ask::Put(Host, "db2", "blue", &[SECOND_INITIATOR]),
         "denied 5 own scope",
     ),
     (
         "t-cyd",
         0,
-        Ask::Put(Host, "db1", "blue", &[I1]),
+        Ask::Put(Host, "db1", "blue", &[FIRST_INITIATOR]),
         "changed at 7",
     ),
     ("t-zed", 0, Ask::Put(Host, "db1", "blue", &[]), "no-caller"),

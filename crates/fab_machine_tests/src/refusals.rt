@@ -1,6 +1,9 @@
 //! What the records refuse, with all that a refusal names.
 
-use fab_asking::{ADA, Ask, FIRST, I1, I2, I3, See, TP1, TP2, Turn, WORLD, Wide, holds};
+use fab_asking::{
+    ADA, Ask, FIRST, FIRST_INITIATOR, FIRST_TARGET, SECOND_INITIATOR, SECOND_TARGET, See,
+    THIRD_INITIATOR, Turn, WORLD, Wide, holds,
+};
 use fab_inventory::HolderKind::{Array, Host};
 use fab_names::Fabric;
 use std::test::Fail;
@@ -25,25 +28,30 @@ const STOCK: &[Turn] = &[
     (
         ADA,
         0,
-        Ask::Put(Host, "db1", "blue", &[I1, 9, 8]),
+        Ask::Put(Host, "db1", "blue", &[FIRST_INITIATOR, 9, 8]),
         "unknown 00:00:00:00:00:00:00:08",
     ),
     (
         ADA,
         0,
-        Ask::Put(Host, "db1", "blue", &[TP1, I3, I2]),
+        Ask::Put(
+            Host,
+            "db1",
+            "blue",
+            &[FIRST_TARGET, THIRD_INITIATOR, SECOND_INITIATOR],
+        ),
         "in-use 10:00:00:00:00:00:00:02 db2",
     ),
     (
         ADA,
         0,
-        Ask::Put(Array, "arr1", "store", &[TP2]),
+        Ask::Put(Array, "arr1", "store", &[SECOND_TARGET]),
         "in-use 50:00:00:00:00:00:00:01 g1",
     ),
     (
         ADA,
         0,
-        Ask::Put(Array, "arr1", "store", &[TP1]),
+        Ask::Put(Array, "arr1", "store", &[FIRST_TARGET]),
         "changed at 8",
     ),
     (
@@ -171,7 +179,12 @@ const STEPS: &[Turn] = &[
         Ask::Activate("s7"),
         "step 1 unknown 50:00:00:00:00:00:00:09",
     ),
-    (ADA, 0, Ask::Show(See::Joined(I1, TP2)), "apart"),
+    (
+        ADA,
+        0,
+        Ask::Show(See::Joined(FIRST_INITIATOR, SECOND_TARGET)),
+        "apart",
+    ),
 ];
 
 #[test]
@@ -230,7 +243,7 @@ const GONE: [&[Turn]; 4] = [
         (
             ADA,
             0,
-            Ask::Put(Array, "arr1", "store", &[TP2]),
+            Ask::Put(Array, "arr1", "store", &[SECOND_TARGET]),
             "changed at 9",
         ),
         (ADA, 0, Ask::DropVolume("v1"), "changed at 10"),

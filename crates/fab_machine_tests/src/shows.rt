@@ -1,6 +1,9 @@
 //! What reads show.
 
-use fab_asking::{ADA, Ask, FIRST, I1, I2, SECOND, See, TP1, TP2, Turn, WORLD, holds};
+use fab_asking::{
+    ADA, Ask, FIRST, FIRST_INITIATOR, FIRST_TARGET, SECOND, SECOND_INITIATOR, SECOND_TARGET, See,
+    Turn, WORLD, holds,
+};
 use fab_inventory::HolderKind::{Array, Host};
 use fab_names::Fabric;
 use std::test::Fail;
@@ -9,7 +12,7 @@ const INVENTORY: &[Turn] = &[
     (
         ADA,
         0,
-        Ask::Show(See::Port(I2)),
+        Ask::Show(See::Port(SECOND_INITIATOR)),
         "port 10:00:00:00:00:00:00:02 20:00:00:00:00:00:00:02 at A 12,5",
     ),
     (
@@ -88,9 +91,24 @@ wwpn=50:00:00:00:00:00:00:01
 dp=12,5",
     ),
     (ADA, 0, Ask::Show(See::Active(Fabric::B)), "active B deny -"),
-    (ADA, 0, Ask::Show(See::Joined(I2, TP1)), "joined by zone z3"),
-    (ADA, 0, Ask::Show(See::Joined(I1, TP2)), "apart"),
-    (ADA, 0, Ask::Show(See::Joined(I1, 1)), "not-found"),
+    (
+        ADA,
+        0,
+        Ask::Show(See::Joined(SECOND_INITIATOR, FIRST_TARGET)),
+        "joined by zone z3",
+    ),
+    (
+        ADA,
+        0,
+        Ask::Show(See::Joined(FIRST_INITIATOR, SECOND_TARGET)),
+        "apart",
+    ),
+    (
+        ADA,
+        0,
+        Ask::Show(See::Joined(FIRST_INITIATOR, 1)),
+        "not-found",
+    ),
 ];
 
 #[test]
@@ -212,7 +230,7 @@ const FOREIGN: &[Turn] = &[
     (
         "t-eve",
         0,
-        Ask::Show(See::Joined(I1, TP1)),
+        Ask::Show(See::Joined(FIRST_INITIATOR, FIRST_TARGET)),
         "joined by zone z1",
     ),
     (
@@ -221,7 +239,12 @@ const FOREIGN: &[Turn] = &[
         Ask::Show(See::HostGroup("hosts2")),
         "host group hosts2 green\ndb2",
     ),
-    ("t-zed", 0, Ask::Show(See::Joined(I1, TP1)), "no-caller"),
+    (
+        "t-zed",
+        0,
+        Ask::Show(See::Joined(FIRST_INITIATOR, FIRST_TARGET)),
+        "no-caller",
+    ),
 ];
 
 #[test]

@@ -3,7 +3,7 @@
 use crate::edits::{Edit, apply_all};
 use crate::lines::{Line, are, name};
 use crate::records::CONFIG;
-use crate::stock::{I1, TP1, TP2};
+use crate::stock::{FIRST_INITIATOR, FIRST_TARGET, SECOND_TARGET};
 use crate::tables::tables;
 use fab_inventory::HolderKind::{Array, Host};
 use fab_inventory::Inventory;
@@ -71,11 +71,11 @@ const CONFIGURATION: [Damage; 10] = [
         Some(Table::Groups),
     ),
     (
-        &[Edit::Config(16, Line::Target("g9", TP1))],
+        &[Edit::Config(16, Line::Target("g9", FIRST_TARGET))],
         Some(Table::GroupParts),
     ),
     (
-        &[Edit::Config(16, Line::Target("g1", I1))],
+        &[Edit::Config(16, Line::Target("g1", FIRST_INITIATOR))],
         Some(Table::GroupParts),
     ),
     (
@@ -111,8 +111,8 @@ const RECORDS: [Damage; 12] = [
         Some(Table::Undo),
     ),
     (&[Edit::NoPath], Some(Table::Paths)),
-    (&[Edit::Path("db1", TP2)], Some(Table::Paths)),
-    (&[Edit::Path("db2", TP1)], Some(Table::Paths)),
+    (&[Edit::Path("db1", SECOND_TARGET)], Some(Table::Paths)),
+    (&[Edit::Path("db2", FIRST_TARGET)], Some(Table::Paths)),
 ];
 
 /// Of several damaged tables the first is named.
@@ -132,13 +132,16 @@ const SEVERAL: [Damage; 8] = [
     ),
     (
         &[
-            Edit::Config(16, Line::Target("g1", I1)),
+            Edit::Config(16, Line::Target("g1", FIRST_INITIATOR)),
             Edit::Config(17, Line::Elsewhere("g2")),
         ],
         Some(Table::Groups),
     ),
     (
-        &[Edit::Plan("", 0), Edit::Config(16, Line::Target("g1", I1))],
+        &[
+            Edit::Plan("", 0),
+            Edit::Config(16, Line::Target("g1", FIRST_INITIATOR)),
+        ],
         Some(Table::GroupParts),
     ),
     (

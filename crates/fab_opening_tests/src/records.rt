@@ -1,7 +1,7 @@
 //! The rows of the configuration, and what the one activation changed of a new one.
 
 use crate::lines::{Line, name, row};
-use crate::stock::{I1, TP1};
+use crate::stock::{FIRST_INITIATOR, FIRST_TARGET};
 use fab_names::Fabric::{A, B};
 use fab_names::Name;
 use fab_rows::{ConfigRow, Sign, UndoRow};
@@ -18,17 +18,17 @@ pub const CONFIG: [Line; 16] = [
     Line::NoActiveSet(B),
     Line::DefaultZone(A, false),
     Line::DefaultZone(B, false),
-    Line::Alias("disk", TP1),
-    Line::ZonePort("z1", I1),
+    Line::Alias("disk", FIRST_TARGET),
+    Line::ZonePort("z1", FIRST_INITIATOR),
     Line::ZoneAlias("z1", "disk"),
     Line::Set("s1", "z1"),
-    Line::Active("z1", I1),
-    Line::Active("z1", TP1),
+    Line::Active("z1", FIRST_INITIATOR),
+    Line::Active("z1", FIRST_TARGET),
     Line::HostGroup("hosts1"),
     Line::Group("g1", true),
     Line::Host("hosts1", "db1"),
     Line::Serves("g1", "hosts1"),
-    Line::Target("g1", TP1),
+    Line::Target("g1", FIRST_TARGET),
     Line::Unit("g1", 0, "v1"),
 ];
 
@@ -36,17 +36,17 @@ pub const CONFIG: [Line; 16] = [
 const CHANGES: [(Sign, Line); 14] = [
     (Sign::Taken, Line::NoActiveSet(A)),
     (Sign::Added, Line::ActiveSet(A, "s1")),
-    (Sign::Added, Line::Alias("disk", TP1)),
-    (Sign::Added, Line::ZonePort("z1", I1)),
+    (Sign::Added, Line::Alias("disk", FIRST_TARGET)),
+    (Sign::Added, Line::ZonePort("z1", FIRST_INITIATOR)),
     (Sign::Added, Line::ZoneAlias("z1", "disk")),
     (Sign::Added, Line::Set("s1", "z1")),
-    (Sign::Added, Line::Active("z1", I1)),
-    (Sign::Added, Line::Active("z1", TP1)),
+    (Sign::Added, Line::Active("z1", FIRST_INITIATOR)),
+    (Sign::Added, Line::Active("z1", FIRST_TARGET)),
     (Sign::Added, Line::HostGroup("hosts1")),
     (Sign::Added, Line::Group("g1", true)),
     (Sign::Added, Line::Host("hosts1", "db1")),
     (Sign::Added, Line::Serves("g1", "hosts1")),
-    (Sign::Added, Line::Target("g1", TP1)),
+    (Sign::Added, Line::Target("g1", FIRST_TARGET)),
     (Sign::Added, Line::Unit("g1", 0, "v1")),
 ];
 

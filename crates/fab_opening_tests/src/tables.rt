@@ -2,7 +2,7 @@
 
 use crate::lines::{name, port};
 use crate::records::{config_rows, undo_rows};
-use crate::stock::{I1, TP1, stock};
+use crate::stock::{FIRST_INITIATOR, FIRST_TARGET, stock};
 use fab_inventory::Inventory;
 use fab_names::Fabric;
 use fab_reach::Path;
@@ -102,7 +102,7 @@ pub fn put_approval(tables: &mut TableRows<Global>, plan: &str, revision: u64) -
 /// A path of the first host to the first volume.
 pub fn put_path(tables: &mut TableRows<Global>, host: &str, target: u64) -> Result<(), Fail> {
     let (host, volume) = (name(host)?, name("v1")?);
-    let (initiator, target) = (port(I1)?, port(target)?);
+    let (initiator, target) = (port(FIRST_INITIATOR)?, port(target)?);
     let path = Path {
         fabric: Fabric::A,
         initiator,
@@ -128,7 +128,7 @@ fn put_records(alloc: Global, tables: &mut TableRows<Global>) -> Result<(), Fail
     put_plan(alloc, tables, ("p1", PlanState::Active, 1), TEXT)?;
     put_approval(tables, "p1", 6)?;
     put_undo(alloc, tables)?;
-    put_path(tables, "db1", TP1)
+    put_path(tables, "db1", FIRST_TARGET)
 }
 
 /// The rows after the first worked plan.

@@ -2,7 +2,9 @@
 
 use crate::facts::{Link, Way, has_paths, is_linked, sizes};
 use crate::texts::{CLASH, FIFTH, FIRST, NO_ZONE};
-use crate::worlds::{I1, TP1, TP2, name, new_config, port, steps, stock, take};
+use crate::worlds::{
+    FIRST_INITIATOR, FIRST_TARGET, SECOND_TARGET, name, new_config, port, steps, stock, take,
+};
 use fab_inventory::Inventory;
 use fab_mapping::Nexus;
 use fab_plans::{Item, Refusal, StepLimit, TrialFault, trial};
@@ -37,7 +39,7 @@ const ON_NEW: [Case; 3] = [
 
 /// Plans on the configuration after the first plan.
 const ON_FIRST: [Case; 32] = [
-    (CLASH, 0, Why::Clash("db1", TP1, 0)),
+    (CLASH, 0, Why::Clash("db1", FIRST_TARGET, 0)),
     (FIFTH, 5, Why::Unknown("z9")),
     ("alias.drop A none\n", 1, Why::Unknown("none")),
     ("alias.drop B disk\n", 1, Why::Unknown("disk")),
@@ -63,11 +65,15 @@ const ON_FIRST: [Case; 32] = [
         1,
         Why::UnknownPort(0x5000_0000_0000_0003),
     ),
-    ("sg.target g1 1000000000000001\n", 1, Why::WrongPort(I1)),
+    (
+        "sg.target g1 1000000000000001\n",
+        1,
+        Why::WrongPort(FIRST_INITIATOR),
+    ),
     (
         "sg.untarget g1 5000000000000002\n",
         1,
-        Why::UnknownPort(TP2),
+        Why::UnknownPort(SECOND_TARGET),
     ),
     ("sg.map g1 0 v9\n", 1, Why::Unknown("v9")),
     ("sg.map g1 0 v3\n", 1, Why::WrongVolume("v3")),
@@ -154,7 +160,7 @@ const NEW: Table = (&ON_NEW, &[], Link::Apart, [0, 0, 0, 0, 0]);
 
 const AFTER_FIRST: Table = (
     &ON_FIRST,
-    &[(I1, TP1, "v1", 0)],
+    &[(FIRST_INITIATOR, FIRST_TARGET, "v1", 0)],
     Link::Zone("z1"),
     [1, 1, 1, 1, 1],
 );
@@ -175,7 +181,7 @@ fn leave(
     if sizes(config) != table.3 {
         return Ok(false);
     }
-    is_linked(inventory, config, (I1, TP1), table.2)
+    is_linked(inventory, config, (FIRST_INITIATOR, FIRST_TARGET), table.2)
 }
 
 fn leave_new(alloc: Global, inventory: &Inventory<Global>) -> Result<bool, Fail> {

@@ -4,7 +4,10 @@ use crate::facts::{Link, Way, has_paths, is_linked};
 use crate::texts::{
     AGAIN, ALIAS, FIRST, NO_CLASH, NODE, PERMIT, SECOND_HOST, SECOND_SET, SECOND_ZONE, UNZONED,
 };
-use crate::worlds::{I1, I2, I3, TP1, TP2, new_config, stock, take};
+use crate::worlds::{
+    FIRST_INITIATOR, FIRST_TARGET, SECOND_INITIATOR, SECOND_TARGET, THIRD_INITIATOR, new_config,
+    stock, take,
+};
 use fab_inventory::Inventory;
 use fab_reach::Config;
 use std::alloc::Global;
@@ -14,46 +17,105 @@ use std::test::Fail;
 type Line = (&'static str, &'static [Way], (u64, u64), Link);
 
 /// The path of the first host to the first volume.
-const ONE: Way = (I1, TP1, "v1", 0);
+const ONE: Way = (FIRST_INITIATOR, FIRST_TARGET, "v1", 0);
 
-const ROW_5: [Line; 1] = [(FIRST, &[ONE], (I1, TP1), Link::Zone("z1"))];
+const ROW_5: [Line; 1] = [(
+    FIRST,
+    &[ONE],
+    (FIRST_INITIATOR, FIRST_TARGET),
+    Link::Zone("z1"),
+)];
 
 /// The active set is a copy.
 const ROW_6: [Line; 3] = [
-    (FIRST, &[ONE], (I1, TP1), Link::Zone("z1")),
-    (ALIAS, &[ONE], (I1, TP1), Link::Zone("z1")),
-    (AGAIN, &[], (I1, TP2), Link::Zone("z1")),
+    (
+        FIRST,
+        &[ONE],
+        (FIRST_INITIATOR, FIRST_TARGET),
+        Link::Zone("z1"),
+    ),
+    (
+        ALIAS,
+        &[ONE],
+        (FIRST_INITIATOR, FIRST_TARGET),
+        Link::Zone("z1"),
+    ),
+    (
+        AGAIN,
+        &[],
+        (FIRST_INITIATOR, SECOND_TARGET),
+        Link::Zone("z1"),
+    ),
 ];
 
 const ROW_7: [Line; 3] = [
-    (FIRST, &[ONE], (I1, TP1), Link::Zone("z1")),
-    (SECOND_ZONE, &[ONE], (I1, TP1), Link::Zone("z1")),
-    (SECOND_SET, &[ONE], (I1, TP1), Link::Zone("z2")),
+    (
+        FIRST,
+        &[ONE],
+        (FIRST_INITIATOR, FIRST_TARGET),
+        Link::Zone("z1"),
+    ),
+    (
+        SECOND_ZONE,
+        &[ONE],
+        (FIRST_INITIATOR, FIRST_TARGET),
+        Link::Zone("z1"),
+    ),
+    (
+        SECOND_SET,
+        &[ONE],
+        (FIRST_INITIATOR, FIRST_TARGET),
+        Link::Zone("z2"),
+    ),
 ];
 
 /// A port in a zone is not in the default zone.
 const ROW_8: [Line; 3] = [
-    (FIRST, &[ONE], (I1, TP2), Link::Apart),
-    (PERMIT, &[ONE], (I1, TP2), Link::Apart),
-    (UNZONED, &[(I1, TP2, "v1", 0)], (I1, TP2), Link::Default),
+    (FIRST, &[ONE], (FIRST_INITIATOR, SECOND_TARGET), Link::Apart),
+    (
+        PERMIT,
+        &[ONE],
+        (FIRST_INITIATOR, SECOND_TARGET),
+        Link::Apart,
+    ),
+    (
+        UNZONED,
+        &[(FIRST_INITIATOR, SECOND_TARGET, "v1", 0)],
+        (FIRST_INITIATOR, SECOND_TARGET),
+        Link::Default,
+    ),
 ];
 
 /// A place stands for each port that is logged in there, and a node for each of its ports.
 const ROW_9: [Line; 3] = [
-    (FIRST, &[ONE], (I2, TP1), Link::Apart),
+    (FIRST, &[ONE], (SECOND_INITIATOR, FIRST_TARGET), Link::Apart),
     (
         SECOND_HOST,
-        &[ONE, (I2, TP1, "v2", 0), (I3, TP1, "v2", 0)],
-        (I3, TP1),
+        &[
+            ONE,
+            (SECOND_INITIATOR, FIRST_TARGET, "v2", 0),
+            (THIRD_INITIATOR, FIRST_TARGET, "v2", 0),
+        ],
+        (THIRD_INITIATOR, FIRST_TARGET),
         Link::Zone("z3"),
     ),
-    (NODE, &[], (TP1, TP2), Link::Zone("z9")),
+    (NODE, &[], (FIRST_TARGET, SECOND_TARGET), Link::Zone("z9")),
 ];
 
 /// A clash that stands between steps refuses nothing.
 const ROW_14: [Line; 2] = [
-    (FIRST, &[ONE], (I1, TP1), Link::Zone("z1")),
-    (NO_CLASH, &[(I1, TP1, "v2", 0)], (I1, TP1), Link::Zone("z1")),
+    (
+        FIRST,
+        &[ONE],
+        (FIRST_INITIATOR, FIRST_TARGET),
+        Link::Zone("z1"),
+    ),
+    (
+        NO_CLASH,
+        &[(FIRST_INITIATOR, FIRST_TARGET, "v2", 0)],
+        (FIRST_INITIATOR, FIRST_TARGET),
+        Link::Zone("z1"),
+    ),
 ];
 
 /// Whether a configuration is as the line says, after its plan.

@@ -10,26 +10,31 @@ use fab_zoning::Zoning;
 use std::alloc::Global;
 use std::test::Fail;
 
-pub const I1: u64 = 0x1000_0000_0000_0001;
+/// The port of the first host.
+pub const FIRST_INITIATOR: u64 = 0x1000_0000_0000_0001;
 
-pub const I2: u64 = 0x1000_0000_0000_0002;
+/// A port of the second host.
+pub const SECOND_INITIATOR: u64 = 0x1000_0000_0000_0002;
 
-pub const I3: u64 = 0x1000_0000_0000_0003;
+/// The other port of the second host, logged in at the same place.
+pub const THIRD_INITIATOR: u64 = 0x1000_0000_0000_0003;
 
-pub const TP1: u64 = 0x5000_0000_0000_0001;
+/// A port of the array.
+pub const FIRST_TARGET: u64 = 0x5000_0000_0000_0001;
 
-pub const TP2: u64 = 0x5000_0000_0000_0002;
+/// The other port of the array, of the same node.
+pub const SECOND_TARGET: u64 = 0x5000_0000_0000_0002;
 
 /// A port, its node and its place.
 type Row = (u64, u64, u8, u16);
 
 /// Three initiators, the second and the third at one place, and two targets of one node.
 const PORTS: [Row; 5] = [
-    (I1, 0x2000_0000_0000_0001, 1, 1),
-    (I2, 0x2000_0000_0000_0002, 12, 5),
-    (I3, 0x2000_0000_0000_0003, 12, 5),
-    (TP1, 0x5000_0000_0000_0000, 1, 2),
-    (TP2, 0x5000_0000_0000_0000, 1, 3),
+    (FIRST_INITIATOR, 0x2000_0000_0000_0001, 1, 1),
+    (SECOND_INITIATOR, 0x2000_0000_0000_0002, 12, 5),
+    (THIRD_INITIATOR, 0x2000_0000_0000_0003, 12, 5),
+    (FIRST_TARGET, 0x5000_0000_0000_0000, 1, 2),
+    (SECOND_TARGET, 0x5000_0000_0000_0000, 1, 3),
 ];
 
 /// Volumes: name, array, tenant.
@@ -94,9 +99,24 @@ fn hold(
 }
 
 fn hold_all(inventory: &mut Inventory<Global>) -> Result<(), Fail> {
-    hold(inventory, HolderKind::Host, ("db1", "blue"), (I1, I1))?;
-    hold(inventory, HolderKind::Host, ("db2", "green"), (I2, I3))?;
-    hold(inventory, HolderKind::Array, ("arr1", "store"), (TP1, TP2))?;
+    hold(
+        inventory,
+        HolderKind::Host,
+        ("db1", "blue"),
+        (FIRST_INITIATOR, FIRST_INITIATOR),
+    )?;
+    hold(
+        inventory,
+        HolderKind::Host,
+        ("db2", "green"),
+        (SECOND_INITIATOR, THIRD_INITIATOR),
+    )?;
+    hold(
+        inventory,
+        HolderKind::Array,
+        ("arr1", "store"),
+        (FIRST_TARGET, SECOND_TARGET),
+    )?;
     let arr2 = name("arr2")?;
     Ok(inventory.put_holder(arr2, HolderKind::Array, arr2, &[])?)
 }

@@ -14,4 +14,4 @@ mod serving;
 mod tasks;
 
 pub use args::{ArgsFault, seconds, words_of};
-pub use running::{DONE, FAILED, REFUSED, WRONG_WORDS, refuse_args, run};
+pub use running::{refuse_args, run};

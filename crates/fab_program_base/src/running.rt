@@ -15,23 +15,23 @@ use fab_words::{Words, WordsFault, read_words};
 use std::io::{Read, Write};
 
 /// The exit status of what was done.
-pub const DONE: u8 = 0;
+const DONE: u8 = 0;
 
 /// The exit status of a command that was refused.
-pub const REFUSED: u8 = 1;
+const REFUSED: u8 = 1;
 
 /// The exit status of a command line that is wrong, or asks for help.
-pub const WRONG_WORDS: u8 = 2;
+const WRONG_WORDS: u8 = 2;
 
 /// The exit status of what could not be done; the standard error has a line that says why.
-pub const FAILED: u8 = 3;
+const FAILED: u8 = 3;
 
 /// Runs the program: reads the words (the first is the program's name), does what they ask for, and
 /// gives the exit status. `now` gives the moment in Unix seconds, if it can. What goes wrong is told
 /// to `errors`.
 ///
-/// `DONE` or `REFUSED` only where the words ask for something, and `WRONG_WORDS` only where they ask
-/// for nothing.
+/// The status is 0, where all is done, or 1, where a command is refused, only if the words ask for
+/// something, and 2 only if they ask for nothing.
 pub fn run<N: FnMut() -> Option<u64>, R: Read + Drop, W: Write + Drop, E: Write>(
     rt: &HostRuntime,
     words: &[String],

@@ -174,7 +174,7 @@ sg.expose g1
 ];
 
 /// The paths of its first host as texts.
-const ROW_19: &[Run] = &[
+const PATHS_AND_REPORT: &[Run] = &[
     (
         "sandesk paths --db round.db --policy round.toml --token t-ada --host db1",
         Wrote {
@@ -199,7 +199,7 @@ fn file_round(rt: HostRuntime) -> Result<(), Fail> {
     fs::write(&rt, "round.csv", PORTS)?;
     are_run(&rt, MADE)?;
     are_answered(&rt, WORLD)?;
-    are_run(&rt, ROW_19)
+    are_run(&rt, PATHS_AND_REPORT)
 }
 
 /// What is done, what the desk refuses, words that are wrong, and what fails.

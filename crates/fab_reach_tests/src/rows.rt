@@ -2,8 +2,8 @@
 
 use crate::steps::{Act, Item, change, empty};
 use crate::stock::{
-    DB2, DISK, G1, G2, G3, HOSTS1, HOSTS2, I1, S1, S2, TP1, TP2, V1, V2, Z1, Z2, list, list_one,
-    stock,
+    DB2, DISK, FIRST_INITIATOR, FIRST_TARGET, G1, G2, G3, HOSTS1, HOSTS2, S1, S2, SECOND_TARGET,
+    V1, V2, Z1, Z2, list, list_one, stock,
 };
 use crate::ways::{Ways, are};
 use fab_inventory::Inventory;
@@ -18,14 +18,17 @@ type Line = (Act, Ways);
 /// An alias changes, and nothing active does; then the set is activated anew.
 const ALIAS: [Line; 3] = [
     (Act::First, Ways::One),
-    (Act::Alias(DISK, TP2), Ways::One),
+    (Act::Alias(DISK, SECOND_TARGET), Ways::One),
     (Act::Activate(S1), Ways::None),
 ];
 
 /// A second zone, and then that one alone.
 const SECOND_ZONE: [Line; 6] = [
     (Act::First, Ways::One),
-    (Act::Zone(Z2, Item::Port(I1), Item::Port(TP1)), Ways::One),
+    (
+        Act::Zone(Z2, Item::Port(FIRST_INITIATOR), Item::Port(FIRST_TARGET)),
+        Ways::One,
+    ),
     (Act::Set(S1, Z1, Z2), Ways::One),
     (Act::Activate(S1), Ways::One),
     (Act::Set(S2, Z2, Z2), Ways::One),
@@ -36,7 +39,7 @@ const SECOND_ZONE: [Line; 6] = [
 const DEFAULT_ZONE: [Line; 5] = [
     (Act::First, Ways::One),
     (Act::Permit, Ways::One),
-    (Act::Target(G1, TP2), Ways::One),
+    (Act::Target(G1, SECOND_TARGET), Ways::One),
     (
         Act::Zone(Z1, Item::Alias(DISK), Item::Alias(DISK)),
         Ways::One,
@@ -56,7 +59,7 @@ const SECOND_HOST: [Line; 4] = [
 const SECOND_GROUP: [Line; 6] = [
     (Act::First, Ways::One),
     (Act::Group(G3, HOSTS1), Ways::One),
-    (Act::Target(G3, TP1), Ways::One),
+    (Act::Target(G3, FIRST_TARGET), Ways::One),
     (Act::Map(G3, 0, V2), Ways::One),
     (Act::Unmap(G1, 0), Ways::None),
     (Act::Expose(G3), Ways::OtherVolume),
@@ -74,7 +77,7 @@ const HIDDEN: [Line; 4] = [
 const TWO_GROUPS: [Line; 7] = [
     (Act::First, Ways::One),
     (Act::Group(G3, HOSTS1), Ways::One),
-    (Act::Target(G3, TP1), Ways::One),
+    (Act::Target(G3, FIRST_TARGET), Ways::One),
     (Act::Map(G3, 0, V1), Ways::One),
     (Act::Expose(G3), Ways::One),
     (Act::Hide(G1), Ways::One),
@@ -93,7 +96,7 @@ const APART: [Line; 6] = [
     (Act::First, Ways::One),
     (Act::Hosts(HOSTS2, DB2), Ways::One),
     (Act::Group(G2, HOSTS2), Ways::One),
-    (Act::Target(G2, TP1), Ways::One),
+    (Act::Target(G2, FIRST_TARGET), Ways::One),
     (Act::Map(G2, 3, V1), Ways::One),
     (Act::Expose(G2), Ways::One),
 ];
@@ -224,11 +227,11 @@ enum Move {
 /// is gone from the other fabric touches no port of this one.
 const MOVES: [(Move, Ways); 6] = [
     (Move::Stays, Ways::One),
-    (Move::Alone(Fabric::B, I1), Ways::None),
+    (Move::Alone(Fabric::B, FIRST_INITIATOR), Ways::None),
     (Move::Listed(5), Ways::One),
     (Move::Listed(0), Ways::None),
     (Move::Listed(5), Ways::One),
-    (Move::Alone(Fabric::B, TP2), Ways::One),
+    (Move::Alone(Fabric::B, SECOND_TARGET), Ways::One),
 ];
 
 /// Whether a world has these paths after a move.

@@ -1,8 +1,8 @@
 //! Worlds, step by step.
 
 use crate::stock::{
-    ARR1, BLUE, DB1, DB2, DISK, G1, G2, HOSTS1, HOSTS2, I1, S1, TP1, V1, V2, Z1, Z3, name, place,
-    port,
+    ARR1, BLUE, DB1, DB2, DISK, FIRST_INITIATOR, FIRST_TARGET, G1, G2, HOSTS1, HOSTS2, S1, V1, V2,
+    Z1, Z3, name, place, port,
 };
 use fab_inventory::Inventory;
 use fab_mapping::Mapping;
@@ -207,25 +207,25 @@ fn step(config: &mut Config<Global>, inventory: &Inventory<Global>, act: Act) ->
 
 /// What gives the first host the first volume.
 const FIRST: [Act; 9] = [
-    Act::Alias(DISK, TP1),
-    Act::Zone(Z1, Item::Port(I1), Item::Alias(DISK)),
+    Act::Alias(DISK, FIRST_TARGET),
+    Act::Zone(Z1, Item::Port(FIRST_INITIATOR), Item::Alias(DISK)),
     Act::Set(S1, Z1, Z1),
     Act::Activate(S1),
     Act::Hosts(HOSTS1, DB1),
     Act::Group(G1, HOSTS1),
-    Act::Target(G1, TP1),
+    Act::Target(G1, FIRST_TARGET),
     Act::Map(G1, 0, V1),
     Act::Expose(G1),
 ];
 
 /// What gives the second host the second volume.
 const SECOND: [Act; 8] = [
-    Act::Zone(Z3, Item::Place(12, 5), Item::Port(TP1)),
+    Act::Zone(Z3, Item::Place(12, 5), Item::Port(FIRST_TARGET)),
     Act::Set(S1, Z1, Z3),
     Act::Activate(S1),
     Act::Hosts(HOSTS2, DB2),
     Act::Group(G2, HOSTS2),
-    Act::Target(G2, TP1),
+    Act::Target(G2, FIRST_TARGET),
     Act::Map(G2, 0, V2),
     Act::Expose(G2),
 ];

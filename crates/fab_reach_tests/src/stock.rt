@@ -15,15 +15,20 @@ const PORTS: [(u64, u64, u8, u16); 5] = [
     (0x5000_0000_0000_0002, 0x5000_0000_0000_0000, 1, 3),
 ];
 
-pub const I1: usize = 0;
+/// The port of the first host.
+pub const FIRST_INITIATOR: usize = 0;
 
-pub const I2: usize = 1;
+/// A port of the second host.
+pub const SECOND_INITIATOR: usize = 1;
 
-pub const I3: usize = 2;
+/// The other port of the second host, logged in at the same place.
+pub const THIRD_INITIATOR: usize = 2;
 
-pub const TP1: usize = 3;
+/// A port of the array.
+pub const FIRST_TARGET: usize = 3;
 
-pub const TP2: usize = 4;
+/// The other port of the array, of the same node.
+pub const SECOND_TARGET: usize = 4;
 
 /// Tenants, hosts, the array, and the volumes; then names of what a configuration has.
 const NAMES: [&str; 19] = [
@@ -164,9 +169,27 @@ fn volume(inventory: &mut Inventory<Global>, volume: usize, tenant: usize) -> Re
 pub fn stock(alloc: Global) -> Result<Inventory<Global>, Fail> {
     let mut inventory = Inventory::new(alloc);
     list(&mut inventory, alloc, 5)?;
-    hold(&mut inventory, HolderKind::Host, DB1, I1, I1)?;
-    hold(&mut inventory, HolderKind::Host, DB2, I2, I3)?;
-    hold(&mut inventory, HolderKind::Array, ARR1, TP1, TP2)?;
+    hold(
+        &mut inventory,
+        HolderKind::Host,
+        DB1,
+        FIRST_INITIATOR,
+        FIRST_INITIATOR,
+    )?;
+    hold(
+        &mut inventory,
+        HolderKind::Host,
+        DB2,
+        SECOND_INITIATOR,
+        THIRD_INITIATOR,
+    )?;
+    hold(
+        &mut inventory,
+        HolderKind::Array,
+        ARR1,
+        FIRST_TARGET,
+        SECOND_TARGET,
+    )?;
     volume(&mut inventory, V1, BLUE)?;
     volume(&mut inventory, V2, GREEN)?;
     Ok(inventory)

@@ -1,6 +1,9 @@
 //! Paths that are expected.
 
-use crate::stock::{I1, I2, I3, TP1, TP2, V1, V2, name, port};
+use crate::stock::{
+    FIRST_INITIATOR, FIRST_TARGET, SECOND_INITIATOR, SECOND_TARGET, THIRD_INITIATOR, V1, V2, name,
+    port,
+};
 use fab_names::Fabric;
 use fab_reach::Path;
 use std::alloc::Global;
@@ -10,7 +13,7 @@ use std::test::Fail;
 type Way = (usize, usize, usize, u16);
 
 /// The path of the first host to the first volume.
-const ONE: Way = (I1, TP1, V1, 0);
+const ONE: Way = (FIRST_INITIATOR, FIRST_TARGET, V1, 0);
 
 /// All paths that are there.
 #[derive(Clone, Copy)]
@@ -38,12 +41,17 @@ pub enum Ways {
 fn way(ways: Ways, number: usize) -> Option<Way> {
     match (ways, number) {
         (Ways::One | Ways::Both | Ways::TwoUnits | Ways::Units, 0) => Some(ONE),
-        (Ways::OtherTarget, 0) => Some((I1, TP2, V1, 0)),
-        (Ways::OtherVolume, 0) => Some((I1, TP1, V2, 0)),
-        (Ways::Second, 0) | (Ways::Both, 1) => Some((I2, TP1, V2, 0)),
-        (Ways::Second, 1) | (Ways::Both, 2) => Some((I3, TP1, V2, 0)),
-        (Ways::UnitFive, 0) | (Ways::TwoUnits | Ways::Units, 1) => Some((I1, TP1, V1, 5)),
-        (Ways::Units, 2) => Some((I1, TP1, V2, 1)),
+        (Ways::OtherTarget, 0) => Some((FIRST_INITIATOR, SECOND_TARGET, V1, 0)),
+        (Ways::OtherVolume, 0) => Some((FIRST_INITIATOR, FIRST_TARGET, V2, 0)),
+        (Ways::Second, 0) | (Ways::Both, 1) => Some((SECOND_INITIATOR, FIRST_TARGET, V2, 0)),
+        (Ways::Second, 1) | (Ways::Both, 2) => Some((THIRD_INITIATOR, FIRST_TARGET, V2, 0)),
+        (Ways::UnitFive, 0) | (Ways::TwoUnits | Ways::Units, 1) => Some((
+            FIRST_INITIATOR,
+            FIRST_TARGET,
+            V1,
+            5,
+        )),
+        (Ways::Units, 2) => Some((FIRST_INITIATOR, FIRST_TARGET, V2, 1)),
         _ => None,
     }
 }

@@ -3,14 +3,14 @@
 use super::bytes::ROW_16;
 use super::deeds::{Deed, does};
 use super::stages::ROW_1;
-use fab_exchanges::rows::{ROW_5, WORLD};
+use fab_exchanges::rows::{FIRST_PLAN, WORLD};
 use std::alloc::Global;
 use std::test::Fail;
 
 /// The worked world.
 const WORKED: Deed<'static> = Deed::Plays(usize::MAX, &[WORLD]);
 
-const SURVIVES: &[Deed<'static>] = &[WORKED, Deed::Survives(ROW_5)];
+const SURVIVES: &[Deed<'static>] = &[WORKED, Deed::Survives(FIRST_PLAN)];
 
 #[test]
 fn reader_fails(rt: HostRuntime) -> Result<(), Fail> {

@@ -2,7 +2,7 @@
 
 use super::bytes::REFUSED;
 use super::deeds::{Deed, does, holds, holds_bytes};
-use fab_exchanges::rows::{ROW_5, WORLD};
+use fab_exchanges::rows::{FIRST_PLAN, WORLD};
 use std::test::Fail;
 
 /// Paths that lead nowhere, paths that name nothing, and bodies that are none.
@@ -77,7 +77,7 @@ sg.new g1 blue arr1
 
 #[test]
 fn records_refuse(rt: HostRuntime) -> Result<(), Fail> {
-    holds(rt.alloc(), &[WORLD, ROW_5, STOCK, STEPS])
+    holds(rt.alloc(), &[WORLD, FIRST_PLAN, STOCK, STEPS])
 }
 
 /// What is answered of the plan with as many sets as there may be, where one is there already.
@@ -86,7 +86,7 @@ const LIMIT: &[&str] = &[
 ];
 
 const SETS: &[Deed<'static>] = &[
-    Deed::Plays(usize::MAX, &[WORLD, ROW_5]),
+    Deed::Plays(usize::MAX, &[WORLD, FIRST_PLAN]),
     Deed::StagesSets,
     Deed::Plays(usize::MAX, &[LIMIT]),
 ];

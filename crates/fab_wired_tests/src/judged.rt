@@ -1,7 +1,7 @@
 //! What the policy allows and denies, and what is another tenant's.
 
 use super::deeds::holds;
-use fab_exchanges::rows::{ROW_5, ROW_9, ROW_12, WORLD};
+use fab_exchanges::rows::{APPROVALS, FIRST_PLAN, SECOND_PLAN, WORLD};
 use std::test::Fail;
 
 /// A plan of fabric B, and who approves it.
@@ -49,7 +49,7 @@ fn row_11(rt: HostRuntime) -> Result<(), Fail> {
 
 #[test]
 fn row_12(rt: HostRuntime) -> Result<(), Fail> {
-    holds(rt.alloc(), &[WORLD, ROW_12])
+    holds(rt.alloc(), &[WORLD, APPROVALS])
 }
 
 /// A plan about another tenant's host, and a look at its paths.
@@ -73,5 +73,5 @@ activate A s1
 #[test]
 fn row_17(rt: HostRuntime) -> Result<(), Fail> {
     holds(rt.alloc(), &[WORLD, FOREIGN])?;
-    holds(rt.alloc(), &[WORLD, ROW_5, ROW_9, LOSING])
+    holds(rt.alloc(), &[WORLD, FIRST_PLAN, SECOND_PLAN, LOSING])
 }

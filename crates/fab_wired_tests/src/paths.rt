@@ -3,7 +3,7 @@
 use super::bytes::{FIRST, JOINED, PATHS};
 use super::deeds::{holds, holds_bytes};
 use super::stages::ROW_1;
-use fab_exchanges::rows::{ROW_5, ROW_6, ROW_9, WORLD};
+use fab_exchanges::rows::{ALIAS_PUT_ANEW, FIRST_PLAN, SECOND_PLAN, WORLD};
 use std::test::Fail;
 
 #[test]
@@ -41,7 +41,7 @@ const ROW_3: &[&str] = &[
 
 #[test]
 fn row_3(rt: HostRuntime) -> Result<(), Fail> {
-    holds(rt.alloc(), &[WORLD, ROW_5, ROW_3])
+    holds(rt.alloc(), &[WORLD, FIRST_PLAN, ROW_3])
 }
 
 /// Two records of one port: equal as values, and not.
@@ -64,12 +64,12 @@ fn row_4(rt: HostRuntime) -> Result<(), Fail> {
 
 #[test]
 fn row_5(rt: HostRuntime) -> Result<(), Fail> {
-    holds_bytes(rt.alloc(), &[WORLD, ROW_5], PATHS)
+    holds_bytes(rt.alloc(), &[WORLD, FIRST_PLAN], PATHS)
 }
 
 #[test]
 fn row_6(rt: HostRuntime) -> Result<(), Fail> {
-    holds(rt.alloc(), &[WORLD, ROW_5, ROW_6])
+    holds(rt.alloc(), &[WORLD, FIRST_PLAN, ALIAS_PUT_ANEW])
 }
 
 /// Two zones join the ports, and then one.
@@ -90,7 +90,7 @@ activate A s2
 
 #[test]
 fn row_7(rt: HostRuntime) -> Result<(), Fail> {
-    holds(rt.alloc(), &[WORLD, ROW_5, ROW_7])
+    holds(rt.alloc(), &[WORLD, FIRST_PLAN, ROW_7])
 }
 
 /// The default zone joins ports that are in no zone alone.
@@ -107,7 +107,7 @@ activate A s1
 
 #[test]
 fn row_8(rt: HostRuntime) -> Result<(), Fail> {
-    holds(rt.alloc(), &[WORLD, ROW_5, ROW_8])
+    holds(rt.alloc(), &[WORLD, FIRST_PLAN, ROW_8])
 }
 
 /// A zone of one node joins the ports of that node.
@@ -123,5 +123,5 @@ activate A s1
 
 #[test]
 fn row_9(rt: HostRuntime) -> Result<(), Fail> {
-    holds(rt.alloc(), &[WORLD, ROW_5, ROW_9, NODE])
+    holds(rt.alloc(), &[WORLD, FIRST_PLAN, SECOND_PLAN, NODE])
 }

@@ -2,7 +2,7 @@
 
 use super::bytes::ROW_16;
 use super::deeds::{holds, holds_bytes};
-use fab_exchanges::rows::{ROLLED_BACK, ROW_5, ROW_14, ROW_15, UNMAPPED, WORLD};
+use fab_exchanges::rows::{FIRST_PLAN, ROLLED_BACK, UNIT_CLASH, UNMAPPED, VOLUME_GONE, WORLD};
 use std::test::Fail;
 
 /// A third step that names a zone which is not there; nothing of the plan stands.
@@ -23,13 +23,13 @@ fn row_13(rt: HostRuntime) -> Result<(), Fail> {
 
 #[test]
 fn row_14(rt: HostRuntime) -> Result<(), Fail> {
-    holds(rt.alloc(), &[WORLD, ROW_5, ROW_14])
+    holds(rt.alloc(), &[WORLD, FIRST_PLAN, UNIT_CLASH])
 }
 
 #[test]
 fn row_15(rt: HostRuntime) -> Result<(), Fail> {
-    holds(rt.alloc(), &[WORLD, ROW_5, UNMAPPED, ROW_15])?;
-    holds(rt.alloc(), &[WORLD, ROW_5, UNMAPPED, ROLLED_BACK])
+    holds(rt.alloc(), &[WORLD, FIRST_PLAN, UNMAPPED, VOLUME_GONE])?;
+    holds(rt.alloc(), &[WORLD, FIRST_PLAN, UNMAPPED, ROLLED_BACK])
 }
 
 #[test]
@@ -68,7 +68,7 @@ sg.expose g1
 
 #[test]
 fn row_18(rt: HostRuntime) -> Result<(), Fail> {
-    holds(rt.alloc(), &[WORLD, ROW_5, ROW_18])
+    holds(rt.alloc(), &[WORLD, FIRST_PLAN, ROW_18])
 }
 
 /// A host that is not there.
@@ -84,5 +84,5 @@ const ROW_20: &[&str] = &[
 
 #[test]
 fn row_20(rt: HostRuntime) -> Result<(), Fail> {
-    holds(rt.alloc(), &[WORLD, ABSENT, ROW_5, ROW_20])
+    holds(rt.alloc(), &[WORLD, ABSENT, FIRST_PLAN, ROW_20])
 }

@@ -21,7 +21,12 @@ fn refusing<S: Store<Global>>(
 
 /// Does each with a new desk over a store that refuses one call.
 fn does_refused(alloc: Global, calls: u64, deeds: &[Deed<'_>]) -> Result<(), Fail> {
-    do_over(alloc, refusing(new_tables(alloc), calls), TRIAL_POLICY, deeds)
+    do_over(
+        alloc,
+        refusing(new_tables(alloc), calls),
+        TRIAL_POLICY,
+        deeds,
+    )
 }
 
 /// The store refuses to commit, which halts the desk: a path that has no route and a body that is none

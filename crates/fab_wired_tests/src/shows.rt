@@ -1,7 +1,7 @@
 //! What reads show, and the answers of the other commands.
 
 use super::deeds::holds;
-use fab_exchanges::rows::{ROW_5, ROW_9, WORLD};
+use fab_exchanges::rows::{FIRST_PLAN, SECOND_PLAN, WORLD};
 use std::test::Fail;
 
 /// The records of the worked world; another tenant's are not there.
@@ -53,7 +53,7 @@ default A permit -> 200 OK: {"plan":"f1","steps":4}"#,
 
 #[test]
 fn configuration_is_shown(rt: HostRuntime) -> Result<(), Fail> {
-    holds(rt.alloc(), &[WORLD, ROW_5, ROW_9, CONFIGURATION])
+    holds(rt.alloc(), &[WORLD, FIRST_PLAN, SECOND_PLAN, CONFIGURATION])
 }
 
 /// A plan in each of its states.
@@ -78,5 +78,5 @@ const STATES: &[&str] = &[
 #[test]
 fn plans_are_shown(rt: HostRuntime) -> Result<(), Fail> {
     holds(rt.alloc(), &[WORLD, STATES])?;
-    holds(rt.alloc(), &[WORLD, ROW_5, FORMS])
+    holds(rt.alloc(), &[WORLD, FIRST_PLAN, FORMS])
 }
