@@ -18,7 +18,8 @@ use Rattle.fab_reach.specs.Adding.{Adds}
 use Rattle.fab_reach.specs.Records.{Records}
 use Rattle.fab_reach.specs.Orders.{Has, IsListOf}
 use Rattle.fab_reach.specs.Reach.{IsPort, IsInitiator, IsInitiatorOf, ReachesFrom}
-use Rattle.fab_reach.specs.Gathering.{Owners, own_cmp, Owns, IsHeldAt, AreInitiators, IsOwn, IsBookOf}
+use Rattle.fab_reach.specs.Gathering.{IsBookOf}
+use Rattle.fab_reach.specs.Owning.{Owners, own_cmp, Owns, IsHeldAt, AreInitiators, IsOwn}
 use Rattle.fab_reach.specs.declared.path.Path.{Path}
 use Rattle.fab_reach.proofs.Adding.{Before, adds_as, adds_none, from_none}
 use Rattle.fab_reach.proofs.Sets.{adds_insert, none_in}

@@ -5,8 +5,6 @@ use Rattle.std.specs.BTreeMap.{BTreeMap}
 use Rattle.std.specs.BTreeSet.{BTreeSet, IsOrdered, contains}
 use Rattle.std.specs.FinMap as map
 use Rattle.std.specs.FinSet as set
-use Rattle.std.specs.declared.cmp.Ordering.{Ordering}
-use Rattle.std.specs.Ordering.{nat_cmp, then_cmp, on}
 use Rattle.fab_names.specs.Orders.{name_cmp}
 use Rattle.fab_names.specs.declared.fabric.Fabric.{Fabric}
 use Rattle.fab_inventory.specs.declared.port.Port.{Port}
@@ -15,9 +13,10 @@ use Rattle.fab_maps.specs.MapsOfSets.{tree_has}
 use Rattle.fab_mapping_base.specs.Groups.{HostGroupRows, StorageGroupRows}
 use Rattle.fab_mapping.specs.Mappings.{MappingRows}
 use Rattle.fab_reach.specs.Records.{Records, zoning_at}
-use Rattle.fab_reach.specs.Reach.{IsTarget, IsInitiatorOf, PathOf, Reaches}
+use Rattle.fab_reach.specs.Reach.{IsTarget, PathOf, Reaches}
 use Rattle.fab_reach.specs.Adding.{AddsOnly}
 use Rattle.fab_reach.specs.Orders.{path_cmp, Has}
+use Rattle.fab_reach.specs.Owning.{Owners, AreInitiators}
 use Rattle.fab_reach.specs.declared.path.Path.{Path}
 use Rattle.fab_reach.specs.declared.listing.PathsFault.{PathsFault}
 use Rattle.fab_reach.specs.declared.listing.PathsFault.TheVariants.{TooMany, Memory}
@@ -74,31 +73,6 @@ PathFrom w p x = PathOf w p x.target x
 abbrev pub StopsAt : ℕ → (Path → Type 0) → BTreeSet Path → BTreeSet Path → PathsFault → Type 0
 StopsAt most Q s t TooMany = AddsOnly Q (Has s) (Has t) × IsOrdered path_cmp t × (most < length t.keys)
 StopsAt most Q s t Memory = Unit {0}
-
--- ---- initiators
-
--- ports, each with a name
-abbrev pub Owners : Type 0
-Owners = BTreeSet (ℕ × List ℕ)
-
-abbrev pub own_cmp : ℕ × List ℕ → ℕ × List ℕ → Ordering
-own_cmp = then_cmp (on (λ e. e.0) nat_cmp) (on (λ e. e.1) name_cmp)
-
--- the set has the port with this name
-abbrev pub Owns : Owners → ℕ × List ℕ → Type 0
-Owns s e = IsTrue (contains own_cmp s e)
-
--- the entry is this port, with the host that holds it
-abbrev pub IsHeldAt : Records → ℕ → ℕ × List ℕ → Type 0
-IsHeldAt w p e = (e.0 ≡ p) × IsInitiatorOf w p e.1
-
--- the set has just the initiator ports, each with its host
-abbrev pub AreInitiators : Records → Owners → Type 0
-AreInitiators w s = (e : ℕ × List ℕ) → Owns s e ↔ IsInitiatorOf w e.0 e.1
-
--- a path whose initiator the host holds, by such a set
-abbrev pub IsOwn : BTreeSet Path → Owners → List ℕ → Path → Type 0
-IsOwn paths owners host x = Has paths x × Owns owners (x.initiator, host)
 
 -- ---- a plain book
 

@@ -15,7 +15,8 @@ mod view;
 
 pub use book::{Delta, PathBook};
 pub use config::Config;
-pub use listing::{MOST_PATHS, PathsFault, few_paths, plain_paths};
+pub use listing::{MOST_PATHS, PathsFault, all_paths, few_paths, paths_from, plain_paths};
+pub use owners::{initiators, paths_of};
 pub use path::Path;
-pub use plain::{PlainBook, PlainStep};
+pub use plain::{PlainBook, PlainStep, without};
 pub use view::View;

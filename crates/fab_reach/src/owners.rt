@@ -2,7 +2,7 @@
 ghost use Rattle.std.specs.Prelude.{◌↔◌, OnOk, IfOk};
 ghost use Rattle.fab_reach.specs.Adding.{Adds};
 ghost use Rattle.fab_reach.specs.Orders.{Has, IsListOf};
-ghost use Rattle.fab_reach.specs.Gathering.{Owns, IsHeldAt, AreInitiators, IsOwn};
+ghost use Rattle.fab_reach.specs.Owning.{Owns, IsHeldAt, AreInitiators, IsOwn};
 ghost use Rattle.fab_reach.specs.Views.{seen};
 
 use crate::listing::{host_of, listed};
@@ -30,6 +30,9 @@ fn add_initiator<A: Allocator + Copy>(
 }
 
 /// Each initiator port with the host that holds it.
+///
+/// # Errors
+/// `AllocError` where there is no memory.
 pub fn initiators<A: Allocator + Copy>(
     alloc: A,
     view: &View<'_, A>,
@@ -62,6 +65,9 @@ fn own_paths<A: Allocator + Copy>(
 }
 
 /// The paths whose initiator the host holds, in order.
+///
+/// # Errors
+/// `AllocError` where there is no memory.
 pub fn paths_of<A: Allocator + Copy>(
     alloc: A,
     paths: &BTreeSet<Path, A>,

@@ -40,7 +40,10 @@ fn kept<A: Allocator + Copy>(
 }
 
 /// The paths of one set that are not in the other, in order.
-fn without<A: Allocator + Copy>(
+///
+/// # Errors
+/// `AllocError` where there is no memory.
+pub fn without<A: Allocator + Copy>(
     alloc: A,
     these: &BTreeSet<Path, A>,
     those: &BTreeSet<Path, A>,

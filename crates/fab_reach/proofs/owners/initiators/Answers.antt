@@ -2,7 +2,7 @@ use Rattle.std.proofs.Common.{◌∷◌, [], ◌++◌, sym, ◌∙◌}
 use Rattle.std.specs.Map.Iter.{deref_pair}
 use Rattle.std.proofs.lemmas.Map.Iter.{rest_more, rest_all}
 use Rattle.fab_maps.proofs.Walks.{walked, walk_end}
-use Rattle.fab_reach.specs.Gathering.{Owns}
+use Rattle.fab_reach.specs.Owning.{Owns}
 use Rattle.fab_reach.specs.Views.{seen}
 use Rattle.fab_reach.proofs.Adding.{before_none, before_more}
 use Rattle.fab_reach.proofs.Owning.{ByKnown, initiators_are}

@@ -2,7 +2,7 @@ use Rattle.std.proofs.Common.{◌≡◌, ℕ, List, [], ◌++◌}
 use Rattle.std.specs.FinMap as map
 use Rattle.fab_inventory.specs.declared.port.Known.{Known}
 use Rattle.fab_reach.specs.Adding.{Adds}
-use Rattle.fab_reach.specs.Gathering.{Owners, Owns}
+use Rattle.fab_reach.specs.Owning.{Owners, Owns}
 use Rattle.fab_reach.specs.Views.{seen}
 use Rattle.fab_reach.proofs.Adding.{Before}
 use Rattle.fab_reach.proofs.Owning.{ByKnown}

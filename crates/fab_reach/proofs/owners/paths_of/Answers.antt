@@ -1,4 +1,4 @@
-use Rattle.fab_reach.specs.Gathering.{IsOwn}
+use Rattle.fab_reach.specs.Owning.{IsOwn}
 use Rattle.fab_reach.proofs.Gathering.{listed_all}
 use Rattle.fab_reach.proofs.owners.paths_of.Goals as goal
 
