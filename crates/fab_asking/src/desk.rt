@@ -9,7 +9,8 @@ use crate::replies::tell;
 use fab_desk_base::Reply;
 use fab_machine::answer;
 use fab_policy::Policy;
-use fab_reach::{PathBook, PlainBook, View};
+use fab_port_book::PortBook;
+use fab_reach::{PathBook, View};
 use fab_world::World;
 use std::alloc::{Allocator, Global};
 use std::test::Fail;
@@ -121,7 +122,7 @@ fn is_kept<B: PathBook<Global>>(
 pub fn holds(alloc: Global, stages: &[&[Turn]]) -> Result<bool, Fail> {
     let policy = policy(alloc)?;
     let mut world = World::new(alloc);
-    is_kept::<PlainBook<Global>>(alloc, &policy, &mut world, stages)
+    is_kept::<PortBook<Global>>(alloc, &policy, &mut world, stages)
 }
 
 /// Whether a desk with this world answers each turn of these lists as it says, one list after the
@@ -138,5 +139,5 @@ pub fn holds_in(
         return Err(Fail::from("world"));
     }
     let policy = policy(alloc)?;
-    is_kept::<PlainBook<Global>>(alloc, &policy, world, stages)
+    is_kept::<PortBook<Global>>(alloc, &policy, world, stages)
 }

@@ -8,7 +8,8 @@ use crate::policies::policy;
 use fab_desk_base::Reply;
 use fab_machine::{Asked, answer_all};
 use fab_policy::Policy;
-use fab_reach::{PathBook, PlainBook};
+use fab_port_book::PortBook;
+use fab_reach::PathBook;
 use fab_world::World;
 use std::alloc::Global;
 use std::test::Fail;
@@ -97,5 +98,5 @@ fn are_kept<B: PathBook<Global>>(
 pub fn holds_at_once(alloc: Global, stages: &[&[Turn]]) -> Result<bool, Fail> {
     let policy = policy(alloc)?;
     let mut world = World::new(alloc);
-    are_kept::<PlainBook<Global>>(alloc, &policy, &mut world, stages)
+    are_kept::<PortBook<Global>>(alloc, &policy, &mut world, stages)
 }

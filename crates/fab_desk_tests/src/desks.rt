@@ -4,7 +4,7 @@ use crate::lists::{List, turns_of};
 use fab_asking::{Turn, command, is_told, policy};
 use fab_desk::Desk;
 use fab_desk_base::Reply;
-use fab_reach::PlainBook;
+use fab_port_book::PortBook;
 use fab_store::SqlStore;
 use fab_stores::{OpenFault, Store};
 use sqlite::{Alter, Connection};
@@ -12,7 +12,7 @@ use std::alloc::Global;
 use std::test::Fail;
 
 /// A desk over a store.
-pub type DeskOver<S> = Desk<Global, S, PlainBook<Global>>;
+pub type DeskOver<S> = Desk<Global, S, PortBook<Global>>;
 
 /// The tables of a connection in which no transaction runs.
 pub fn tables_of<S: Alter + Drop>(alloc: Global, conn: Connection<S>) -> Result<SqlStore<S>, Fail> {

@@ -13,7 +13,8 @@ use fab_exchanges::rows::{
     ALIAS_PUT_ANEW, APPROVALS, FIRST_PLAN, ROLLED_BACK, SECOND_PLAN, UNIT_CLASH, UNMAPPED,
     VOLUME_GONE, WORLD,
 };
-use fab_reach::{PathBook, PlainBook};
+use fab_port_book::PortBook;
+use fab_reach::PathBook;
 use fab_refusing::Refusing;
 use fab_stores::Store;
 use fab_world::World;
@@ -212,7 +213,7 @@ fn try_from(
 ) -> Result<Option<u64>, Fail> {
     let refusing = Refusing::new(global);
     let tables = new_tables(global)?;
-    let desk = asked::<&Refusing<Global>, Tables, PlainBook<&Refusing<Global>>>(
+    let desk = asked::<&Refusing<Global>, Tables, PortBook<&Refusing<Global>>>(
         &refusing, global, tables, lists, texts,
     );
     tried(&refusing, global, &refusing, desk, way, asking, first)

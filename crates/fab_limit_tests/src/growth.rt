@@ -9,7 +9,8 @@ use fab_asking::{ADA, opened, policy};
 use fab_desk_base::Command;
 use fab_machine::{Proposal, propose, take_over};
 use fab_policy::Policy;
-use fab_reach::{PathBook, PlainBook};
+use fab_port_book::PortBook;
+use fab_reach::PathBook;
 use fab_refusing::Refusing;
 use fab_world::World;
 use std::alloc::Global;
@@ -220,7 +221,7 @@ fn refuse(alloc: Global, policy: &Policy, case: &Case<'_>, requests: u64) -> Res
         policy,
     };
     let mut world = World::new(means.heap);
-    tried_on::<PlainBook<Heap<'_>>>(means, &mut world, case, requests)
+    tried_on::<PortBook<Heap<'_>>>(means, &mut world, case, requests)
 }
 
 /// How many requests of the case's command were answered with want of memory, until the command met
@@ -299,7 +300,7 @@ fn take(alloc: Global, policy: &Policy, case: &Case<'_>) -> Result<Came, Fail> {
         policy,
     };
     let mut world = World::new(means.heap);
-    taken_over_on::<PlainBook<Heap<'_>>>(means, &mut world, case)
+    taken_over_on::<PortBook<Heap<'_>>>(means, &mut world, case)
 }
 
 /// Whether the change that the case's command makes is taken over without memory.

@@ -12,7 +12,8 @@ use fab_machine::answer;
 use fab_names::{Fabric, Name, Wwn};
 use fab_plans_base::read_plan;
 use fab_policy::Policy;
-use fab_reach::{PathBook, PlainBook};
+use fab_port_book::PortBook;
+use fab_reach::PathBook;
 use fab_refusing::Refusing;
 use fab_rows::TableRows;
 use fab_world::World;
@@ -227,7 +228,7 @@ fn fill_new<'a, B: PathBook<Heap<'a>>>(
 /// A world of which these were asked.
 fn twin<'a>(means: Means<'a>, orders: &[Order]) -> Result<World<Heap<'a>>, Fail> {
     let mut world = World::new(means.heap);
-    fill_new::<PlainBook<Heap<'a>>>(means, &mut world, orders)?;
+    fill_new::<PortBook<Heap<'a>>>(means, &mut world, orders)?;
     Ok(world)
 }
 

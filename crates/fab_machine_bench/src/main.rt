@@ -18,7 +18,8 @@ mod turns;
 
 use anyhow::{Context, Result, bail};
 use fab_policy_base::Policy;
-use fab_reach::{PathBook, PlainBook};
+use fab_port_book::PortBook;
+use fab_reach::PathBook;
 use fab_world::World;
 use std::alloc::Global;
 use std::env;
@@ -78,5 +79,5 @@ fn main(rt: HostRuntime) -> Result<()> {
     let turns = turns.parse::<u64>().context("the turns")?;
     let policy = desk::policy(rt.alloc())?;
     let hosts = (paths / PATHS).clamp(16, 1024);
-    run::<PlainBook<Global>>(&rt, &policy, hosts, turns)
+    run::<PortBook<Global>>(&rt, &policy, hosts, turns)
 }

@@ -9,7 +9,8 @@ use fab_changes::{Changes, changes};
 use fab_machine::{Proposal, answer, lists_of, propose, take_over};
 use fab_next_changes::next_changes;
 use fab_policy::Policy;
-use fab_reach::{PathBook, PlainBook, View};
+use fab_port_book::PortBook;
+use fab_reach::{PathBook, View};
 use fab_rows::TableRows;
 use fab_world::World;
 use std::alloc::Global;
@@ -165,5 +166,5 @@ fn is_kept<B: PathBook<Global>>(
 /// Where a turn says no command or no change, or there is no memory.
 pub fn holds(alloc: Global, turns: &[Turn]) -> Result<bool, Fail> {
     let policy = policy(alloc)?;
-    is_kept::<PlainBook<Global>>(alloc, &policy, turns)
+    is_kept::<PortBook<Global>>(alloc, &policy, turns)
 }

@@ -3,7 +3,7 @@
 use crate::faults::Fault;
 use fab_desk::Desk;
 use fab_policy_base::Policy;
-use fab_reach::PlainBook;
+use fab_port_book::PortBook;
 use fab_store::SqlStore;
 use fab_stores::{OpenFault, Store};
 use sqlite::{Connection, Error, ErrorCode, File as DatabaseFile, FileStore, MemStore};
@@ -18,7 +18,7 @@ pub type FileTables = SqlStore<FileStore<DatabaseFile>>;
 pub type MemoryTables = SqlStore<MemStore>;
 
 /// The desk of the program over a store.
-pub type ProgramDesk<S> = Desk<Global, S, PlainBook<Global>>;
+pub type ProgramDesk<S> = Desk<Global, S, PortBook<Global>>;
 
 /// The tables in a file, which has to be there.
 ///

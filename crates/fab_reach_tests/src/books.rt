@@ -4,6 +4,7 @@ use crate::steps::{Act, change, empty};
 use crate::stock::{DB1, DB2, DB9, G1, V1, name, stock};
 use crate::ways::{Ways, are};
 use fab_inventory::Inventory;
+use fab_port_book::PortBook;
 use fab_reach::laws::{advance_all, are_serving};
 use fab_reach::{Config, Delta, PathBook, PlainBook, View};
 use std::alloc::Global;
@@ -162,6 +163,12 @@ fn plain_book_is_led(rt: HostRuntime) -> Result<(), Fail> {
     Ok(())
 }
 
+#[test]
+fn port_book_is_led(rt: HostRuntime) -> Result<(), Fail> {
+    assert!(rt; are_led::<PortBook<Global>>(rt.alloc(), &TURNS)?);
+    Ok(())
+}
+
 /// The configuration after the first so many turns.
 fn after(
     alloc: Global,
@@ -252,5 +259,11 @@ fn is_led_through<B: PathBook<Global>>(alloc: Global) -> Result<bool, Fail> {
 #[test]
 fn plain_book_is_led_through(rt: HostRuntime) -> Result<(), Fail> {
     assert!(rt; is_led_through::<PlainBook<Global>>(rt.alloc())?);
+    Ok(())
+}
+
+#[test]
+fn port_book_is_led_through(rt: HostRuntime) -> Result<(), Fail> {
+    assert!(rt; is_led_through::<PortBook<Global>>(rt.alloc())?);
     Ok(())
 }

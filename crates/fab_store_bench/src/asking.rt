@@ -8,14 +8,14 @@ use anyhow::{Result, bail};
 use fab_desk::Desk;
 use fab_desk_base::{Command, Reply};
 use fab_policy_base::Policy;
-use fab_reach::PlainBook;
+use fab_port_book::PortBook;
 use fab_stores::Store;
 use std::alloc::Global;
 use std::cell::Cell;
 use std::time::Instant;
 
 /// A desk over a store.
-pub type DeskOver<S> = Desk<Global, S, PlainBook<Global>>;
+pub type DeskOver<S> = Desk<Global, S, PortBook<Global>>;
 
 /// The token of the one caller.
 const TOKEN: &str = "token";

@@ -5,6 +5,7 @@ ghost use Rattle.fab_reach.specs.Serving.{IsServing};
 
 use crate::worlds::{Heap, INITIATOR, TARGET, World, name};
 use fab_names::{Fabric, Wwn};
+use fab_port_book::PortBook;
 use fab_reach::{Delta, Path, PathBook, PlainBook, View};
 use std::alloc::{AllocError, Allocator};
 use std::test::Fail;
@@ -232,23 +233,25 @@ fn goes<'a, B: PathBook<Heap<'a>>>(
     }
 }
 
-/// The same of the book that lists both worlds anew.
-fn goes_anew<'a>(
+/// The same of the book that lists both worlds anew, and then of the one that looks at changes.
+fn each_goes<'a>(
     means: Means<'a>,
     first: &World<'a>,
     second: Option<&World<'a>>,
 ) -> Result<bool, Fail> {
-    goes::<PlainBook<Heap<'a>>>(means, first, second)
+    let plain = goes::<PlainBook<Heap<'a>>>(means, first, second)?;
+    let by_ports = goes::<PortBook<Heap<'a>>>(means, first, second)?;
+    Ok(plain && by_ports)
 }
 
 /// Whether a book is opened at the world and has the path of the host; not so where there is no memory.
 pub fn opens<'a>(heap: Heap<'a>, world: &World<'a>) -> Result<bool, Fail> {
     let is_bare = false;
-    goes_anew(Means { heap, is_bare }, world, None)
+    each_goes(Means { heap, is_bare }, world, None)
 }
 
 /// Leads a new book from a world without a path to one that has the path of the host; not so where
 /// there is no memory.
 pub fn leads<'a>(means: Means<'a>, before: &World<'a>, after: &World<'a>) -> Result<bool, Fail> {
-    goes_anew(means, before, Some(after))
+    each_goes(means, before, Some(after))
 }

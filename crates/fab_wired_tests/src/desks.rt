@@ -2,7 +2,7 @@
 
 use fab_desk::Desk;
 use fab_policy_base::Policy;
-use fab_reach::PlainBook;
+use fab_port_book::PortBook;
 use fab_store::SqlStore;
 use fab_stores::Store;
 use sqlite::{Alter, Connection, MemStore};
@@ -13,7 +13,7 @@ use std::test::Fail;
 pub type Tables = SqlStore<MemStore>;
 
 /// A desk over a store.
-pub type DeskOver<S> = Desk<Global, S, PlainBook<Global>>;
+pub type DeskOver<S> = Desk<Global, S, PortBook<Global>>;
 
 /// The tables, which are made.
 fn made<S: Alter + Drop>(tables: SqlStore<S>) -> Result<SqlStore<S>, Fail> {

@@ -1,0 +1,5 @@
+pub mod Covering
+pub mod Keeping
+pub mod Paths
+pub mod Staying
+pub mod Zones
