@@ -1,6 +1,8 @@
 //! Runs of the program, each by the words of its command line: what it reads and writes, and its exit
 //! status. The desk stands in a file, which each run opens anew.
 
+use fab_exchanges::rows::{FIRST_PLAN, WORLD};
+use fab_exchanges::{exchange_of, turn_of};
 use fab_policy_base::TRIAL_POLICY;
 use fab_program_base::run;
 use std::alloc::{AllocError, Global};
@@ -62,34 +64,23 @@ fn are_run(rt: &HostRuntime, runs: &[Run]) -> Result<(), Fail> {
     Ok(())
 }
 
-/// A request of the caller ada, by its method and path and its body, and the body of its answer, which
-/// has the status 200.
-type Request = (&'static str, &'static str, &'static str);
-
-/// Has the desk in the file answer a request.
-fn is_answered(rt: &HostRuntime, words: &[String], request: &Request) -> Result<(), Fail> {
-    let (line, body, answer) = *request;
-    let given = body.len();
-    let told = answer.len();
-    let input = format!(in rt.alloc();
-        "{line} HTTP/1.1\r\nAuthorization: Bearer t-ada\r\nContent-Length: {given}\r\n\r\n{body}"
-    )?;
-    let output = format!(in rt.alloc();
-        "HTTP/1.1 200 OK\r\nContent-Type: application/json\r\nContent-Length: {told}\r\nConnection: close\r\n\r\n{answer}"
-    )?;
+/// Has the desk in the file answer a request, as a line of a table tells both.
+fn is_answered(rt: &HostRuntime, words: &[String], line: &str) -> Result<(), Fail> {
+    let turn = turn_of(line)?;
+    let exchange = exchange_of(rt.alloc(), &turn)?;
     let wanted = Wrote {
-        output: output.as_str(),
+        output: exchange.answer.as_str(),
         errors: "",
         status: 0,
     };
-    is_run(rt, words, input.as_str(), &wanted)
+    is_run(rt, words, exchange.request.as_str(), &wanted)
 }
 
-/// Has the desk in the file answer requests, one after the other.
-fn are_answered(rt: &HostRuntime, requests: &[Request]) -> Result<(), Fail> {
+/// Has the desk in the file answer requests, one after the other, but for so many of the first.
+fn are_answered(rt: &HostRuntime, lines: &[&str], but: usize) -> Result<(), Fail> {
     let words = words_from(rt.alloc(), "sandesk once --db round.db --policy round.toml")?;
-    for request in requests {
-        is_answered(rt, words.as_slice(), request)?;
+    for line in lines.iter().skip(but) {
+        is_answered(rt, words.as_slice(), line)?;
     }
     Ok(())
 }
@@ -124,56 +115,7 @@ const MADE: &[Run] = &[
     ),
 ];
 
-/// The worked world, and its first plan.
-const WORLD: &[Request] = &[
-    (
-        "PUT /hosts/db1",
-        r#"{"ports":["10:00:00:00:00:00:00:01"],"tenant":"blue"}"#,
-        r#"{"revision":2}"#,
-    ),
-    (
-        "PUT /hosts/db2",
-        r#"{"ports":["10:00:00:00:00:00:00:02","10:00:00:00:00:00:00:03"],"tenant":"green"}"#,
-        r#"{"revision":3}"#,
-    ),
-    (
-        "PUT /arrays/arr1",
-        r#"{"ports":["50:00:00:00:00:00:00:01","50:00:00:00:00:00:00:02"],"tenant":"store"}"#,
-        r#"{"revision":4}"#,
-    ),
-    (
-        "PUT /volumes/v1",
-        r#"{"array":"arr1","bytes":1073741824,"tenant":"blue"}"#,
-        r#"{"revision":5}"#,
-    ),
-    (
-        "PUT /volumes/v2",
-        r#"{"array":"arr1","bytes":1073741824,"tenant":"green"}"#,
-        r#"{"revision":6}"#,
-    ),
-    (
-        "PUT /plans/p1",
-        "alias.put A disk wwpn=50:00:00:00:00:00:00:01
-zone.put A z1 wwpn=10:00:00:00:00:00:00:01 alias=disk
-set.put A s1 z1
-activate A s1
-hg.put hosts1 blue db1
-sg.new g1 blue arr1
-sg.host g1 hosts1
-sg.target g1 50:00:00:00:00:00:00:01
-sg.map g1 0 v1
-sg.expose g1
-",
-        r#"{"plan":"p1","steps":10}"#,
-    ),
-    (
-        "POST /plans/p1/activate",
-        "",
-        r#"{"gained":[{"fabric":"A","initiator":"10:00:00:00:00:00:00:01","lun":0,"target":"50:00:00:00:00:00:00:01","volume":"v1"}],"lost":[],"plan":"p1","revision":7}"#,
-    ),
-];
-
-/// The paths of its first host as texts.
+/// The paths of the first host of the worked world as texts.
 const PATHS_AND_REPORT: &[Run] = &[
     (
         "sandesk paths --db round.db --policy round.toml --token t-ada --host db1",
@@ -198,7 +140,8 @@ fn file_round(rt: HostRuntime) -> Result<(), Fail> {
     fs::write(&rt, "round.toml", TRIAL_POLICY)?;
     fs::write(&rt, "round.csv", PORTS)?;
     are_run(&rt, MADE)?;
-    are_answered(&rt, WORLD)?;
+    are_answered(&rt, WORLD, 1)?;
+    are_answered(&rt, FIRST_PLAN, 0)?;
     are_run(&rt, PATHS_AND_REPORT)
 }
 
