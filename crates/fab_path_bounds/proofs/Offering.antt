@@ -1,5 +1,5 @@
 -- What storage groups offer is bounded, and has each path that there is.
-use Rattle.std.proofs.Common.{ℕ, ◌≡◌, ◌<◌, ◌≤◌, ◌+◌, ◌*◌, min, List, [], ◌∷◌, ◌++◌, length, Contains, true, false, Option, None, Some, ◌⊎◌, inl, inr, refl, sym, ap, ◌∙◌, subst, arith}
+use Rattle.std.proofs.Common.{ℕ, ◌≡◌, ◌<◌, ◌≤◌, ◌+◌, ◌*◌, min, List, [], ◌∷◌, ◌++◌, length, Contains, true, false, Option, None, Some, ◌⊎◌, inl, inr, refl, sym, ap, ◌∙◌, subst, arith, length-append}
 use mathlib.Core.Bool.{true≢false}
 use Rattle.std.specs.Ordering.{nat_cmp}
 use Rattle.std.specs.Option.{option_map}
@@ -71,26 +71,31 @@ targets_end v f g ts before n is whole = bounds_as (Among (ByTarget v f) before)
 
 -- ---- units
 
-abbrev pub Same : ℕ × List ℕ → ℕ × List ℕ → Type 0
-Same e z = e ≡ z
+-- one unit more is counted
+pub unit_counted : (before : List (ℕ × List ℕ)) (e : ℕ × List ℕ) (n : ℕ) → n ≡ min (length before) 18446744073709551615 → min (n + 1) 18446744073709551615 ≡ min (length (before ++ e ∷ [])) 18446744073709551615
+unit_counted before e n so_far = omega (arith, so_far, length-append before (e ∷ []))
 
-pub unit_more : (before : List (ℕ × List ℕ)) (e : ℕ × List ℕ) (n : ℕ) → Bounds (Among Same before) n → Bounds (Among Same (before ++ e ∷ [])) (min (n + 1) 18446744073709551615)
-unit_more before e n so_far = bound_more Same before e n 1 so_far (bounds_one (Same e) e (λ z w. w))
+pub units_end : (g : StorageGroupRows) (es before : List (ℕ × List ℕ)) (n : ℕ) → es ≡ map.entries g.units → before ≡ es → n ≡ min (length before) 18446744073709551615 → n ≡ min (map.len g.units) 18446744073709551615
+units_end g es before n is whole so_far = so_far ∙ ap (λ (xs : List (ℕ × List ℕ)). min (length xs) 18446744073709551615) (whole ∙ is) ∙ ap (λ k. min k 18446744073709551615) (sym (map.len-entries g.units))
 
-pub units_end : (g : StorageGroupRows) (es before : List (ℕ × List ℕ)) (n : ℕ) → es ≡ map.entries g.units → before ≡ es → Bounds (Among Same before) n → Bounds (IsUnit g) n
-units_end g es before n is whole = bounds_as (Among Same before) (IsUnit g) n (λ z w. (z, subst (λ xs. Contains xs z) (sym (whole ∙ is)) ((entry_decides nat_cmp nat_cmp_total set.nat_cmp-IsAntisymmetric g.units z.0 z.1).0 w), refl))
+units_bound : (g : StorageGroupRows) (n : ℕ) → n ≡ min (map.len g.units) 18446744073709551615 → Bounds (IsUnit g) n
+units_bound g n is lt = record {
+  some = map.entries g.units;
+  few = omega (arith, is, lt, map.len-entries g.units);
+  all = λ z w. (entry_decides nat_cmp nat_cmp_total set.nat_cmp-IsAntisymmetric g.units z.0 z.1).0 w;
+}
 
 -- ---- the paths of a storage group
 
 abbrev path_of : Fabric → (ℕ × ℕ) × (ℕ × List ℕ) → Path
 path_of f z = record { fabric = f; initiator = z.0.0; target = z.0.1; volume = z.1.1; unit = z.1.0 }
 
-pub offered : (v : InventoryRows) (f : Fabric) (m : MappingRows) (g : StorageGroupRows) (p q u : ℕ) → Bounds (OfGroup v f m g) p → Bounds (IsTargetAt v f g) q → Bounds (IsUnit g) u
+pub offered : (v : InventoryRows) (f : Fabric) (m : MappingRows) (g : StorageGroupRows) (p q u : ℕ) → Bounds (OfGroup v f m g) p → Bounds (IsTargetAt v f g) q → u ≡ min (map.len g.units) 18446744073709551615
     → Bounds (Offers v f m g) (min (min (p * q) 18446744073709551615 * u) 18446744073709551615)
 offered v f m g p q u ports targets units =
     bounds_by (λ (z : (ℕ × ℕ) × (ℕ × List ℕ)). (OfGroup v f m g z.0.0 × IsTargetAt v f g z.0.1) × IsUnit g z.1) (Offers v f m g) (path_of f) (min (min (p * q) 18446744073709551615 * u) 18446744073709551615)
     (λ x w. (((x.initiator, x.target), (x.unit, x.volume)), ((w.1, w.2), w.3), λ i. record { fabric = sym w.0 i; initiator = x.initiator; target = x.target; volume = x.volume; unit = x.unit }))
-    (bounds_pairs (λ (z : ℕ × ℕ). OfGroup v f m g z.0 × IsTargetAt v f g z.1) (IsUnit g) (min (p * q) 18446744073709551615) u (bounds_pairs (OfGroup v f m g) (IsTargetAt v f g) p q ports targets) units)
+    (bounds_pairs (λ (z : ℕ × ℕ). OfGroup v f m g z.0 × IsTargetAt v f g z.1) (IsUnit g) (min (p * q) 18446744073709551615) u (bounds_pairs (OfGroup v f m g) (IsTargetAt v f g) p q ports targets) (units_bound g u units))
 
 -- ---- all exposed storage groups
 

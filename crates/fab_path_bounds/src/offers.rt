@@ -1,10 +1,11 @@
 //! How many paths storage groups offer at most.
-ghost use Rattle.std.specs.Prelude.{◌≡◌, ◌↔◌, ℕ, true, IsTrue, IfOk};
+ghost use Rattle.std.specs.Prelude.{◌≡◌, ◌↔◌, ℕ, min, true, IsTrue, IfOk};
+ghost use Rattle.std.specs.FinMap as map;
 ghost use Rattle.fab_names.specs.declared.fabric.Fabric.{Fabric};
 ghost use Rattle.fab_inventory.specs.Inventories.{InventoryRows};
 ghost use Rattle.fab_mapping.specs.Mappings.{MappingRows};
 ghost use Rattle.fab_path_bounds.specs.Counting.{Bounds};
-ghost use Rattle.fab_path_bounds.specs.Offers.{AreOfHostGroups, IsTargetAt, IsUnit, OfGroup, Offers, OffersIn, PortIsAt};
+ghost use Rattle.fab_path_bounds.specs.Offers.{AreOfHostGroups, IsTargetAt, OfGroup, Offers, OffersIn, PortIsAt};
 ghost use Rattle.fab_reach.specs.Limits.{MoreThan};
 ghost use Rattle.fab_reach.specs.Reach.{Reaches};
 ghost use Rattle.fab_reach.specs.Views.{seen};
@@ -60,9 +61,9 @@ fn targets_at<A: Allocator + Copy>(
     count
 }
 
-/// The units of a storage group.
+/// How many units a storage group has.
 fn units_of<A: Allocator + Copy>(group: &StorageGroup<A>) -> u64
-    ensures { Bounds (IsUnit group.now) result }
+    ensures { result ≡ min (map.len group.now.units) 18446744073709551615 }
 {
     let mut count: u64 = 0;
     for (_unit, _volume) in group.units() {

@@ -1,12 +1,10 @@
-use Rattle.std.proofs.Common.{◌∷◌, [], ◌++◌, sym, subst}
+use Rattle.std.proofs.Common.{◌∷◌, [], ◌++◌, ◌∙◌, refl, sym}
 use Rattle.fab_maps.proofs.Walks.{walked, walk_end}
-use Rattle.fab_path_bounds.specs.Counting.{Bounds}
-use Rattle.fab_path_bounds.proofs.Bounding.{Among, bound_start}
-use Rattle.fab_path_bounds.proofs.Offering.{Same, unit_more, units_end}
+use Rattle.fab_path_bounds.proofs.Offering.{unit_counted, units_end}
 use Rattle.fab_path_bounds.proofs.offers.units_of.Goals as goal
 
 pub loop-unit-init : goal.loop-unit-init
-loop-unit-init g c = (c.units-unit-items.result, c.units-unit-items.ensures, [], sym c.into_iter-unit-iterator.ensures.into_iter_gives, bound_start Same 0)
+loop-unit-init g c = (c.units-unit-items.result, c.units-unit-items.ensures, [], sym c.into_iter-unit-iterator.ensures.into_iter_gives, refl)
 
 pub loop-unit-preserved : goal.loop-unit-preserved
 loop-unit-preserved g c =
@@ -15,7 +13,7 @@ loop-unit-preserved g c =
       i.1,
       i.2 ++ (c.in-Some._unit.now, c.in-Some._volume.now) ∷ [],
       walked i.0 i.2 c.loop-unit._unit-iterator c.next.new.self (c.in-Some._unit.now, c.in-Some._volume.now) i.3 c.in-Some.ensures.steps,
-      subst (Bounds (Among Same (i.2 ++ (c.in-Some._unit.now, c.in-Some._volume.now) ∷ []))) (sym c.saturating_add-count.ensures) (unit_more i.2 (c.in-Some._unit.now, c.in-Some._volume.now) c.loop-unit.count i.4),
+      c.saturating_add-count.ensures ∙ unit_counted i.2 (c.in-Some._unit.now, c.in-Some._volume.now) c.loop-unit.count i.4,
     )
 
 pub returns : goal.returns
