@@ -6,13 +6,13 @@ use Rattle.std.specs.FinSet as set
 use Rattle.fab_names.specs.Orders.{name_cmp}
 use Rattle.fab_names.proofs.OrderLaws.{name_total, name_exact}
 use Rattle.fab_maps.proofs.SeenEntries.{entry_decides}
-use Rattle.fab_mapping_base.specs.Groups.{HostGroupRows, StorageGroupRows}
+use Rattle.fab_mapping_base.specs.Groups.{HostGroupRows, StorageGroupRows, HoldsHost}
 use Rattle.fab_mapping.specs.Mappings.{MappingRows}
 use Rattle.fab_reach.specs.Gathering.{Serves, ServesBy}
 use Rattle.fab_reach.proofs.Adding.{Before}
 use Rattle.fab_reach.proofs.Same.{same_some}
 use Rattle.fab_reach.proofs.Services.{listed_in}
-use Rattle.fab_port_book.specs.Changes.{KeepsHosts, KeepsHostsOf, HasHostIn, Stays}
+use Rattle.fab_port_book.specs.Changes.{KeepsHosts, KeepsHostsOf, Stays}
 use Rattle.fab_port_book.specs.Covering.{Takes, Covers, IsExposed}
 use Rattle.fab_port_book.proofs.Covering.{SoFar, takes_as, covers_as}
 
@@ -21,7 +21,7 @@ pub nothing_kept : (m n : MappingRows) (name : List ℕ) → map.get m.host_grou
 nothing_kept m n name none k at = let e : ◌≡◌ {A = Option HostGroupRows} None (Some k) = sym none ∙ at in absurd cc
 
 pub kept_of : (m n : MappingRows) (name : List ℕ) (k l : HostGroupRows) → map.get m.host_groups name ≡ Some k → map.get n.host_groups name ≡ Some l → KeepsHosts k l → KeepsHostsOf m n name
-kept_of m n name k l at to keeps j is = (l, to, λ host h. keeps host (subst (λ g. HasHostIn g host) (same_some is at) h))
+kept_of m n name k l at to keeps j is = (l, to, λ host h. keeps host (subst (HoldsHost host) (same_some is at) h))
 
 -- the host itself
 abbrev pub Itself : List ℕ → List ℕ → Type 0
@@ -42,8 +42,8 @@ pub hosts_taken : (hosts : set.FinSet name_cmp) (hs : List (List ℕ)) (old new 
 hosts_taken hosts hs old new is = takes_as (Before Itself hs) (λ h. set.contains hosts h ≡ true) old new (λ h there. (h, (listed_in hosts hs is h).0 there, refl))
 
 -- the hosts of a host group that the mapping has, and of one that it has not
-pub by_hosts : (m : MappingRows) (name : List ℕ) (k : HostGroupRows) (old new : List ℕ → Type 0) → map.get m.host_groups name ≡ Some k → Takes (HasHostIn k) old new → Takes (ServesBy m name) old new
-by_hosts m name k old new at = takes_as (HasHostIn k) (ServesBy m name) old new (λ h w. subst (λ g. HasHostIn g h) (same_some w.1 at) w.2)
+pub by_hosts : (m : MappingRows) (name : List ℕ) (k : HostGroupRows) (old new : List ℕ → Type 0) → map.get m.host_groups name ≡ Some k → Takes (λ h. HoldsHost h k) old new → Takes (ServesBy m name) old new
+by_hosts m name k old new at = takes_as (λ h. HoldsHost h k) (ServesBy m name) old new (λ h w. subst (HoldsHost h) (same_some w.1 at) w.2)
 
 pub no_hosts : (m : MappingRows) (name : List ℕ) → map.get m.host_groups name ≡ None → (h : List ℕ) → ¬ ServesBy m name h
 no_hosts m name none h w = let e : ◌≡◌ {A = Option HostGroupRows} None (Some w.0) = sym none ∙ w.1 in absurd cc

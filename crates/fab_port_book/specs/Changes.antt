@@ -10,7 +10,7 @@ use Rattle.fab_inventory.specs.declared.port.Port.{Port}
 use Rattle.fab_inventory.specs.Ports.{port_at}
 use Rattle.fab_zoning.specs.Zonings.{FabricZoning}
 use Rattle.fab_zoning.specs.Joins.{Holds, IsLoggedInAt}
-use Rattle.fab_mapping_base.specs.Groups.{HostGroupRows, StorageGroupRows}
+use Rattle.fab_mapping_base.specs.Groups.{HostGroupRows, StorageGroupRows, HasTarget, HoldsHost}
 use Rattle.fab_mapping.specs.Mappings.{MappingRows}
 use Rattle.fab_reach.specs.Records.{Records, zoning_at}
 use Rattle.fab_reach.specs.Reach.{IsPort, Reaches}
@@ -47,13 +47,9 @@ AreChanged w v changed = (p : ℕ) → IsSamePort w v p ⊎ HasPort changed p
 
 -- ---- storage groups
 
--- the host group has the host
-abbrev pub HasHostIn : HostGroupRows → List ℕ → Type 0
-HasHostIn k host = set.contains k.hosts host ≡ true
-
 -- the other host group has each host of this one
 abbrev pub KeepsHosts : HostGroupRows → HostGroupRows → Type 0
-KeepsHosts k l = (host : List ℕ) → HasHostIn k host → HasHostIn l host
+KeepsHosts k l = (host : List ℕ) → HoldsHost host k → HoldsHost host l
 
 -- a host group of this name is in the mapping, and has each host of this one
 abbrev pub HasHostsOf : MappingRows → List ℕ → HostGroupRows → Type 0
@@ -73,11 +69,11 @@ KeepsHostGroups m n g h = (name : List ℕ) → set.contains g.host_groups name 
 
 -- the storage group has the target, which is not among these ports
 abbrev pub KeepsTarget : BTreeSet ℕ → StorageGroupRows → ℕ → Type 0
-KeepsTarget changed h target = (set.contains h.targets target ≡ true) × ¬ HasPort changed target
+KeepsTarget changed h target = HasTarget target h × ¬ HasPort changed target
 
 -- the other storage group has each target, and none of them is among these ports
 abbrev pub KeepsTargets : BTreeSet ℕ → StorageGroupRows → StorageGroupRows → Type 0
-KeepsTargets changed g h = (target : ℕ) → set.contains g.targets target ≡ true → KeepsTarget changed h target
+KeepsTargets changed g h = (target : ℕ) → HasTarget target g → KeepsTarget changed h target
 
 -- the other storage group has each volume at its unit
 abbrev pub KeepsUnits : StorageGroupRows → StorageGroupRows → Type 0

@@ -1,8 +1,9 @@
 //! Which hosts are served by an exposed storage group that another world has not, or not so.
 ghost use Rattle.std.specs.Prelude.{◌≡◌, Some, true, false, IsTrue, OnOk};
 ghost use Rattle.std.specs.FinMap as map;
+ghost use Rattle.fab_mapping_base.specs.Groups.{HoldsHost};
 ghost use Rattle.fab_reach.specs.Gathering.{Serves};
-ghost use Rattle.fab_port_book.specs.Changes.{HasHost, HasHostIn, KeepsHostGroup, KeepsHostGroups, KeepsHosts, KeepsHostsOf, KeepsTarget, KeepsTargets, KeepsUnits, Stays};
+ghost use Rattle.fab_port_book.specs.Changes.{HasHost, KeepsHostGroup, KeepsHostGroups, KeepsHosts, KeepsHostsOf, KeepsTarget, KeepsTargets, KeepsUnits, Stays};
 ghost use Rattle.fab_port_book.specs.Covering.{AddsMoved, Takes};
 
 use fab_mapping::{HostGroup, Mapping, StorageGroup};
@@ -163,7 +164,7 @@ fn add_hosts<A: Allocator + Copy>(
     hosts: &mut BTreeSet<Name, A>,
     group: &HostGroup<A>,
 ) -> Result<(), AllocError>
-    ensures { OnOk result (Takes (HasHostIn group.now) (HasHost hosts.old) (HasHost hosts.new)) }
+    ensures { OnOk result (Takes (λ host. HoldsHost host group.now) (HasHost hosts.old) (HasHost hosts.new)) }
 {
     for host in group.hosts() {
         hosts.insert(*host)?;
