@@ -138,7 +138,10 @@ fn put_head<S: Sink>(
     put_all(sink, &texts)
 }
 
-/// Puts the body of an answer alone: compact JSON, with no line end. A failure of the sink ends it.
+/// Puts the body of an answer alone: compact JSON, with no line end.
+///
+/// # Errors
+/// `WriteFailed` where the sink fails, which ends it. It has taken a beginning then.
 pub fn put_body<A: Allocator + Copy, S: Sink>(
     sink: &mut S,
     answer: &Answer<A>,

@@ -13,6 +13,9 @@ use crate::streams::WriteFailed;
 /// Puts a text between quotes, with its escapes: `\"`, `\\`, `\b`, `\t`, `\n`, `\f`, `\r`, and
 /// `\u00` with two digits for the other control characters. Bytes beyond ASCII stand for
 /// themselves.
+///
+/// # Errors
+/// `WriteFailed` where the sink fails. It has taken a beginning then.
 pub fn put_string<S: Sink>(sink: &mut S, text: &[u8]) -> Result<(), WriteFailed>
     ensures { Takes S.took S.cut sink.old (quoted_json text.now) sink.new result }
 {
@@ -26,6 +29,9 @@ pub fn put_string<S: Sink>(sink: &mut S, text: &[u8]) -> Result<(), WriteFailed>
 }
 
 /// Puts texts as one string: one after the other between two quotes, as `put_string` puts one.
+///
+/// # Errors
+/// `WriteFailed` where the sink fails. It has taken a beginning then.
 pub fn put_joined<S: Sink>(sink: &mut S, texts: &[&[u8]]) -> Result<(), WriteFailed>
     ensures { Takes S.took S.cut sink.old (quoted_json (flat_map (λ text. text.now) texts.now))
         sink.new result }

@@ -75,7 +75,10 @@ impl Sink for Size {
     }
 }
 
-/// Puts texts one after the other. A failure ends them.
+/// Puts texts one after the other.
+///
+/// # Errors
+/// `WriteFailed` where the sink fails, which ends them. It has taken a beginning then.
 pub fn put_all<S: Sink>(sink: &mut S, texts: &[&[u8]]) -> Result<(), WriteFailed>
     ensures { Takes S.took S.cut sink.old (flat_map (λ text. text.now) texts.now) sink.new result }
 {

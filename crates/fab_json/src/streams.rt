@@ -21,7 +21,8 @@ pub struct WriteFailed;
 impl<W: Write> Counted<W> {
     /// Writes a text. Each turn takes a byte or is the last.
     ///
-    /// `WriteFailed` comes at the first write that fails, with a beginning of the text written.
+    /// # Errors
+    /// `WriteFailed` at the first write that fails. A beginning of the text is written then.
     pub fn put(&mut self, text: &[u8]) -> Result<(), WriteFailed>
         ensures ok { OnOk result (Appends (W.contents (inner_of self.old))
             (W.contents (inner_of self.new)) text.now) }
@@ -55,6 +56,9 @@ impl<W: Write> Counted<W> {
     }
 
     /// Writes texts one after the other, as `put` writes one.
+    ///
+    /// # Errors
+    /// `WriteFailed` at the first write that fails. A beginning of the texts is written then.
     pub fn put_all(&mut self, texts: &[&[u8]]) -> Result<(), WriteFailed>
         ensures ok { OnOk result (Appends (W.contents (inner_of self.old))
             (W.contents (inner_of self.new)) (flat_map (λ text. text.now) texts.now)) }
@@ -71,6 +75,9 @@ impl<W: Write> Counted<W> {
     }
 
     /// Writes texts one after the other and then others, as `put` writes one.
+    ///
+    /// # Errors
+    /// `WriteFailed` at the first write that fails. A beginning of the texts is written then.
     pub fn put_both(&mut self, texts: &[&[u8]], others: &[&[u8]]) -> Result<(), WriteFailed>
         ensures ok { OnOk result (Appends (W.contents (inner_of self.old))
             (W.contents (inner_of self.new))
@@ -90,6 +97,9 @@ impl<W: Write> Counted<W> {
 impl<R: Read> Counted<R> {
     /// One read, into `buf` from `at` on, as large as there is room. `Ok(0)` is the end of the
     /// input.
+    ///
+    /// # Errors
+    /// That of the stream, whose read failed. What stands before `at` is as it was.
     pub fn read_at(&mut self, buf: &mut [u8], at: usize) -> io::Result<usize>
         requires { at < length buf.old }
         ensures front { take at buf.new ≡ take at buf.old }

@@ -6,3 +6,5 @@ pub mod ClashSearch
 pub mod Passed
 pub mod Sounding
 pub mod Lacking
+pub mod SortedLists
+pub mod SameKeys

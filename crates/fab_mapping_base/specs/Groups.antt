@@ -125,6 +125,14 @@ HasRoomForUnit g unit = HasRoom g.units unit MOST_UNITS
 abbrev pub HasFreeUnit : StorageGroupRows → ℕ → List ℕ → Type 0
 HasFreeUnit g unit volume = (other : List ℕ) → map.get g.units unit ≡ Some other → other ≡ volume
 
+-- ---- two storage groups
+
+-- both have the same tenant, are on the same array, and are exposed or hidden alike
+pub record HaveSameHead (g h : StorageGroupRows) : Type 0 where
+  pub tenant : g.tenant ≡ h.tenant
+  pub array : g.array ≡ h.array
+  pub exposed : g.exposed ≡ h.exposed
+
 -- ---- what refuses one part more
 
 -- it has as many host groups as it may have, and this one is not among them

@@ -7,6 +7,7 @@ ghost use Rattle.fab_mapping_base.specs.Groups.{host_group_of};
 ghost use Rattle.fab_mapping_base.specs.Soundness.{IsSoundHostGroup};
 
 use crate::limits::MOST_HOSTS;
+use crate::same::are_same_names;
 use fab_maps::set_of;
 use fab_names::Name;
 use std::alloc::{AllocError, Allocator};
@@ -69,6 +70,14 @@ impl<A: Allocator + Copy> HostGroup<A> {
         ensures { result ≡ set.contains self.now.hosts host.now }
     {
         self.hosts.contains(host)
+    }
+
+    /// Whether the other is the same host group: of the same tenant, with the same hosts. It takes no
+    /// memory.
+    pub fn is_same(&self, other: &Self) -> bool
+        ensures { IsTrue result ↔ (self.now ≡ other.now) }
+    {
+        self.tenant == other.tenant && are_same_names(&self.hosts, &other.hosts)
     }
 
     /// Its hosts, in the order of their names.

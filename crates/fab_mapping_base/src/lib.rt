@@ -12,6 +12,7 @@ mod known_pairs;
 mod limits;
 mod look_ups;
 mod nexus;
+mod same;
 mod served;
 mod sound;
 mod storage_group;

@@ -7,9 +7,10 @@ ghost use Rattle.fab_names.specs.Orders.{name_cmp};
 ghost use Rattle.std.specs.FinMap as map;
 ghost use Rattle.fab_mapping_base.specs.ClashSearch.{MapsOther};
 ghost use Rattle.fab_mapping_base.specs.Soundness.{HasFewParts, HasUnitNumbers};
-ghost use Rattle.fab_mapping_base.specs.Groups.{MapsVolume, new_storage_group, with_hosts, without_hosts, with_target, without_target, with_unit, without_unit, exposed_as, HasRoomForHosts, HasRoomForTarget, HasRoomForUnit, HasFreeUnit, AddHostsLimit, AddTargetLimit, MapRefusal};
+ghost use Rattle.fab_mapping_base.specs.Groups.{MapsVolume, new_storage_group, with_hosts, without_hosts, with_target, without_target, with_unit, without_unit, exposed_as, HasRoomForHosts, HasRoomForTarget, HasRoomForUnit, HasFreeUnit, HaveSameHead, AddHostsLimit, AddTargetLimit, MapRefusal};
 
 use crate::limits::{LAST_UNIT, MOST_GROUPS_SERVED, MOST_TARGETS, MOST_UNITS};
+use crate::same::{are_same_names, are_same_ports, are_same_units};
 use crate::{MappingFault, MappingLimit};
 use fab_names::{Name, Wwn};
 use std::alloc::{AllocError, Allocator};
@@ -126,6 +127,31 @@ impl<A: Allocator + Copy> StorageGroup<A> {
         ensures { result ≡ self.now.exposed }
     {
         self.exposed
+    }
+
+    /// Whether both have the same tenant, are on the same array, and are exposed or hidden alike.
+    fn has_same_head(&self, other: &Self) -> bool
+        ensures { IsTrue result ↔ HaveSameHead self.now other.now }
+    {
+        self.tenant == other.tenant && self.array == other.array && self.exposed == other.exposed
+    }
+
+    /// Whether the other is the same storage group: of the same tenant, on the same array, exposed or
+    /// hidden alike, with the same host groups, targets, and units with their volumes. It takes no
+    /// memory.
+    pub fn is_same(&self, other: &Self) -> bool
+        ensures { IsTrue result ↔ (self.now ≡ other.now) }
+    {
+        if !self.has_same_head(other) {
+            return false;
+        }
+        if !are_same_names(&self.host_groups, &other.host_groups) {
+            return false;
+        }
+        if !are_same_ports(&self.targets, &other.targets) {
+            return false;
+        }
+        are_same_units(&self.units, &other.units)
     }
 
     /// Its host groups, in the order of their names.

@@ -171,3 +171,63 @@ fn walks(rt: HostRuntime) -> Result<(), Fail> {
     assert!(rt; walked_parts(&mapping, "g1")? == [1, 1, 1]);
     Ok(())
 }
+
+/// Storage groups, of which each but the first two differs from the first in one part.
+const ALIKE: [Row; 7] = [
+    ("first", "arr1", "hosts1", 1, 0, "v1"),
+    ("same", "arr1", "hosts1", 1, 0, "v1"),
+    ("array", "arr2", "hosts1", 1, 0, "v1"),
+    ("hosts", "arr1", "hosts2", 1, 0, "v1"),
+    ("target", "arr1", "hosts1", 2, 0, "v1"),
+    ("unit", "arr1", "hosts1", 1, 1, "v1"),
+    ("volume", "arr1", "hosts1", 1, 0, "v2"),
+];
+
+/// Whether the storage group of this name is the same as the first.
+fn is_same_as_first(mapping: &Mapping<Global>, name: &str) -> Result<bool, Fail> {
+    let Some(first) = mapping.group(&Name::read("first")?) else {
+        return Ok(false);
+    };
+    match mapping.group(&Name::read(name)?) {
+        Some(group) => Ok(group.is_same(first)),
+        None => Ok(false),
+    }
+}
+
+#[test]
+fn storage_groups_that_are_the_same(rt: HostRuntime) -> Result<(), Fail> {
+    let mapping = world(rt.alloc(), &ALIKE)?;
+    for (name, _, _, _, _, _) in ALIKE {
+        let want = name == "first" || name == "same";
+        assert!(rt; is_same_as_first(&mapping, name)? == want, "{name}");
+    }
+    Ok(())
+}
+
+/// Whether the host groups of two names are the same.
+fn are_same_hosts(mapping: &Mapping<Global>, name: &str, other: &str) -> Result<bool, Fail> {
+    let Some(group) = mapping.host_group(&Name::read(name)?) else {
+        return Ok(false);
+    };
+    match mapping.host_group(&Name::read(other)?) {
+        Some(other) => Ok(group.is_same(other)),
+        None => Ok(false),
+    }
+}
+
+/// Two host groups, and whether they are the same.
+const SAME_HOSTS: [(&str, &str, bool); 4] = [
+    ("hosts2", "hosts2", true),
+    ("hosts1", "hosts2", false),
+    ("hosts2", "hosts1", false),
+    ("hosts1", "hosts3", false),
+];
+
+#[test]
+fn host_groups_that_are_the_same(rt: HostRuntime) -> Result<(), Fail> {
+    let mapping = world(rt.alloc(), &[])?;
+    for (name, other, want) in SAME_HOSTS {
+        assert!(rt; are_same_hosts(&mapping, name, other)? == want, "{name}");
+    }
+    Ok(())
+}

@@ -5,3 +5,4 @@ pub mod RowsGathered
 pub mod TablesTold
 pub mod Determined
 pub mod RowLists
+pub mod Kept

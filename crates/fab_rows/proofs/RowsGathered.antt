@@ -47,10 +47,6 @@ module _ (o : Option ConfigRows) where
       (λ r w. ((w.0, subst (λ zs. Contains zs w.0) is w.1, w.2.0), w.2.1))
       (λ r w. (w.0.0, subst (λ zs. Contains zs w.0.0) (sym is) w.0.1, (w.0.2, w.1)))
 
--- the rows of the same items
-pub same_items : {E : Type 0} (o : Option ConfigRows) (row : E → ConfigRow) (ks xs : List E) (old new : ConfigRow → Type 0) → ks ≡ xs → Adds (Lacking o (RowOfSome row ks)) old new → Adds (Lacking o (RowOfSome row xs)) old new
-same_items o row ks xs old new is a = subst (λ ys. Adds (Lacking o (RowOfSome row ys)) old new) is a
-
 -- a row that was made
 pub same_row : (o : Option ConfigRows) (k r : ConfigRow) (old new : ConfigRow → Type 0) → k ≡ r → Adds (Lacking o (λ x. x ≡ k)) old new → Adds (Lacking o (λ x. x ≡ r)) old new
 same_row o k r old new is a = subst (λ y. Adds (Lacking o (λ x. x ≡ y)) old new) is a

@@ -1,7 +1,8 @@
 -- How the rows of a configuration are gathered, table by table: what the private loops say of
 -- themselves. No public contract names anything of this file.
 use Rattle.std.specs.Prelude.{ℕ, ◌≡◌, ◌⊎◌, List, Contains, Option, None, Some, true, IsTrue}
-use Rattle.std.specs.BTreeSet.{BTreeSet, contains}
+use Rattle.std.specs.declared.cmp.Ordering.{Ordering}
+use Rattle.std.specs.BTreeSet.{BTreeSet, contains, IsSubset}
 use Rattle.std.specs.FinMap as map
 use Rattle.std.specs.FinSet as set
 use Rattle.fab_names.specs.declared.fabric.Fabric.{Fabric}
@@ -34,6 +35,21 @@ Misses (Some c) r = ¬ Stands c r
 -- of the rows with P those that do not stand there
 abbrev pub Lacking : Option ConfigRows → (ConfigRow → Type 0) → ConfigRow → Type 0
 Lacking o P r = P r × Misses o r
+
+-- the configuration, if one is given, has this very host group under the name
+abbrev pub HasHostGroup : Option ConfigRows → List ℕ → HostGroupRows → Type 0
+HasHostGroup None n g = ⊥
+HasHostGroup (Some c) n g = map.get c.mapping.host_groups n ≡ Some g
+
+-- the configuration, if one is given, has this very storage group under the name
+abbrev pub HasStorageGroup : Option ConfigRows → List ℕ → StorageGroupRows → Type 0
+HasStorageGroup None n g = ⊥
+HasStorageGroup (Some c) n g = map.get c.mapping.groups n ≡ Some g
+
+-- the other set, if there is one, has each item of this one
+abbrev pub HasAll : {K : Type 0} → (K → K → Ordering) → Option (BTreeSet K) → BTreeSet K → Type 0
+HasAll R None items = ⊥
+HasAll R (Some other) items = IsSubset R items other
 
 -- ---- the rows of the tables that tell of sets under keys
 

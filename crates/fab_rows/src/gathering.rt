@@ -3,7 +3,7 @@ ghost use Rattle.std.specs.Prelude.{◌≡◌, ◌↔◌, OnOk, IsTrue};
 ghost use Rattle.std.specs.Option.{option_copied};
 ghost use Rattle.fab_reach.specs.Adding.{Adds};
 ghost use Rattle.fab_rows.specs.Standing.{Stands};
-ghost use Rattle.fab_rows.specs.Gathering.{Has, Misses, Lacking, RowOfSome, RowOfSets, unit_row, storage_head_row, IsDefinitionRow, IsActiveRow, IsSettingRow, IsFabricRow, IsHostGroupRow, IsStorageGroupRow, IsHostGroupsRow, IsStorageGroupsRow};
+ghost use Rattle.fab_rows.specs.Gathering.{Has, Misses, Lacking, HasHostGroup, HasStorageGroup, RowOfSome, RowOfSets, unit_row, storage_head_row, IsDefinitionRow, IsActiveRow, IsSettingRow, IsFabricRow, IsHostGroupRow, IsStorageGroupRow, IsHostGroupsRow, IsStorageGroupsRow};
 ghost use Rattle.fab_rows.specs.declared.config_row.ConfigRow.{ConfigRow};
 
 use crate::makers::{ActiveZones, Aliases, HostGroups, Hosts, Maker, Targets, ZoneSets, Zones};
@@ -41,7 +41,7 @@ fn add_row<A: Allocator + Copy>(
 }
 
 /// Adds the rows of a key and each item of its set.
-fn add_set<Q, K, M: Maker<Q, K>, A: Allocator + Copy>(
+fn add_set<Q, K: Ord, M: Maker<Q, K>, A: Allocator + Copy>(
     rows: &mut BTreeSet<ConfigRow, A>,
     without: Option<&Config<A>>,
     maker: &M,
@@ -56,6 +56,38 @@ fn add_set<Q, K, M: Maker<Q, K>, A: Allocator + Copy>(
     Ok(())
 }
 
+/// Whether the rows of the key and all these items stand in the configuration, if one is given. No
+/// tells nothing.
+fn are_kept<Q, K: Ord, M: Maker<Q, K>, A: Allocator + Copy>(
+    without: Option<&Config<A>>,
+    maker: &M,
+    key: &Q,
+    items: &BTreeSet<K, A>,
+) -> bool
+    ensures { IsTrue result → (r : ConfigRow) → RowOfSome (M.row_of maker.now key.now) items.now.keys r → ¬ Misses (option_copied without.entry) r }
+{
+    match without {
+        Some(config) => maker.stand(config, key, items),
+        None => false,
+    }
+}
+
+/// Adds the rows of a key and each item of its set, without looking for each where they are kept.
+fn add_set_lacking<Q, K: Ord, M: Maker<Q, K>, A: Allocator + Copy>(
+    rows: &mut BTreeSet<ConfigRow, A>,
+    without: Option<&Config<A>>,
+    maker: &M,
+    key: &Q,
+    items: &BTreeSet<K, A>,
+) -> Result<(), AllocError>
+    ensures { OnOk result (Adds (Lacking (option_copied without.entry) (RowOfSome (M.row_of maker.now key.now) items.now.keys)) (Has rows.old) (Has rows.new)) }
+{
+    if are_kept(without, maker, key, items) {
+        return Ok(());
+    }
+    add_set(rows, without, maker, key, items.iter())
+}
+
 /// Adds the rows of each key and each item of its set.
 fn add_sets<Q, K: Ord, M: Maker<Q, K>, A: Allocator + Copy>(
     rows: &mut BTreeSet<ConfigRow, A>,
@@ -66,7 +98,7 @@ fn add_sets<Q, K: Ord, M: Maker<Q, K>, A: Allocator + Copy>(
     ensures { OnOk result (Adds (Lacking (option_copied without.entry) (RowOfSets (M.row_of maker.now) sets.entry)) (Has rows.old) (Has rows.new)) }
 {
     for (key, items) in sets {
-        add_set(rows, without, maker, key, items.iter())?;
+        add_set_lacking(rows, without, maker, key, items)?;
     }
     Ok(())
 }
@@ -149,6 +181,38 @@ fn add_host_group<A: Allocator + Copy>(
     Ok(())
 }
 
+/// Whether the configuration, if one is given, has this very host group under the name.
+fn has_host_group<A: Allocator + Copy>(
+    config: Option<&Config<A>>,
+    name: &Name,
+    group: &HostGroup<A>,
+) -> bool
+    ensures { IsTrue result ↔ HasHostGroup (option_copied config.entry) name.now group.now }
+{
+    let Some(config) = config else {
+        return false;
+    };
+    match config.mapping().host_group(name) {
+        Some(other) => other.is_same(group),
+        None => false,
+    }
+}
+
+/// The same, without looking for each row where the configuration has this very host group.
+fn add_host_group_lacking<A: Allocator + Copy>(
+    rows: &mut BTreeSet<ConfigRow, A>,
+    without: Option<&Config<A>>,
+    name: &Name,
+    group: &HostGroup<A>,
+) -> Result<(), AllocError>
+    ensures { OnOk result (Adds (Lacking (option_copied without.entry) (IsHostGroupRow name.now group.now)) (Has rows.old) (Has rows.new)) }
+{
+    if has_host_group(without, name, group) {
+        return Ok(());
+    }
+    add_host_group(rows, without, name, group)
+}
+
 /// Adds the rows of each host group.
 fn add_host_groups<A: Allocator + Copy>(
     rows: &mut BTreeSet<ConfigRow, A>,
@@ -158,7 +222,7 @@ fn add_host_groups<A: Allocator + Copy>(
     ensures { OnOk result (Adds (Lacking (option_copied without.entry) (IsHostGroupsRow mapping.now)) (Has rows.old) (Has rows.new)) }
 {
     for (name, group) in mapping.host_groups() {
-        add_host_group(rows, without, name, group)?;
+        add_host_group_lacking(rows, without, name, group)?;
     }
     Ok(())
 }
@@ -217,6 +281,38 @@ fn add_group<A: Allocator + Copy>(
     Ok(())
 }
 
+/// Whether the configuration, if one is given, has this very storage group under the name.
+fn has_storage_group<A: Allocator + Copy>(
+    config: Option<&Config<A>>,
+    name: &Name,
+    group: &StorageGroup<A>,
+) -> bool
+    ensures { IsTrue result ↔ HasStorageGroup (option_copied config.entry) name.now group.now }
+{
+    let Some(config) = config else {
+        return false;
+    };
+    match config.mapping().group(name) {
+        Some(other) => other.is_same(group),
+        None => false,
+    }
+}
+
+/// The same, without looking for each row where the configuration has this very storage group.
+fn add_group_lacking<A: Allocator + Copy>(
+    rows: &mut BTreeSet<ConfigRow, A>,
+    without: Option<&Config<A>>,
+    name: &Name,
+    group: &StorageGroup<A>,
+) -> Result<(), AllocError>
+    ensures { OnOk result (Adds (Lacking (option_copied without.entry) (IsStorageGroupRow name.now group.now)) (Has rows.old) (Has rows.new)) }
+{
+    if has_storage_group(without, name, group) {
+        return Ok(());
+    }
+    add_group(rows, without, name, group)
+}
+
 /// Adds the rows of each storage group.
 fn add_groups<A: Allocator + Copy>(
     rows: &mut BTreeSet<ConfigRow, A>,
@@ -226,7 +322,7 @@ fn add_groups<A: Allocator + Copy>(
     ensures { OnOk result (Adds (Lacking (option_copied without.entry) (IsStorageGroupsRow mapping.now)) (Has rows.old) (Has rows.new)) }
 {
     for (name, group) in mapping.groups() {
-        add_group(rows, without, name, group)?;
+        add_group_lacking(rows, without, name, group)?;
     }
     Ok(())
 }

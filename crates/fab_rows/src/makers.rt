@@ -1,19 +1,51 @@
 //! How the rows of tables are made that tell of sets under keys.
-ghost use Rattle.std.specs.Prelude.{◌≡◌, List, ℕ};
-ghost use Rattle.fab_rows.specs.Gathering.{alias_row, zone_row, set_row, active_row, host_row, host_group_row, target_row};
+ghost use Rattle.std.specs.Prelude.{◌≡◌, List, ℕ, IsTrue};
+ghost use Rattle.std.specs.Option.{option_copied};
+ghost use Rattle.fab_rows.specs.Gathering.{HasAll, alias_row, zone_row, set_row, active_row, host_row, host_group_row, target_row};
 
 use crate::{ActiveRow, ConfigRow, PartRow, StoragePart, ZoningItem, ZoningRow};
 use fab_names::{Fabric, Member, Name, Wwn};
+use fab_reach::Config;
+use std::alloc::Allocator;
+use std::collections::BTreeSet;
 
 /// A table that tells, of sets under keys, of each key and each item of its set in a row.
-pub trait Maker<Q, K> {
+pub trait Maker<Q, K: Ord> {
     ghost use Rattle.fab_rows.specs.declared.config_row.ConfigRow.{ConfigRow};
+    ghost use Rattle.fab_rows.specs.Gathering.{RowOfSome};
+    ghost use Rattle.fab_rows.specs.Standing.{Stands};
 
     ghost row_of: { Self → Q → K → ConfigRow };
 
     /// The row of a key and an item.
     fn row(&self, key: &Q, item: &K) -> ConfigRow
         ensures { result ≡ row_of self.now key.now item.now };
+
+    /// Whether the rows of the key and all these items stand in the configuration, as one look-up of
+    /// the key tells. No tells nothing.
+    fn stand<A: Allocator + Copy>(
+        &self,
+        config: &Config<A>,
+        key: &Q,
+        items: &BTreeSet<K, A>,
+    ) -> bool
+        ensures { IsTrue result → (r : ConfigRow) → RowOfSome (row_of self.now key.now) items.now.keys r → Stands config.now r }
+    {
+        false
+    }
+}
+
+/// Whether the other set, if there is one, has all these items.
+fn has_all<K: Ord, A: Allocator + Copy>(
+    other: Option<&BTreeSet<K, A>>,
+    items: &BTreeSet<K, A>,
+) -> bool
+    ensures { IsTrue result → HasAll K.cmp (option_copied other.entry) items.now }
+{
+    match other {
+        Some(other) => items.is_subset(other),
+        None => false,
+    }
 }
 
 /// The members of a fabric's aliases.
@@ -28,6 +60,15 @@ impl Maker<Name, Member> for Aliases {
             fabric: self.0,
             item: ZoningItem::Alias(*key, *item),
         })
+    }
+
+    fn stand<A: Allocator + Copy>(
+        &self,
+        config: &Config<A>,
+        key: &Name,
+        items: &BTreeSet<Member, A>,
+    ) -> bool {
+        has_all(config.zoning(self.0).alias(key), items)
     }
 }
 
@@ -44,6 +85,15 @@ impl Maker<Name, Member> for Zones {
             item: ZoningItem::Zone(*key, *item),
         })
     }
+
+    fn stand<A: Allocator + Copy>(
+        &self,
+        config: &Config<A>,
+        key: &Name,
+        items: &BTreeSet<Member, A>,
+    ) -> bool {
+        has_all(config.zoning(self.0).zone(key), items)
+    }
 }
 
 /// The zones of a fabric's zone sets.
@@ -58,6 +108,15 @@ impl Maker<Name, Name> for ZoneSets {
             fabric: self.0,
             item: ZoningItem::Set(*key, *item),
         })
+    }
+
+    fn stand<A: Allocator + Copy>(
+        &self,
+        config: &Config<A>,
+        key: &Name,
+        items: &BTreeSet<Name, A>,
+    ) -> bool {
+        has_all(config.zoning(self.0).zone_set(key), items)
     }
 }
 
@@ -74,6 +133,15 @@ impl Maker<Member, Name> for ActiveZones {
             zone: *item,
             member: *key,
         })
+    }
+
+    fn stand<A: Allocator + Copy>(
+        &self,
+        config: &Config<A>,
+        key: &Member,
+        items: &BTreeSet<Name, A>,
+    ) -> bool {
+        has_all(config.zoning(self.0).active_zones_with(key), items)
     }
 }
 

@@ -40,6 +40,9 @@ pub fn read_name(bytes: &[u8]) -> Option<Name>
 }
 
 /// The world-wide name that the part of a path behind so many slashes spells, if it spells one.
+///
+/// # Errors
+/// `AllocError` where there is no memory.
 pub fn wwn_part<A: Allocator>(
     alloc: A,
     path: &[u8],
@@ -52,6 +55,9 @@ pub fn wwn_part<A: Allocator>(
 }
 
 /// The fabric that the part of a path behind so many slashes spells, if it spells one.
+///
+/// # Errors
+/// `AllocError` where there is no memory.
 pub fn fabric_part<A: Allocator>(
     alloc: A,
     path: &[u8],
@@ -64,6 +70,9 @@ pub fn fabric_part<A: Allocator>(
 }
 
 /// The name that the part of a path behind so many slashes is, if it is one.
+///
+/// # Errors
+/// `AllocError` where there is no memory.
 pub fn name_part<A: Allocator>(
     alloc: A,
     path: &[u8],

@@ -74,6 +74,9 @@ fn add(router: &mut Router<Route>, route: Route) -> Result<(), InsertError>
 
 /// The segment of a path behind so many slashes, with its escapes read: `%` and two hexadecimal
 /// digits are that byte (RFC 3986, section 2.1).
+///
+/// # Errors
+/// `AllocError` where there is no memory.
 pub fn decoded_segment<A: Allocator>(
     alloc: A,
     path: &[u8],

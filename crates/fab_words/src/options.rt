@@ -62,7 +62,7 @@ impl OptionKind {
     /// What help says of the option.
     pub fn help<'a>(self) -> &'a str {
         match self {
-            OptionKind::Db => "The database, a file that `sandesk init` has made",
+            OptionKind::Db => "The file of the database, which `sandesk init` makes",
             OptionKind::Policy => "The policy in TOML: callers, windows and rules",
             OptionKind::Listen => "Where to listen, as 127.0.0.1:8080",
             OptionKind::Count => "How many connections to serve [default: no end]",

@@ -112,6 +112,9 @@ fn before_plan<A: Allocator + Copy>(
 
 /// Whether the activations that are in force lead back from the configuration through sound ones,
 /// each by just what it changed. One earlier configuration is in memory at a time.
+///
+/// # Errors
+/// `AllocError` where there is no memory.
 pub fn has_sound_history<A: Allocator + Copy>(
     alloc: A,
     plans: &BTreeMap<Name, KeptPlan<A>, A>,

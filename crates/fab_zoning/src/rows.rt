@@ -4,11 +4,12 @@ ghost use Rattle.std.specs.FinSet as set;
 ghost use Rattle.std.specs.Map.{keys_of};
 ghost use Rattle.std.specs.List.Sorted.{IsStrictlySortedBy};
 ghost use Rattle.std.specs.BTreeMap.{IsOrdered, IsUnchanged};
-ghost use Rattle.std.specs.Option.{option_map};
+ghost use Rattle.std.specs.Option.{option_copied, option_map};
 ghost use Rattle.fab_names.specs.declared.member.Member.TheVariants.{Place};
-ghost use Rattle.fab_names.specs.Orders.{member_cmp};
+ghost use Rattle.fab_names.specs.Orders.{name_cmp, member_cmp};
 ghost use Rattle.fab_zoning.specs.Limits.{most_rows};
 ghost use Rattle.fab_maps.specs.Lists.{IsListOf};
+ghost use Rattle.fab_maps.specs.MapsOfSets.{in_tree};
 ghost use Rattle.fab_zoning.specs.Rows.{Row, row_cmp, IsRowOf, IsPlain};
 ghost use Rattle.fab_zoning.specs.Views.{seen_rows};
 ghost use Rattle.fab_zoning.specs.PortZones.{in_zones};
@@ -40,7 +41,7 @@ impl<A: Allocator + Copy> Model for ActiveRows<A> {
     ghost use Rattle.std.specs.Prelude.{◌≡◌, ◌+◌, min};
     ghost use Rattle.std.specs.FinSet as set;
     ghost use Rattle.std.specs.BTreeMap.{IsOrdered};
-    ghost use Rattle.fab_names.specs.Orders.{member_cmp};
+    ghost use Rattle.fab_names.specs.Orders.{name_cmp, member_cmp};
     ghost use Rattle.fab_zoning.specs.Limits.{most_rows};
     ghost use Rattle.fab_zoning.specs.Rows.{Rows, row_code};
     ghost use Rattle.fab_zoning.specs.Views.{seen_rows};
@@ -204,6 +205,13 @@ impl<A: Allocator + Copy> ActiveRows<A> {
             Some(zones) => zones.contains(zone),
             None => false,
         }
+    }
+
+    /// The zones that have the member, if one has it.
+    pub fn zones_with(&self, member: &Member) -> Option<&BTreeSet<Name, A>>
+        ensures { (z : List ℕ) → in_tree name_cmp (option_copied result) z ≡ set.contains self.now (z, member.now) }
+    {
+        self.zones_by_member.get(member)
     }
 
     /// The zones that have the port.

@@ -7,7 +7,7 @@ ghost use Rattle.std.specs.Map.{keys_of};
 ghost use Rattle.std.specs.List.Sorted.{IsStrictlySortedBy};
 ghost use Rattle.fab_names.specs.declared.member.Member.TheVariants.{Alias};
 ghost use Rattle.fab_names.specs.Orders.{name_cmp, member_cmp};
-ghost use Rattle.fab_maps.specs.MapsOfSets.{seen_set, seen_sets, HasNoUser, IsFirstUser};
+ghost use Rattle.fab_maps.specs.MapsOfSets.{in_tree, seen_set, seen_sets, HasNoUser, IsFirstUser};
 ghost use Rattle.fab_zoning.specs.Limits.{most_rows};
 ghost use Rattle.fab_maps.specs.Lists.{IsListOf};
 ghost use Rattle.fab_zoning.specs.Rows.{row_cmp, IsRowOf, IsPlain};
@@ -534,19 +534,20 @@ impl<A: Allocator + Copy> Zoning<A> {
         self.rows.contains(zone, member)
     }
 
-    /// Whether a zone of the active set has the port, wherever it is logged in. It takes no memory.
-    pub fn has_in_zone(&self, port: &Port, zone: &Name) -> bool
-        ensures { IsTrue result ↔ Holds self.now.rows port.now zone.now }
-    {
-        self.rows.zones_of(port).contains(zone)
-    }
-
     /// The zones of the active set that have the port, wherever it is logged in: those with its
     /// N_Port_Name, those with its Node_Name and those with its place. It takes no memory.
     pub fn zones_of(&self, port: &Port) -> PortZones<'_, A>
         ensures { (z : List ℕ) → (in_zones result z ≡ true) ↔ Holds self.now.rows port.now z }
     {
         self.rows.zones_of(port)
+    }
+
+    /// The zones of the active set that have the member as it stands there, if one has it. It takes no
+    /// memory.
+    pub fn active_zones_with(&self, member: &Member) -> Option<&BTreeSet<Name, A>>
+        ensures { (z : List ℕ) → in_tree name_cmp (option_copied result) z ≡ set.contains self.now.rows (z, member.now) }
+    {
+        self.rows.zones_with(member)
     }
 
     /// The active rows: the zones in which each member is, in the order of the members.

@@ -714,6 +714,17 @@ fn walked(zoning: &Zoning<Global>) -> [usize; 4] {
     ]
 }
 
+/// Whether the zone of the active set has the member, and an alias of no such name is no member.
+fn is_active_member(zoning: &Zoning<Global>, member: Member, zone: &Name) -> bool {
+    if zoning.active_zones_with(&Member::Alias(*zone)).is_some() {
+        return false;
+    }
+    match zoning.active_zones_with(&member) {
+        Some(zones) => zones.contains(zone),
+        None => false,
+    }
+}
+
 /// Whether the rest of such a zoning is shown as it was given.
 fn rest_is_shown(zoning: &Zoning<Global>) -> Result<bool, Fail> {
     let zone = Name::read("z1")?;
@@ -721,7 +732,11 @@ fn rest_is_shown(zoning: &Zoning<Global>) -> Result<bool, Fail> {
     if !zoning.has_active(&zone, &Member::Port(port.name)) {
         return Ok(false);
     }
-    if !zoning.has_in_zone(&port, &zone) || zoning.zones_of(&port).is_empty() {
+    let zones = zoning.zones_of(&port);
+    if zones.is_empty() || !zones.contains(&zone) {
+        return Ok(false);
+    }
+    if !is_active_member(zoning, Member::Port(port.name), &zone) {
         return Ok(false);
     }
     Ok(

@@ -20,7 +20,7 @@ loop-name-preserved g c =
       i.1,
       i.2 ++ (c.in-Some.name.now, c.in-Some.group.now) ∷ [],
       walked i.0 i.2 c.loop-name.name-iterator c.next.new.self (c.in-Some.name.now, c.in-Some.group.now) i.3 (rest_more deref_pair c.loop-name.name-iterator c.next.new.self c.next.result (c.in-Some.name, c.in-Some.group) c.in-Some.is c.next.ensures.steps),
-      before_more (λ e. Lacking (option_copied c.args.without) (IsHostGroupRow e.0 e.1)) i.2 (c.in-Some.name.now, c.in-Some.group.now) (Has c.args.rows.now) (Has c.loop-name.rows) (Has c.add_host_group.new.rows) i.4 c.in_ok-add_host_group.ensures,
+      before_more (λ e. Lacking (option_copied c.args.without) (IsHostGroupRow e.0 e.1)) i.2 (c.in-Some.name.now, c.in-Some.group.now) (Has c.args.rows.now) (Has c.loop-name.rows) (Has c.add_host_group_lacking.new.rows) i.4 c.in_ok-add_host_group_lacking.ensures,
     )
 
 pub returns : goal.returns
