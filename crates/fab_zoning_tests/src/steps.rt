@@ -591,7 +591,7 @@ fn single<Q: Ord + Drop, K: Ord + Drop>(
 }
 
 /// What may be wrong with parts.
-#[derive(Clone, Copy)]
+#[derive(Clone, Copy, PartialEq, Eq)]
 enum Wrong {
     Nothing,
     AliasInAlias,
@@ -602,47 +602,41 @@ enum Wrong {
     ActiveAlias,
 }
 
+/// The first where something is so, and else the second.
+fn either<T: Copy>(is_so: bool, first: T, second: T) -> T {
+    if is_so { first } else { second }
+}
+
+/// The active rows: the zone with the member, but where they are to be without rows.
+fn active_zones(
+    alloc: Global,
+    wrong: Wrong,
+    member: Member,
+    zone: Name,
+) -> Result<BTreeMap<Member, BTreeSet<Name>>, Fail> {
+    if wrong == Wrong::NameWithoutRows {
+        return Ok(BTreeMap::new(alloc));
+    }
+    single(alloc, member, zone)
+}
+
 /// A zoning of an alias, a zone with it, a set with that and the same active, with this wrong.
 fn parts(alloc: Global, wrong: Wrong) -> Result<Zoning<Global>, Fail> {
     let port = Member::Port(port_name(TP1)?);
     let disk = Name::read("disk")?;
     let zone = Name::read("z1")?;
     let zone_set = Name::read("s1")?;
-    let in_alias = if let Wrong::AliasInAlias = wrong {
-        Member::Alias(disk)
-    } else {
-        port
-    };
-    let in_zone = if let Wrong::UnknownAlias = wrong {
-        zone
-    } else {
-        disk
-    };
-    let in_set = if let Wrong::UnknownZone = wrong {
-        disk
-    } else {
-        zone
-    };
-    let active = if let Wrong::RowsWithoutName = wrong {
-        None
-    } else {
-        Some(zone_set)
-    };
-    let row = if let Wrong::ActiveAlias = wrong {
-        Member::Alias(disk)
-    } else {
-        port
-    };
+    let in_alias = either(wrong == Wrong::AliasInAlias, Member::Alias(disk), port);
+    let in_zone = either(wrong == Wrong::UnknownAlias, zone, disk);
+    let in_set = either(wrong == Wrong::UnknownZone, disk, zone);
+    let active = either(wrong == Wrong::RowsWithoutName, None, Some(zone_set));
+    let member = either(wrong == Wrong::ActiveAlias, Member::Alias(disk), port);
     let parts = ZoningParts {
         aliases: single(alloc, disk, in_alias)?,
         zones: single(alloc, zone, Member::Alias(in_zone))?,
         sets: single(alloc, zone_set, in_set)?,
         active,
-        active_zones: if let Wrong::NameWithoutRows = wrong {
-            BTreeMap::new(alloc)
-        } else {
-            single(alloc, row, zone)?
-        },
+        active_zones: active_zones(alloc, wrong, member, zone)?,
         flag: DefaultFlag::Permit,
     };
     Ok(Zoning::from_parts(alloc, Fabric::A, parts))
