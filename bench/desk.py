@@ -23,7 +23,7 @@ TOP = pathlib.Path(__file__).resolve().parent.parent
 
 # What a connection may take, and how much longer the timers of the system and a busy machine may make it, in
 # seconds.
-MOST_SECONDS = 30
+MOST_SECONDS = 27
 SPARE_SECONDS = 3
 
 # ada may do everything; on fabric B somebody else has to have approved what she activates.

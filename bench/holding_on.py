@@ -4,7 +4,7 @@ the next client is served.
 
     python3 bench/holding_on.py
 
-A connection has 30 seconds in all, from when it is taken up until its answer is sent. Each client of the
+A connection has 27 seconds in all, from when it is taken up until its answer is sent. Each client of the
 table below is taken up first, and then another asks for something and has to be answered within the
 limit of the row; the last column is what the log says of the first. One row is of a client that is slow
 and done in time, and so has to be answered itself. The long answer is the path list of a host with
@@ -136,9 +136,9 @@ def is_taken(stream):
 
 # Least and most seconds until the next client is served, and what the log may say of the first.
 ROWS = [
-    Row("sends nothing", send_nothing, 29, desk.MOST_SECONDS, {"read-failed"}),
-    Row("sends a byte each second", send_slowly, 29, desk.MOST_SECONDS, {"read-failed"}),
-    Row("sends a byte of its body each second", send_body_slowly, 29, desk.MOST_SECONDS, {"read-failed"}),
+    Row("sends nothing", send_nothing, 27, desk.MOST_SECONDS, {"read-failed"}),
+    Row("sends a byte each second", send_slowly, 27, desk.MOST_SECONDS, {"read-failed"}),
+    Row("sends a byte of its body each second", send_body_slowly, 27, desk.MOST_SECONDS, {"read-failed"}),
     Row("takes no byte of a long answer", take_nothing, 0, desk.MOST_SECONDS, {"unsent"}),
     Row("takes a byte of it each second", take_slowly, 0, desk.MOST_SECONDS, {"unsent"}),
     Row("sends all within 20 seconds", send_in_time, 19, 20, {"200"}),

@@ -251,17 +251,24 @@ by_curl() {
     passes "$1"
 }
 
-# ends TITLE LINES: the program has ended with status 0, has written nothing to standard error, and has
-# so many lines in its log.
+# ends TITLE STATUS..: the program has ended with status 0, has written nothing to standard error, and its
+# log is a line for each connection: the moment, this status, and the milliseconds. No token stands in it.
 ends() {
+    local title=$1 number='(0|[1-9][0-9]*)' form= wanted
+    shift
     wait "$server"
     status=$?
     server=
     whole "$work/served" out
-    same "$1" 'exit status' 0 "$status"
-    same "$1" 'standard error' '' "$out"
-    same "$1" 'lines of the log' "$2" "$(($(wc -l < "$work/log")))"
-    passes "$1"
+    same "$title" 'exit status' 0 "$status"
+    same "$title" 'standard error' '' "$out"
+    whole "$work/log" out
+    [[ $out != *t-* ]] || differs "$title" 'the log' 'no token' "$out"
+    for wanted in "$@"; do
+        form+="$number $wanted $number ms"$'\n'
+    done
+    [[ $out =~ ^$form$ ]] || differs "$title" 'the log' "$form" "$out"
+    passes "$title"
 }
 
 # ---- is there a program
@@ -287,6 +294,8 @@ says 'no fabric has this name' 2 '' $'sandesk: words\n' \
     export --db "$db" --policy "$policy" --token t-ada --fabric C
 says 'no count has this text' 2 '' $'sandesk: words\n' \
     serve --db "$db" --policy "$policy" --listen 127.0.0.1:1 --count many
+says 'a word that is not UTF-8' 2 '' $'sandesk: words\n' \
+    paths --db "$db" --policy "$policy" --token t-ada --host $'\xff'
 
 part 'a trial: one request over a new desk in memory'
 
@@ -362,6 +371,8 @@ asks 'a port, and where it is logged in' t-eve GET "/ports/$i4" 200 \
 asks 'a host' t-cyd GET /hosts/db1 200 \
     '{"kind":"host","name":"db1","ports":["'$i1'","'$i4'"],"tenant":"blue"}'
 asks 'cyd does not see a host of green' t-cyd GET /hosts/db2 404 "$not_found"
+asks 'an array' t-ada GET /arrays/arr1 200 \
+    '{"kind":"array","name":"arr1","ports":["'$t1'","'$t2'","'$t3'"],"tenant":"store"}'
 asks 'two ports that no zone has' t-eve GET "/joined/$i1/$t1" 200 '{"joined":false}'
 
 part 'a first plan'
@@ -398,6 +409,10 @@ asks 'the zone that joins its ports' t-eve GET "/joined/$i1/$t1" 200 \
 says 'what is active in fabric A: aliases are replaced' 0 \
     $'fabric A\nactive s1\ndefault deny\n'"z1 wwpn=$i1"$'\n'"z1 wwpn=$t1"$'\n' '' \
     export --db "$db" --policy "$policy" --token t-eve --fabric A
+asks 'the same as JSON' t-eve GET /active/A 200 \
+    '{"active":"s1","default":"deny","fabric":"A","zones":[{"members":["wwpn='$i1'","wwpn='$t1'"],"name":"z1"}]}'
+asks 'an alias' t-eve GET /aliases/A/disk 200 '{"fabric":"A","members":["wwpn='$t1'"],"name":"disk"}'
+asks 'a host group' t-cyd GET /hostgroups/hosts1 200 '{"hosts":["db1"],"name":"hosts1","tenant":"blue"}'
 
 part 'a plan on fabric B: two fresh approvals, in a window'
 
@@ -452,6 +467,7 @@ says 'the dry run shows whose paths would go' 0 '{"gained":[],"lost":['"$green"'
 asks 'cyd may not activate it' t-cyd POST /plans/p6/activate 403 "$(denied scope 5 own)"
 asks 'a zone, with its members in order' t-cyd GET /zones/A/z3 200 \
     '{"fabric":"A","members":["wwpn='$t1'","dp=12,5"],"name":"z3"}'
+asks 'a zone set' t-cyd GET /sets/A/s1 200 '{"fabric":"A","name":"s1","zones":["z1","z3"]}'
 asks 'a storage group' t-cyd GET /groups/g1 200 \
     '{"array":"arr1","exposed":true,"host_groups":["hosts1"],"name":"g1","targets":["'$t1'","'$t3'"],"tenant":"blue","units":[{"lun":0,"volume":"v1"}]}'
 
@@ -461,12 +477,32 @@ asks 'a host group has db1' t-ada DELETE /hosts/db1 409 \
     '{"by":"hosts1","code":11,"error":"in-use","name":"db1"}'
 asks 'there is no db9' t-ada DELETE /hosts/db9 404 "$not_found"
 stages 'v1 is unmapped' t-ada p7 unmap.plan 1
+asks 'bob approves it' t-bob POST /plans/p7/approve 200 '{"approvals":1,"plan":"p7","revision":13}'
+asks 'the plan, staged and approved' t-eve GET /plans/p7 200 \
+    '{"approvals":[{"caller":"bob","revision":13}],"author":"ada","plan":"p7","state":"staged","text":"sg.unmap g1 0\n"}'
 activates 'and its paths are lost' t-ada p7 '' "$first,$second" 14
 asks 'so it can be dropped' t-ada DELETE /volumes/v1 200 '{"revision":15}'
 asks 'and what named it can not be put back' t-ada POST /plans/p7/rollback 409 \
     '{"code":18,"error":"gone","name":"v1"}'
 replies 'v1 comes back' "$here/put-v1.http" 200 '{"revision":16}'
 takes_back 'and its paths with it' t-ada p7 "$first,$second" '' 17
+
+part 'the default zone, in a desk of its own'
+
+lasting=$db
+db=$work/other.db
+says 'another database is made' 0 '' '' init --db "$db"
+asks 'nothing is active in it' t-eve GET /active/A 200 '{"active":null,"default":"deny","fabric":"A","zones":[]}'
+replies 'two ports' "$here/import.http" 200 '{"revision":1}'
+replies 'may not communicate' "$here/joined.http" 200 '{"joined":false}'
+stages 'a plan by which the default zone permits' t-ada d1 permit.plan 1
+activates 'it is activated' t-ada d1 '' '' 2
+replies 'and they may' "$here/joined.http" 200 '{"joined":true,"why":"default"}'
+asks 'but no port with itself' t-eve GET "/joined/$i1/$i1" 200 '{"joined":false}'
+imports 'a list of no port' 0 '{"revision":3}' t-ada A no-ports.csv
+asks 'a port that is logged in nowhere' t-eve GET "/ports/$i1" 200 \
+    '{"at":null,"node_name":"20:00:00:00:00:00:00:01","port_name":"'$i1'"}'
+db=$lasting
 
 part 'requests as bytes'
 
@@ -496,16 +532,18 @@ connections() {
         left_out="$left_out, a request by curl (there is no curl)"
         hears 'the same once more' t-ada GET /paths/db1 200 "$imported"
     fi
-    ends 'three connections are served, with a line for each' 3
+    ends 'three connections are served, with a line in the log for each' 200 200 200
     imports 'the ports of fabric A come back' 0 '{"revision":19}' t-ada A fabric-a.csv
     serves
     printf '%s' '{"array":"arr1","bytes":512,"tenant":"blue"}' > "$work/body"
-    hears 'a volume is put, and then the program is ended by force' t-ada PUT /volumes/v3 200 \
+    hears 'a volume is put' t-ada PUT /volumes/v3 200 \
         '{"revision":20}' "$work/body"
+    says 'while it serves, no subcommand opens its database' 3 '' $'sandesk: store\n' \
+        paths --db "$db" --policy "$policy" --token t-ada --host db1
     kill -9 "$server"
     wait "$server" 2> /dev/null
     server=
-    asks 'what was answered is kept' t-cyd GET /volumes/v3 200 \
+    asks 'it is ended by force, and what was answered is kept' t-cyd GET /volumes/v3 200 \
         '{"array":"arr1","bytes":512,"name":"v3","tenant":"blue"}'
     says 'and all paths are there' 0 "${header}A,db1,$i1,$t1,v1,0"$'\n'"B,db1,$i4,$t3,v1,0"$'\n' '' \
         paths --db "$db" --policy "$policy" --token t-ada --host db1

@@ -14,7 +14,7 @@ use std::time::{Clock, Duration, Instant};
 
 /// How many seconds a connection is given, however slowly it sends or takes bytes. Timers of a system
 /// may come two seconds late, and none is to hold the server for more than 30.
-pub const MOST_SECONDS: u64 = 28;
+pub const MOST_SECONDS: u64 = 27;
 
 /// The clock that connections are watched by, how long each may last, and the log.
 #[derive(Drop)]
@@ -32,7 +32,7 @@ pub struct Watch<'c, C: Clock, W: Write> {
 impl<'c, C: Clock, W: Write> Watch<'c, C, W> {
     /// Connections last `MOST_SECONDS` at most by this clock, and have their lines in this log.
     pub fn new(alloc: Global, clock: &'c C, log: W) -> Self
-        ensures most { as_nanos result.most ≡ 28 * 1_000_000_000 }
+        ensures most { as_nanos result.most ≡ 27 * 1_000_000_000 }
         ensures log { result.log ≡ log }
     {
         Watch {

@@ -1,3 +1,4 @@
 pub mod Tokens
 pub mod Told
 pub mod InTurn
+pub mod Runs

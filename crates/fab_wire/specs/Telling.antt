@@ -1,4 +1,4 @@
--- What telling an answer comes to: helpers of private calls.
+-- What telling an answer comes to.
 use Rattle.std.specs.Prelude.{ℕ, ◌≡◌, List, Option, codes, decimal}
 use Rattle.std.specs.Io.KnownBytes.{Appends}
 use Rattle.fab_json.specs.Failures.{one_more}

@@ -1,11 +1,15 @@
 //! Connections served in turn.
 
 ghost use Rattle.std.specs.Prelude.{◌≡◌, IfOk, OnErr};
+ghost use Rattle.fab_desk.specs.Desks.{IsCleanDesk, IsTiedDesk};
+ghost use Rattle.fab_desk.specs.Handled.{aside_of, policy_of, serving_of, world_of};
 ghost use Rattle.fab_wire.specs.InTurn.{AreServed, IsServed};
+ghost use Rattle.fab_wire.specs.Runs.{LeadTo};
 
 use crate::outcome::Outcome;
 use crate::serving::serve_one;
 use fab_desk::Desk;
+use fab_desk_laws::steps_are_done;
 use fab_json::counted::Counted;
 use fab_reach::PathBook;
 use fab_stores::Store;
@@ -32,6 +36,10 @@ pub struct Served<R, W> {
 /// Serves connections, one after the other, each over the desk that the one before left. Room for
 /// what comes of them is taken first.
 ///
+/// The world that the desk comes to is that of the commands which the connections ask and which are
+/// done, in their order: those whose read failed, and those that are told of want of memory, of a
+/// refusal by the store or of a halted desk, count as not made.
+///
 /// # Errors
 /// `AllocError` where there is no memory for that: then none was served, and the desk is as it was.
 pub fn serve_all<A: Allocator + Copy, S: Store<A>, B: PathBook<A>, R: Read + Drop, W: Write + Drop>(
@@ -42,8 +50,11 @@ pub fn serve_all<A: Allocator + Copy, S: Store<A>, B: PathBook<A>, R: Read + Dro
     connections: Vec<Connection<R, W>, A>,
 ) -> Result<Vec<Served<R, W>, A>, AllocError>
     ensures served { IfOk result (λ served. AreServed S.Store R.remaining W.contents desk.old connections.items served.items desk.new) }
+    ensures run { IsCleanDesk S.Store (serving_of desk.new) (aside_of desk.new) → IsTiedDesk S.Store (serving_of desk.old) (world_of desk.old) →
+        IfOk result (λ served. LeadTo A.row.Denot R.remaining W.contents (policy_of desk.old) (world_of desk.old) connections.items served.items (world_of desk.new)) }
     ensures kept { OnErr result (desk.new ≡ desk.old) }
 {
+    steps_are_done(alloc);
     let mut all = Vec::with_capacity(alloc, connections.len())?;
     for connection in connections {
         all.push_reserved(serve(alloc, global, routes, desk, connection));

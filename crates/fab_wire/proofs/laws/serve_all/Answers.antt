@@ -3,6 +3,7 @@ use Rattle.std.specs.Vec.Iter.{into_iter_items}
 use Rattle.fab_desk.proofs.AnsweredByDesk.{gone_through}
 use Rattle.fab_wire.specs.InTurn.{AreServed}
 use Rattle.fab_wire.proofs.InTurn.{served_more}
+use Rattle.fab_wire.proofs.Runs.{leads_to}
 use Rattle.fab_wire.proofs.laws.serve_all.Goals as goal
 
 pub loop-connection-preserved : goal.loop-connection-preserved
@@ -24,3 +25,7 @@ pub returns-clause-served : goal.returns-clause-served
 returns-clause-served g c =
     let all : c.loop-connection.yielded ≡ c.args.connections.items = gone_through c.args.connections.items c.loop-connection.yielded (into_iter_items c.loop-connection.connection-iterator) (c.loop-connection.invariant.whole ∙ c.into_iter-connection-iterator.ensures.into_iter_gives.0) (sym c.loop-connection.invariant.left ∙ c.in-None.ensures.steps.0) in
     subst (λ cs. AreServed g.S.Store g.R.Read.remaining g.W.Write.contents c.args.desk.now cs c.loop-connection.all.items c.loop-connection.desk) all c.loop-connection.invariant.told
+
+pub returns-clause-run : goal.returns-clause-run
+returns-clause-run g c =
+    leads_to g.S.Store g.R.Read.remaining g.W.Write.contents (λ p w q r v step. (c.steps_are_done.ensures p w q r v step).1) c.args.desk.now c.loop-connection.desk c.args.connections.items c.loop-connection.all.items (returns-clause-served g c)
