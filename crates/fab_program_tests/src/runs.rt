@@ -9,8 +9,11 @@ use std::alloc::{AllocError, Global};
 use std::fs;
 use std::test::Fail;
 
-/// The words behind the program's name, parted by spaces.
-fn words_from(alloc: Global, text: &str) -> Result<Vec<String>, AllocError> {
+/// The words of a command line, parted by spaces, of which the first is the program's name.
+///
+/// # Errors
+/// Where there is no memory.
+pub fn words_from(alloc: Global, text: &str) -> Result<Vec<String>, AllocError> {
     let mut words = Vec::new(alloc);
     for word in text.split(' ') {
         words.push(String::from_str(alloc, word)?)?;
@@ -20,10 +23,10 @@ fn words_from(alloc: Global, text: &str) -> Result<Vec<String>, AllocError> {
 
 /// What a run wrote to its two outputs, and its exit status.
 #[derive(Clone, Copy)]
-struct Wrote<'t> {
-    output: &'t str,
-    errors: &'t str,
-    status: u8,
+pub struct Wrote<'t> {
+    pub output: &'t str,
+    pub errors: &'t str,
+    pub status: u8,
 }
 
 /// Runs the program with these words, and compares what it wrote.
@@ -53,10 +56,13 @@ fn is_run(rt: &HostRuntime, words: &[String], input: &str, wanted: &Wrote<'_>) -
 }
 
 /// A run without standard input: its words, and what it writes.
-type Run = (&'static str, Wrote<'static>);
+pub type Run = (&'static str, Wrote<'static>);
 
 /// Runs the program as these tell, one after the other.
-fn are_run(rt: &HostRuntime, runs: &[Run]) -> Result<(), Fail> {
+///
+/// # Errors
+/// The first run that writes something else, and where there is no memory.
+pub fn are_run(rt: &HostRuntime, runs: &[Run]) -> Result<(), Fail> {
     for (text, wanted) in runs {
         let words = words_from(rt.alloc(), text)?;
         is_run(rt, words.as_slice(), "", wanted)?;
