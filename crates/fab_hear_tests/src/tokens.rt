@@ -1,6 +1,6 @@
 //! The form of a token.
 
-use fab_wire_base::callers::is_token_text;
+use fab_tokens::is_token;
 
 /// Texts, and whether they are tokens.
 const TEXTS: [(&[u8], bool); 12] = [
@@ -23,7 +23,7 @@ const LETTERS: [u8; 129] = [b'a'; 129];
 /// The place of the first text of which something else is said.
 fn first_other(texts: &[(&[u8], bool)]) -> Option<usize> {
     for (i, text) in texts.iter().enumerate() {
-        if is_token_text(text.0) != text.1 {
+        if is_token(text.0) != text.1 {
             return Some(i);
         }
     }
@@ -33,6 +33,6 @@ fn first_other(texts: &[(&[u8], bool)]) -> Option<usize> {
 #[test]
 fn tokens_have_a_form(rt: HostRuntime) {
     assert_eq!(rt; first_other(TEXTS.as_slice()), None);
-    assert!(rt; is_token_text(&LETTERS[..128]));
-    assert!(rt; !is_token_text(LETTERS.as_slice()));
+    assert!(rt; is_token(&LETTERS[..128]));
+    assert!(rt; !is_token(LETTERS.as_slice()));
 }

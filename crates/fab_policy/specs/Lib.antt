@@ -1,7 +1,6 @@
 pub use Rattle.fab_policy_base.specs.Policies
 pub use Rattle.fab_policy_base.specs.Limits
 pub use Rattle.fab_policy_base.specs.Callers
-pub use Rattle.fab_policy_base.specs.Tokens
 pub use Rattle.fab_policy_base.specs.Sound
 pub use Rattle.fab_policy_base.specs.Words
 pub use Rattle.fab_policy_base.specs.Shapes

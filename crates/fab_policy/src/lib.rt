@@ -14,6 +14,6 @@ pub use act::{Act, Approval, Need, PlanApprovals, Verdict};
 pub use approvals::counts;
 pub use fab_policy_base::{
     Action, Caller, CallerId, Freeze, Key, Policy, PolicyFault, Quorum, Rule, Scope, Tenants, Text,
-    WeekSpan, Window, limits,
+    WEEK_MINUTES, WeekSpan, Window, limits,
 };
 pub use verdicts::decide;

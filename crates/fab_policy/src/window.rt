@@ -4,7 +4,7 @@ ghost use Rattle.std.specs.List.{list_any};
 ghost use Rattle.fab_policy.specs.Windows as spec;
 
 use fab_names::Name;
-use fab_policy_base::{Freeze, WeekSpan, Window};
+use fab_policy_base::{Freeze, WEEK_MINUTES, WeekSpan, Window};
 
 /// Whether the number is at or after `from`, and before `until`.
 fn spans(from: u64, until: u64, number: u64) -> bool
@@ -17,7 +17,7 @@ fn spans(from: u64, until: u64, number: u64) -> bool
 fn week_minute(moment: u64) -> u64
     ensures { result ≡ spec.week_minute moment }
 {
-    (moment / 60 + 4320) % 10080
+    (moment / 60 + 4320) % WEEK_MINUTES
 }
 
 /// Whether some part of the week holds the minute.

@@ -1,7 +1,6 @@
 pub mod Policies
 pub mod Limits
 pub mod Callers
-pub mod Tokens
 pub mod Sound
 pub mod Words
 pub mod Shapes

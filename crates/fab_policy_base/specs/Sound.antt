@@ -1,9 +1,10 @@
 -- What holds of every policy: names and tokens stand once, each window that a rule names is there, and no limit is passed.
 use Rattle.std.specs.Prelude.{◌≡◌, ℕ, ◌<◌, ◌≤◌, true, List, [], length, map, Option, Some, IfSome, Contains, All, slice_get, codes}
+use Rattle.fab_tokens.specs.Tokens.{IsTokenText}
 use Rattle.fab_policy_base.specs.Callers.{has_name}
 use Rattle.fab_policy_base.specs.Limits.{most_callers, most_windows, most_rules, most_roles, most_tenants, most_weekly, most_freezes, most_approvals}
 use Rattle.fab_policy_base.specs.Policies.{CallerRow, WindowRow, RuleRow, PolicyRows}
-use Rattle.fab_policy_base.specs.Tokens.{IsTokenText}
+use Rattle.fab_policy_base.specs.declared.policy.TheConstants.{WEEK_MINUTES}
 
 -- the text at the place stands at an earlier place too
 pub record RepeatsAt (texts : List (List ℕ)) (place : ℕ) : Type 0 where
@@ -43,11 +44,11 @@ pub record IsCaller (c : CallerRow) : Type 0 where
   pub roles : length c.roles ≤ most_roles
   pub tenants : IfSome c.tenants (λ names. length names ≤ most_tenants)
 
--- a window within the limits, whose spans hold something, and those of the week lie in its 10080 minutes
+-- a window within the limits, whose spans hold something, and those of the week lie in its minutes
 pub record IsWindow (w : WindowRow) : Type 0 where
   pub few_weekly : length w.weekly ≤ most_weekly
   pub few_freezes : length w.freeze ≤ most_freezes
-  pub weekly : All (λ s. (s.from < s.until) × (s.until ≤ 10080)) w.weekly
+  pub weekly : All (λ s. (s.from < s.until) × (s.until ≤ WEEK_MINUTES)) w.weekly
   pub freezes : All (λ f. f.from < f.until) w.freeze
 
 -- a rule that speaks of some action, and asks for at least one approval where it asks for any

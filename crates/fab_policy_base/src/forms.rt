@@ -1,21 +1,20 @@
 //! What single values of a policy's text mean.
-ghost use Rattle.std.specs.Prelude.{◌≡◌, ℕ, IfOk, MatchOption, Some, pos, IsTrue, ◌↔◌};
-ghost use Rattle.std.specs.List.{list_all};
+ghost use Rattle.std.specs.Prelude.{◌≡◌, ℕ, IfOk, MatchOption, Some, pos};
 ghost use Rattle.toml.specs.Data.{Data, as_integer, item, no_items};
 ghost use Rattle.toml.specs.View.{view, table_view, array_view};
 ghost use Rattle.fab_policy_base.specs.Forms as forms;
 ghost use Rattle.fab_policy_base.specs.Shapes.{IfRefused};
-ghost use Rattle.fab_policy_base.specs.Tokens as tokens;
 ghost use Rattle.fab_policy_base.specs.Words.{action_word};
 ghost use Rattle.fab_policy_base.specs.declared.policy.Action.{Action};
 
 use crate::fault::{PolicyFault, unknown};
 use crate::key::Key;
 use crate::limits::{MOST_APPROVALS, MOST_TENANTS};
-use crate::policy::{Action, Freeze, Quorum, Scope, Tenants, WeekSpan};
+use crate::policy::{Action, Freeze, Quorum, Scope, Tenants, WEEK_MINUTES, WeekSpan};
 use crate::read::{Read, each, list, optional};
 use crate::text::Text;
 use fab_names::{Fabric, Name};
+use fab_tokens::is_token;
 use std::alloc::Global;
 use toml::value::Array;
 use toml::{Table, Value};
@@ -39,27 +38,6 @@ impl Read for Name {
     }
 }
 
-/// Whether a token may hold the character.
-fn is_token_char(c: u8) -> bool
-    ensures { result ≡ tokens.is_token_char c }
-{
-    c.is_ascii_alphanumeric() || matches!(c, b'-' | b'.' | b'_' | b'~' | b'+' | b'/' | b'=')
-}
-
-/// Whether a token may hold each character.
-fn all_token_chars(text: &[u8]) -> bool
-    ensures { result ≡ list_all tokens.is_token_char text.now }
-{
-    text.iter().all(|c| is_token_char(*c))
-}
-
-/// Whether the text is a token.
-fn is_token(text: &str) -> bool
-    ensures { IsTrue result ↔ tokens.IsTokenText text.now }
-{
-    !text.is_empty() && text.len() <= 128 && all_token_chars(text.as_bytes())
-}
-
 impl Read for Text {
     ghost use Rattle.fab_policy_base.specs.Forms.{IsToken};
     ghost use Rattle.fab_policy_base.specs.Shapes.{MeansNothing};
@@ -72,7 +50,7 @@ impl Read for Text {
         let Some(text) = value.as_str() else {
             return Err(PolicyFault::WrongType(key));
         };
-        if !is_token(text) {
+        if !is_token(text.as_bytes()) {
             return Err(PolicyFault::WrongType(key));
         }
         match Text::new(alloc, text) {
@@ -149,7 +127,7 @@ impl Read for WeekSpan {
     fn read(_alloc: Global, value: &Value, key: Key) -> Result<WeekSpan, PolicyFault> {
         match span(value) {
             Some((from, until)) => {
-                if until <= 10080 {
+                if until <= WEEK_MINUTES {
                     Ok(WeekSpan { from, until })
                 } else {
                     Err(PolicyFault::WrongType(key))

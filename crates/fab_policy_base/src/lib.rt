@@ -22,6 +22,8 @@ mod trial;
 pub use caller::CallerId;
 pub use fault::PolicyFault;
 pub use key::Key;
-pub use policy::{Action, Caller, Freeze, Policy, Quorum, Rule, Scope, Tenants, WeekSpan, Window};
+pub use policy::{
+    Action, Caller, Freeze, Policy, Quorum, Rule, Scope, Tenants, WEEK_MINUTES, WeekSpan, Window,
+};
 pub use text::Text;
 pub use trial::TRIAL_POLICY;

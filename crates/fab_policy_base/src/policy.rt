@@ -70,12 +70,15 @@ impl Model for Caller {
     } };
 }
 
+/// How many minutes a week has.
+pub const WEEK_MINUTES: u64 = 10080;
+
 /// A part of each week, in minutes from Monday 00:00 UTC: from the first on, before the second.
 #[derive(Clone, Copy, Debug, PartialEq, Eq)]
 pub struct WeekSpan {
     /// Its first minute.
     pub from: u64,
-    /// The minute after its last, at most 10080.
+    /// The minute after its last, at most `WEEK_MINUTES`.
     pub until: u64,
 }
 

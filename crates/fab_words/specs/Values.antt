@@ -1,7 +1,7 @@
 -- The text forms of values.
-use Rattle.std.specs.Prelude.{ℕ, ◌≡◌, ◌<◌, ◌^◌, true, List, Option, Some, None}
+use Rattle.std.specs.Prelude.{ℕ, ◌≡◌, ◌<◌, ◌^◌, List, Option, Some, None}
 use Rattle.fab_names.specs.Numbers.{SpellsNumber}
-use Rattle.fab_wire_base.specs.Callers.{is_token}
+use Rattle.fab_tokens.specs.Tokens.{IsTokenText}
 
 -- a value was given, and its text spells x
 abbrev pub Has : {X : Type 0} → (List ℕ → X → Type 0) → Option (List ℕ) → X → Type 0
@@ -21,7 +21,7 @@ SpellsText text x = x ≡ text
 
 -- a text of the form of a token, for itself
 abbrev pub SpellsToken : List ℕ → List ℕ → Type 0
-SpellsToken text x = (x ≡ text) × (is_token text ≡ true)
+SpellsToken text x = (x ≡ text) × IsTokenText text
 
 -- a number text of 0 to 18446744073709551615
 abbrev pub SpellsNumber64 : List ℕ → ℕ → Type 0

@@ -10,7 +10,7 @@ ghost use Rattle.fab_words.specs.Values.{Has, MayHave, SpellsToken, SpellsNumber
 use crate::options::OptionKind;
 use clap::ArgMatches;
 use fab_names::{Fabric, Name, read_number};
-use fab_wire_base::callers::is_token_text;
+use fab_tokens::is_token;
 
 /// The value of an option, if it was given.
 pub fn text_in<'a>(given: &ArgMatches<'a>, option: OptionKind) -> Option<&'a str>
@@ -52,7 +52,7 @@ pub fn token_in<'a>(given: &ArgMatches<'a>, option: OptionKind) -> Option<&'a st
     let Some(text) = text_in(given, option) else {
         return None;
     };
-    if is_token_text(text.as_bytes()) {
+    if is_token(text.as_bytes()) {
         Some(text)
     } else {
         None
