@@ -17,9 +17,8 @@ pub const WORLD: &[&str] = &[
     r#"ada PUT /volumes/v2 {"array":"arr1","bytes":1073741824,"tenant":"green"} -> 200 OK: {"revision":6}"#,
 ];
 
-/// The first worked plan staged, tried and activated.
-pub const FIRST_PLAN: &[&str] = &[
-    r#"ada PUT /plans/p1 alias.put A disk wwpn=50:00:00:00:00:00:00:01
+/// The first worked plan is staged: the first host gets the first volume.
+pub const FIRST_STAGED: &str = r#"ada PUT /plans/p1 alias.put A disk wwpn=50:00:00:00:00:00:00:01
 zone.put A z1 wwpn=10:00:00:00:00:00:00:01 alias=disk
 set.put A s1 z1
 activate A s1
@@ -29,11 +28,31 @@ sg.host g1 hosts1
 sg.target g1 50:00:00:00:00:00:00:01
 sg.map g1 0 v1
 sg.expose g1
- -> 200 OK: {"plan":"p1","steps":10}"#,
-    r#"ada GET /plans/p1/dryrun -> 200 OK: {"gained":[{"fabric":"A","initiator":"10:00:00:00:00:00:00:01","lun":0,"target":"50:00:00:00:00:00:00:01","volume":"v1"}],"lost":[],"plan":"p1"}"#,
-    r#"ada POST /plans/p1/activate -> 200 OK: {"gained":[{"fabric":"A","initiator":"10:00:00:00:00:00:00:01","lun":0,"target":"50:00:00:00:00:00:00:01","volume":"v1"}],"lost":[],"plan":"p1","revision":7}"#,
-    r#"ada GET /paths/db1 -> 200 OK: {"host":"db1","paths":[{"fabric":"A","initiator":"10:00:00:00:00:00:00:01","lun":0,"target":"50:00:00:00:00:00:00:01","volume":"v1"}]}"#,
-    r#"ada GET /joined/10:00:00:00:00:00:00:01/50:00:00:00:00:00:00:01 -> 200 OK: {"joined":true,"why":"zone","zone":"z1"}"#,
+ -> 200 OK: {"plan":"p1","steps":10}"#;
+
+/// It is tried.
+pub const FIRST_TRIED: &str =
+    r#"ada GET /plans/p1/dryrun -> 200 OK: {"gained":[{"fabric":"A","initiator":"10:00:00:00:00:00:00:01","lun":0,"target":"50:00:00:00:00:00:00:01","volume":"v1"}],"lost":[],"plan":"p1"}"#;
+
+/// It is activated.
+pub const FIRST_ACTIVATED: &str =
+    r#"ada POST /plans/p1/activate -> 200 OK: {"gained":[{"fabric":"A","initiator":"10:00:00:00:00:00:00:01","lun":0,"target":"50:00:00:00:00:00:00:01","volume":"v1"}],"lost":[],"plan":"p1","revision":7}"#;
+
+/// The paths of its host.
+pub const FIRST_PATHS: &str =
+    r#"ada GET /paths/db1 -> 200 OK: {"host":"db1","paths":[{"fabric":"A","initiator":"10:00:00:00:00:00:00:01","lun":0,"target":"50:00:00:00:00:00:00:01","volume":"v1"}]}"#;
+
+/// The question whether the ports of its path may communicate.
+pub const FIRST_JOINED: &str =
+    r#"ada GET /joined/10:00:00:00:00:00:00:01/50:00:00:00:00:00:00:01 -> 200 OK: {"joined":true,"why":"zone","zone":"z1"}"#;
+
+/// The first worked plan staged, tried and activated, and what is read then.
+pub const FIRST_PLAN: &[&str] = &[
+    FIRST_STAGED,
+    FIRST_TRIED,
+    FIRST_ACTIVATED,
+    FIRST_PATHS,
+    FIRST_JOINED,
 ];
 
 /// An alias put anew moves no path before the set is activated again.
