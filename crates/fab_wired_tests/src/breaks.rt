@@ -11,8 +11,20 @@ use fab_wire::Outcome;
 use std::alloc::{AllocError, Global};
 use std::test::Fail;
 
+/// Of which side of a connection each call fails in turn.
+#[derive(Clone, Copy)]
+pub enum Side {
+    /// Each read.
+    Reader,
+    /// Each write.
+    Writer,
+}
+
 /// Fails unless a read failed, which was counted, and nothing was written.
-fn is_silent(outcome: Outcome, failures: u64, written: &[u8], k: u64) -> Result<(), Fail> {
+///
+/// # Errors
+/// What came of the connection, where it is not that.
+pub fn is_silent(outcome: Outcome, failures: u64, written: &[u8], k: u64) -> Result<(), Fail> {
     if outcome == Outcome::ReadFailed && failures == 1 && written.is_empty() {
         Ok(())
     } else {
@@ -47,65 +59,6 @@ fn are_unread<S: Store<Global>>(
     Ok(())
 }
 
-/// The same, and then the request is served as if nothing had been.
-fn is_answered_then<S: Store<Global>>(
-    alloc: Global,
-    desk: &mut DeskOver<S>,
-    moment: u64,
-    request: &str,
-    wanted: &str,
-) -> Result<(), Fail> {
-    are_unread(alloc, desk, request.as_bytes())?;
-    serves(alloc, desk, 1, moment, request, wanted)
-}
-
-/// The same of a request that a table tells.
-fn survives<S: Store<Global>>(
-    alloc: Global,
-    desk: &mut DeskOver<S>,
-    text: &str,
-) -> Result<(), Fail> {
-    let turn = turn_of(text)?;
-    let exchange = exchange_of(alloc, &turn)?;
-    is_answered_then(
-        alloc,
-        desk,
-        turn.moment,
-        exchange.request.as_str(),
-        exchange.answer.as_str(),
-    )
-}
-
-/// The same of requests, one after the other.
-///
-/// # Errors
-/// The first of them that is not served so, and where there is no memory.
-pub fn survive<S: Store<Global>>(
-    alloc: Global,
-    desk: &mut DeskOver<S>,
-    turns: &[&str],
-) -> Result<(), Fail> {
-    for text in turns {
-        survives(alloc, desk, text)?;
-    }
-    Ok(())
-}
-
-/// The same of the bytes of requests.
-///
-/// # Errors
-/// The first of them that is not served so, and where there is no memory.
-pub fn bytes_survive<S: Store<Global>>(
-    alloc: Global,
-    desk: &mut DeskOver<S>,
-    requests: &[Bytes],
-) -> Result<(), Fail> {
-    for bytes in requests {
-        is_answered_then(alloc, desk, 0, bytes.0, bytes.1)?;
-    }
-    Ok(())
-}
-
 /// Serves inputs, and of each the read of its end fails.
 ///
 /// # Errors
@@ -122,7 +75,10 @@ pub fn are_cut<S: Store<Global>>(
 }
 
 /// Fails unless a write failed, which was counted, behind these bytes.
-fn is_stopped(
+///
+/// # Errors
+/// What came of the connection, where it is not that.
+pub fn is_stopped(
     outcome: Outcome,
     failures: u64,
     written: &[u8],
@@ -152,8 +108,25 @@ fn breaks_off<S: Store<Global>>(
     is_stopped(outcome, failures, writer.taken(), wanted)
 }
 
-/// Serves a request that a table tells to a writer that takes one byte a write, and fails at the write
-/// of this number: it has what stands before that byte of the answer.
+/// Serves the bytes of a request to a writer that takes one byte a write, and fails at the write of
+/// this number: it has what stands before that byte of the answer.
+fn breaks_at<S: Store<Global>>(
+    alloc: Global,
+    desk: &mut DeskOver<S>,
+    request: &str,
+    wanted: &str,
+    k: usize,
+) -> Result<(), Fail> {
+    breaks_off(
+        alloc,
+        desk,
+        request,
+        Breaking::new(alloc, 1, k as u64),
+        wanted.as_bytes().get(..k),
+    )
+}
+
+/// The same of a request that a table tells.
 fn is_unsent<S: Store<Global>>(
     alloc: Global,
     desk: &mut DeskOver<S>,
@@ -162,13 +135,105 @@ fn is_unsent<S: Store<Global>>(
 ) -> Result<(), Fail> {
     let turn = turn_of(text)?;
     let exchange = exchange_of(alloc, &turn)?;
-    breaks_off(
+    breaks_at(
         alloc,
         desk,
         exchange.request.as_str(),
-        Breaking::new(alloc, 1, k as u64),
-        exchange.answer.as_bytes().get(..k),
+        exchange.answer.as_str(),
+        k,
     )
+}
+
+/// Serves a request as often as its answer has bytes, which breaks off before another byte each time.
+fn are_unsent<S: Store<Global>>(
+    alloc: Global,
+    desk: &mut DeskOver<S>,
+    request: &str,
+    wanted: &str,
+) -> Result<(), Fail> {
+    for k in 0..wanted.len() {
+        breaks_at(alloc, desk, request, wanted, k)?;
+    }
+    Ok(())
+}
+
+/// Serves a request as often as that side of the connection has bytes, and another call of it fails
+/// each time.
+fn fails_each<S: Store<Global>>(
+    alloc: Global,
+    desk: &mut DeskOver<S>,
+    side: Side,
+    request: &str,
+    wanted: &str,
+) -> Result<(), Fail> {
+    match side {
+        Side::Reader => are_unread(alloc, desk, request.as_bytes()),
+        Side::Writer => are_unsent(alloc, desk, request, wanted),
+    }
+}
+
+/// The same, and then the request is served as if nothing had been.
+fn is_answered_then<S: Store<Global>>(
+    alloc: Global,
+    desk: &mut DeskOver<S>,
+    side: Side,
+    moment: u64,
+    request: &str,
+    wanted: &str,
+) -> Result<(), Fail> {
+    fails_each(alloc, desk, side, request, wanted)?;
+    serves(alloc, desk, 1, moment, request, wanted)
+}
+
+/// The same of a request that a table tells.
+fn survives<S: Store<Global>>(
+    alloc: Global,
+    desk: &mut DeskOver<S>,
+    side: Side,
+    text: &str,
+) -> Result<(), Fail> {
+    let turn = turn_of(text)?;
+    let exchange = exchange_of(alloc, &turn)?;
+    is_answered_then(
+        alloc,
+        desk,
+        side,
+        turn.moment,
+        exchange.request.as_str(),
+        exchange.answer.as_str(),
+    )
+}
+
+/// The same of requests, one after the other.
+///
+/// # Errors
+/// The first of them that is not served so, and where there is no memory.
+pub fn survive<S: Store<Global>>(
+    alloc: Global,
+    desk: &mut DeskOver<S>,
+    side: Side,
+    turns: &[&str],
+) -> Result<(), Fail> {
+    for text in turns {
+        survives(alloc, desk, side, text)?;
+    }
+    Ok(())
+}
+
+/// The same of the bytes of requests.
+///
+/// # Errors
+/// The first of them that is not served so, and where there is no memory.
+pub fn bytes_survive<S: Store<Global>>(
+    alloc: Global,
+    desk: &mut DeskOver<S>,
+    side: Side,
+    requests: &[Bytes],
+) -> Result<(), Fail> {
+    for bytes in requests {
+        is_answered_then(alloc, desk, side, 0, bytes.0, bytes.1)?;
+    }
+    Ok(())
 }
 
 /// An import that lists no port, and its answer at a revision.

@@ -1,23 +1,26 @@
 //! Tests of connections of which one read or one write fails, and works again behind it.
 
+use super::breaks::Side;
 use super::bytes::ROW_16;
 use super::deeds::{Deed, does};
 use super::stages::ROW_1;
-use fab_exchanges::rows::{FIRST_PLAN, WORLD};
+use fab_exchanges::rows::{
+    FIRST_ACTIVATED, FIRST_JOINED, FIRST_PATHS, FIRST_PLAN, FIRST_STAGED, FIRST_TRIED, WORLD,
+};
 use std::alloc::Global;
 use std::test::Fail;
 
 /// The worked world.
 const WORKED: Deed<'static> = Deed::Plays(usize::MAX, &[WORLD]);
 
-const SURVIVES: &[Deed<'static>] = &[WORKED, Deed::Survives(FIRST_PLAN)];
+const SURVIVES: &[Deed<'static>] = &[WORKED, Deed::Survives(Side::Reader, FIRST_PLAN)];
 
 #[test]
 fn reader_fails(rt: HostRuntime) -> Result<(), Fail> {
     does(rt.alloc(), SURVIVES)
 }
 
-const SURVIVES_REFUSED: &[Deed<'static>] = &[WORKED, Deed::SurvivesBytes(ROW_16)];
+const SURVIVES_REFUSED: &[Deed<'static>] = &[WORKED, Deed::SurvivesBytes(Side::Reader, ROW_16)];
 
 #[test]
 fn reader_fails_at_refused_requests(rt: HostRuntime) -> Result<(), Fail> {
@@ -57,6 +60,34 @@ fn writer_fails(rt: HostRuntime) -> Result<(), Fail> {
     does(rt.alloc(), UNSENT_IMPORTS)
 }
 
+/// The first plan is staged and tried: once more it is answered the same.
+const TRIED: &[&str] = &[FIRST_STAGED, FIRST_TRIED];
+
+/// It is activated.
+const ACTIVATED: &[&str] = &[FIRST_ACTIVATED];
+
+/// What is read then.
+const MOVED: &[&str] = &[FIRST_PATHS, FIRST_JOINED];
+
+const UNSENT_PLAN: &[Deed<'static>] = &[
+    WORKED,
+    Deed::Survives(Side::Writer, TRIED),
+    Deed::Plays(usize::MAX, &[ACTIVATED]),
+    Deed::Survives(Side::Writer, MOVED),
+];
+
+#[test]
+fn writer_fails_at_plans_and_reads(rt: HostRuntime) -> Result<(), Fail> {
+    does(rt.alloc(), UNSENT_PLAN)
+}
+
+const UNSENT_REFUSALS: &[Deed<'static>] = &[WORKED, Deed::SurvivesBytes(Side::Writer, ROW_16)];
+
+#[test]
+fn writer_fails_at_refused_requests(rt: HostRuntime) -> Result<(), Fail> {
+    does(rt.alloc(), UNSENT_REFUSALS)
+}
+
 /// Requests whose answers break off, and what is answered behind them.
 const UNSENT: &[(&str, &str)] = &[
     (
@@ -93,6 +124,41 @@ fn acts(alloc: Global, k: usize) -> Result<(), Fail> {
 fn unsent_requests_have_acted(rt: HostRuntime) -> Result<(), Fail> {
     for k in BREAKS {
         acts(rt.alloc(), k)?;
+    }
+    Ok(())
+}
+
+/// The activation of the first plan, whose answer breaks off, and the path behind it.
+const UNSENT_ACTIVATION: &[(&str, &str)] = &[(FIRST_ACTIVATED, FIRST_PATHS)];
+
+/// It has acted once.
+const ACTIVATED_ONCE: &[&str] = &[
+    FIRST_JOINED,
+    r#"ada POST /plans/p1/activate -> 409 Conflict: {"code":16,"error":"wrong-state","state":"active"}"#,
+    r#"ada POST /imports/B port_name,node_name,domain,port
+ -> 200 OK: {"revision":8}"#,
+];
+
+/// Where it breaks off: before the first byte, in the head, in the body, and before the last byte.
+const ACTIVATION_BREAKS: [usize; 4] = [0, 40, 160, 247];
+
+/// The activation has acted as its answer would have said.
+fn activates(alloc: Global, k: usize) -> Result<(), Fail> {
+    does(
+        alloc,
+        &[
+            WORKED,
+            Deed::Plays(usize::MAX, &[TRIED]),
+            Deed::Acts(UNSENT_ACTIVATION, k),
+            Deed::Plays(usize::MAX, &[ACTIVATED_ONCE]),
+        ],
+    )
+}
+
+#[test]
+fn unsent_activation_has_acted(rt: HostRuntime) -> Result<(), Fail> {
+    for k in ACTIVATION_BREAKS {
+        activates(rt.alloc(), k)?;
     }
     Ok(())
 }

@@ -1,6 +1,6 @@
 //! What is done with a new desk: a list of it is cheaper to prove than a test that does it all.
 
-use super::breaks::{act, are_cut, bytes_survive, imports_count, survive, take_none};
+use super::breaks::{Side, act, are_cut, bytes_survive, imports_count, survive, take_none};
 use super::bytes::Bytes;
 use super::desks::{DeskOver, desk_of, new_tables};
 use super::stages::sets;
@@ -17,10 +17,11 @@ pub enum Deed<'t> {
     Plays(usize, &'t [&'t [&'t str]]),
     /// The same of the bytes of requests.
     Serves(usize, &'t [Bytes]),
-    /// Each read of these requests fails in turn, and then they are answered as they say.
-    Survives(&'t [&'t str]),
+    /// Each read of these requests, or each write of their answers, fails in turn, and then they are
+    /// answered as they say.
+    Survives(Side, &'t [&'t str]),
     /// The same of the bytes of requests.
-    SurvivesBytes(&'t [Bytes]),
+    SurvivesBytes(Side, &'t [Bytes]),
     /// In place of the end of these inputs a read fails.
     IsCut(&'t [&'t [u8]]),
     /// It is asked for so many imports, whose answers break off before another byte each.
@@ -60,8 +61,8 @@ fn break_it<S: Store<Global>>(
     deed: Deed<'_>,
 ) -> Result<(), Fail> {
     match deed {
-        Deed::Survives(turns) => survive(alloc, desk, turns),
-        Deed::SurvivesBytes(requests) => bytes_survive(alloc, desk, requests),
+        Deed::Survives(side, turns) => survive(alloc, desk, side, turns),
+        Deed::SurvivesBytes(side, requests) => bytes_survive(alloc, desk, side, requests),
         Deed::IsCut(inputs) => are_cut(alloc, desk, inputs),
         Deed::Imports(times) => imports_count(alloc, desk, times),
         Deed::Acts(turns, k) => act(alloc, desk, turns, k),
