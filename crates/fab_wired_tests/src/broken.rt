@@ -1,9 +1,11 @@
-//! Tests of connections of which one read or one write fails, and works again behind it.
+//! Tests of connections of which one read or one write fails, and works again behind it, one by one
+//! and as one list.
 
 use super::breaks::Side;
-use super::bytes::ROW_16;
+use super::bytes::{APART, EMPTY_LIST, FIRST_IMPORT, NO_CALLER, ROW_16};
 use super::deeds::{Deed, does};
 use super::stages::ROW_1;
+use super::waiting::{End, Waiting};
 use fab_exchanges::rows::{
     FIRST_ACTIVATED, FIRST_JOINED, FIRST_PATHS, FIRST_PLAN, FIRST_STAGED, FIRST_TRIED, WORLD,
 };
@@ -161,4 +163,31 @@ fn unsent_activation_has_acted(rt: HostRuntime) -> Result<(), Fail> {
         activates(rt.alloc(), k)?;
     }
     Ok(())
+}
+
+/// The first import, the question about its ports, a refused request, an import whose read fails, the
+/// same whose answer breaks off in its body, and an input without a byte.
+const LIST: &[Waiting] = &[
+    (FIRST_IMPORT, End::Sent),
+    (APART, End::Sent),
+    (NO_CALLER, End::Sent),
+    (EMPTY_LIST, End::Unread(40)),
+    (EMPTY_LIST, End::Unsent(100)),
+    (("", ""), End::Sent),
+];
+
+/// Of the last two imports one has acted.
+const THIRD_IMPORT: &[&str] = &[
+    r#"ada POST /imports/A port_name,node_name,domain,port
+ -> 200 OK: {"revision":3}"#,
+];
+
+const SERVES_LIST: &[Deed<'static>] = &[
+    Deed::ServesList(LIST),
+    Deed::Plays(usize::MAX, &[THIRD_IMPORT]),
+];
+
+#[test]
+fn connections_are_served_as_a_list(rt: HostRuntime) -> Result<(), Fail> {
+    does(rt.alloc(), SERVES_LIST)
 }

@@ -3,23 +3,32 @@
 /// All bytes of a request, and all bytes of its answer: none where there is none.
 pub type Bytes = (&'static str, &'static str);
 
-/// The first import into a new desk, and a question about its ports.
-pub const FIRST: &[Bytes] = &[
-    (
-        "POST /imports/A HTTP/1.1\r\nAuthorization: Bearer t-ada\r\nContent-Length: 136\r\n\r\nport_name,node_name,domain,port\n10:00:00:00:00:00:00:01,20:00:00:00:00:00:00:01,1,1\n50:00:00:00:00:00:00:01,50:00:00:00:00:00:00:00,1,2\n",
-        "HTTP/1.1 200 OK\r\nContent-Type: application/json\r\nContent-Length: 14\r\nConnection: close\r\n\r\n{\"revision\":1}",
-    ),
-    (
-        "GET /joined/10:00:00:00:00:00:00:01/50:00:00:00:00:00:00:01 HTTP/1.1\r\nAuthorization: Bearer t-ada\r\n\r\n",
-        "HTTP/1.1 200 OK\r\nContent-Type: application/json\r\nContent-Length: 16\r\nConnection: close\r\n\r\n{\"joined\":false}",
-    ),
-];
+/// The first import into a new desk.
+pub const FIRST_IMPORT: Bytes = (
+    "POST /imports/A HTTP/1.1\r\nAuthorization: Bearer t-ada\r\nContent-Length: 136\r\n\r\nport_name,node_name,domain,port\n10:00:00:00:00:00:00:01,20:00:00:00:00:00:00:01,1,1\n50:00:00:00:00:00:00:01,50:00:00:00:00:00:00:00,1,2\n",
+    "HTTP/1.1 200 OK\r\nContent-Type: application/json\r\nContent-Length: 14\r\nConnection: close\r\n\r\n{\"revision\":1}",
+);
+
+/// The question about its ports: no zone joins them.
+pub const APART: Bytes = (
+    "GET /joined/10:00:00:00:00:00:00:01/50:00:00:00:00:00:00:01 HTTP/1.1\r\nAuthorization: Bearer t-ada\r\n\r\n",
+    "HTTP/1.1 200 OK\r\nContent-Type: application/json\r\nContent-Length: 16\r\nConnection: close\r\n\r\n{\"joined\":false}",
+);
+
+/// Both.
+pub const FIRST: &[Bytes] = &[FIRST_IMPORT, APART];
 
 /// The same question once the default zone permits.
 pub const JOINED: &[Bytes] = &[(
     "GET /joined/10:00:00:00:00:00:00:01/50:00:00:00:00:00:00:01 HTTP/1.1\r\nAuthorization: Bearer t-ada\r\n\r\n",
     "HTTP/1.1 200 OK\r\nContent-Type: application/json\r\nContent-Length: 31\r\nConnection: close\r\n\r\n{\"joined\":true,\"why\":\"default\"}",
 )];
+
+/// An import of a list without records, as the second change of a desk.
+pub const EMPTY_LIST: Bytes = (
+    "POST /imports/B HTTP/1.1\r\nAuthorization: Bearer t-ada\r\nContent-Length: 32\r\n\r\nport_name,node_name,domain,port\n",
+    "HTTP/1.1 200 OK\r\nContent-Type: application/json\r\nContent-Length: 14\r\nConnection: close\r\n\r\n{\"revision\":2}",
+);
 
 /// The paths of a host that has one.
 pub const PATHS: &[Bytes] = &[(
@@ -69,12 +78,15 @@ pub const ROW_16: &[Bytes] = &[
     ),
 ];
 
+/// A request that names no caller.
+pub const NO_CALLER: Bytes = (
+    "GET /hosts/db1 HTTP/1.1\r\n\r\n",
+    "HTTP/1.1 401 Unauthorized\r\nContent-Type: application/json\r\nContent-Length: 30\r\nWWW-Authenticate: Bearer\r\nConnection: close\r\n\r\n{\"code\":1,\"error\":\"no-caller\"}",
+);
+
 /// Heads that are refused, the methods that paths take, and a plan with bytes behind it.
 pub const REFUSED: &[Bytes] = &[
-    (
-        "GET /hosts/db1 HTTP/1.1\r\n\r\n",
-        "HTTP/1.1 401 Unauthorized\r\nContent-Type: application/json\r\nContent-Length: 30\r\nWWW-Authenticate: Bearer\r\nConnection: close\r\n\r\n{\"code\":1,\"error\":\"no-caller\"}",
-    ),
+    NO_CALLER,
     (
         "GET /hosts/db1 HTTP/1.1\r\nAuthorization: Bearer t-ada\r\nAuthorization: Bearer t-ada\r\n\r\n",
         "HTTP/1.1 401 Unauthorized\r\nContent-Type: application/json\r\nContent-Length: 30\r\nWWW-Authenticate: Bearer\r\nConnection: close\r\n\r\n{\"code\":1,\"error\":\"no-caller\"}",

@@ -5,6 +5,7 @@ use super::bytes::Bytes;
 use super::desks::{DeskOver, desk_of, new_tables};
 use super::stages::sets;
 use super::turns::{plays_all, plays_text, serves_each};
+use super::waiting::{Waiting, serves_list};
 use fab_policy_base::TRIAL_POLICY;
 use fab_stores::Store;
 use std::alloc::Global;
@@ -31,6 +32,8 @@ pub enum Deed<'t> {
     Acts(&'t [(&'t str, &'t str)], usize),
     /// It answers these requests to a writer that takes none of some bytes.
     IsNotTaken(&'t [&'t str]),
+    /// These connections are served as one list, and each ends as it says.
+    ServesList(&'t [Waiting]),
     /// A plan with as many sets as there may be is staged.
     StagesSets,
     /// The halted desk is opened again over the store that it hands out.
@@ -80,6 +83,7 @@ fn do_one<S: Store<Global>>(
     match deed {
         Deed::Plays(most, stages) => plays_all(alloc, desk, most, stages),
         Deed::Serves(most, requests) => serves_each(alloc, desk, most, requests),
+        Deed::ServesList(list) => serves_list(alloc, desk, list),
         Deed::StagesSets => stages_sets(alloc, desk),
         Deed::IsReopened => open_again(desk),
         _ => break_it(alloc, desk, deed),

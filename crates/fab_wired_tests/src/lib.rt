@@ -29,3 +29,5 @@ mod shows;
 mod stages;
 #[cfg(test)]
 mod turns;
+#[cfg(test)]
+mod waiting;

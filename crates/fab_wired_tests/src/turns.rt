@@ -24,7 +24,10 @@ fn is_outcome(outcome: Outcome, answer: &[u8]) -> bool {
 }
 
 /// Nothing where this is what is wanted, and else the text of what is answered.
-fn is_wanted(outcome: Outcome, answer: &[u8], wanted: &str) -> Result<(), Fail> {
+///
+/// # Errors
+/// Another answer.
+pub fn is_wanted(outcome: Outcome, answer: &[u8], wanted: &str) -> Result<(), Fail> {
     if answer == wanted.as_bytes() && is_outcome(outcome, answer) {
         Ok(())
     } else {
