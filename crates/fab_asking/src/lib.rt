@@ -16,7 +16,7 @@ mod wide;
 
 pub use asks::{Ask, See, command};
 pub use desk::{Turn, holds, holds_in, is_told, opened};
-pub use lists::holds_at_once;
+pub use lists::{are_told, holds_at_once, requests};
 pub use policies::policy;
 pub use stages::{
     ADA, FIRST, FIRST_INITIATOR, FIRST_PLAN, FIRST_TARGET, NO_PORTS, PORTS, SECOND,

@@ -15,7 +15,13 @@ use std::alloc::Global;
 use std::test::Fail;
 
 /// The requests of the turns.
-fn requests(alloc: Global, turns: &[Turn]) -> Result<Vec<Asked<'static, Global>, Global>, Fail> {
+///
+/// # Errors
+/// Where a turn says no command, or there is no memory.
+pub fn requests(
+    alloc: Global,
+    turns: &[Turn],
+) -> Result<Vec<Asked<'static, Global>, Global>, Fail> {
     let mut requests = Vec::new(alloc);
     for turn in turns {
         let command = command(alloc, turn.2)?;
@@ -29,7 +35,10 @@ fn requests(alloc: Global, turns: &[Turn]) -> Result<Vec<Asked<'static, Global>,
 }
 
 /// Whether there is a reply to each turn, and each is as the turn says.
-fn are_told(alloc: Global, replies: &[Reply<Global>], turns: &[Turn]) -> Result<bool, Fail> {
+///
+/// # Errors
+/// Where there is no memory.
+pub fn are_told(alloc: Global, replies: &[Reply<Global>], turns: &[Turn]) -> Result<bool, Fail> {
     if replies.len() != turns.len() {
         return Ok(false);
     }
