@@ -6,7 +6,7 @@ Run it by hand from the top, once the program is built:
 
     python3 bench/wire_calls.py [--connections N] [CASE..]
 
-CASE is `reads`, `imports` or `activations`; all three without one. SANDESK names another program than
+CASE is `reads`, `imports`, `activations` or `stagings`; the first three without one. SANDESK names another program than
 `crates/fab_program/out/fab_program`, CC another compiler than `cc`, and FLASK_PYTHON another Python
 than Debian's. It works in a temporary folder, under the policy `examples/session.toml`; TMPDIR names
 another place for it, as `/dev/shm`, where no disk is waited for.
@@ -48,6 +48,7 @@ ACCEPTED = b"HTTP/1.1 200 "
 EMPTY = b"HTTP/1.1 200 OK\r\nContent-Length: 0\r\nConnection: close\r\n\r\n"
 
 CASES = ["reads", "imports", "activations"]
+CASES_BY_NAME = [*CASES, "stagings"]
 
 # How many connections a server gets before the next one has its turn.
 BURST = 10
@@ -57,6 +58,9 @@ BURST = 10
 READS = [(1, 1, 1, 1), (2, 2, 16, 1), (4, 4, 64, 1), (4, 4, 256, 1), (1, 1, 1, 1024), (4, 4, 256, 15)]
 IMPORTS = [512, 1024, 2048, 4096]
 ACTIVATIONS = [(4, 4, 64, 1), (4, 4, 64, 8), (4, 4, 256, 15)]
+
+# How many plans there are when the next ones are staged.
+STAGED = [1000, 10000, 50000]
 
 
 # ---- requests
@@ -451,12 +455,39 @@ def time_activation(work, database, count, has_fixed, paths):
     told(f"one path more or less, beside {paths}", times)
 
 
+def stage_all(server, numbers):
+    """Stages a plan for each number."""
+    for number in numbers:
+        _, answer = call(server.port, staging(f"s{number}", number))
+        if not answer.startswith(ACCEPTED):
+            sys.exit(f"staging: unexpected answer {answer[:300]!r}")
+
+
+def time_stagings(work, count, has_fixed):
+    """Times of the staging of the last plans, up to so many."""
+    heading("PUT /plans/.., ms")
+    database, done = work / "stagings.db", 0
+    subprocess.run([PROGRAM, "init", "--db", database], check=True)
+    with contextlib.ExitStack() as servers:
+        server = servers.enter_context(desk(work, database))
+        _, answer = call(server.port, staging("first", 0))
+        calls = {"desk": None}
+        if has_fixed:
+            beside_c(work, servers, calls, [staging("first", 0)], answer)
+        for staged in STAGED:
+            first = max(staged - count, done)
+            stage_all(server, range(done, first))
+            calls["desk"] = lambda turn, first=first: (server.port, staging(f"s{first + turn}", turn), ACCEPTED)
+            told(f"one plan more, beside {first + 1}", in_turn(count, calls))
+            done = first + count + 1
+
+
 def asked_for():
     words = argparse.ArgumentParser(description="Times requests over loopback, beside C and Flask.")
     words.add_argument("--connections", type=int, default=201, help="how many each server gets in a case")
-    words.add_argument("cases", nargs="*", metavar="CASE", help=", ".join(CASES))
+    words.add_argument("cases", nargs="*", metavar="CASE", help=", ".join(CASES_BY_NAME))
     asked = words.parse_args()
-    unknown = [case for case in asked.cases if case not in CASES]
+    unknown = [case for case in asked.cases if case not in CASES_BY_NAME]
     if unknown or asked.connections < 1:
         words.error(f"no such case: {', '.join(unknown)}" if unknown else "one connection at least")
     return asked
@@ -479,6 +510,8 @@ def main():
             time_imports(work, asked.connections, has_fixed)
         if "activations" in cases:
             time_activations(work, asked.connections, has_fixed)
+        if "stagings" in cases:
+            time_stagings(work, asked.connections, has_fixed)
 
 
 if __name__ == "__main__":

@@ -1,11 +1,11 @@
 //! Changes carried out over a store.
-ghost use Rattle.std.specs.Prelude.{◌≡◌, ◌⊎◌, IfOk, OnOk, true, false};
+ghost use Rattle.std.specs.Prelude.{◌≡◌, ◌⊎◌, IfOk, OnOk, OnErr, true, false};
 ghost use Rattle.fab_desk_base.specs.Answers.{IsMove};
 ghost use Rattle.fab_desk_base.specs.declared.fault.DeskFault.TheVariants as faults;
 ghost use Rattle.fab_desk_base.specs.declared.reply.Reply.TheVariants as replies;
 ghost use Rattle.fab_machine.specs.Reports.{reply_of};
 ghost use Rattle.fab_machine.specs.Trials.{IsStepReady};
-ghost use Rattle.fab_next.specs.Nexts.{next_world, Suits};
+ghost use Rattle.fab_next.specs.Nexts.{next_world, with_room, Suits};
 ghost use Rattle.fab_reach.specs.declared.book.Delta.{Delta};
 ghost use Rattle.fab_stores.specs.Calls.{Rises};
 ghost use Rattle.fab_stores.specs.Moves.{AreMoves};
@@ -54,6 +54,32 @@ fn lines_of<A: Allocator + Copy, B: PathBook<A>>(
     moves(alloc, world, &change.next, &delta)
 }
 
+/// The lines in which the world and the one after the change differ; then there is room for the change
+/// in the world.
+///
+/// # Errors
+/// `AllocError` where there is no memory: the world is as it was.
+fn make_ready<A: Allocator + Copy, B: PathBook<A>>(
+    alloc: A,
+    world: &mut World<A>,
+    book: &B,
+    change: &Change<A, B::Ready>,
+) -> Result<LineChanges<A>, AllocError>
+    requires suits { Suits world.old change.now.next }
+    requires step { IsStepReady (B.leads book.now) (records_of world.old) (records_of (next_world world.old change.now.next)) change.now.step }
+    requires sound { IsSound world.old }
+    requires next_sound { IsSound (next_world world.old change.now.next) }
+    requires hosts { (d : Delta A) → IsMove world.old (next_world world.old change.now.next) d → KeepsHosts (records_of world.old) (records_of (next_world world.old change.now.next)) }
+    ensures room { OnOk result (world.new ≡ with_room world.old change.now.next) }
+    ensures kept { OnErr result (world.new ≡ world.old) }
+    ensures lines { IfOk result (AreMoves world.old (next_world world.old change.now.next)) }
+    ensures paths { OnOk result ((d : Delta A) × IsMove world.old (next_world world.old change.now.next) d) }
+{
+    let lines = lines_of(alloc, world, book, change)?;
+    change.next.make_room(alloc, world)?;
+    Ok(lines)
+}
+
 /// Carries out a change that is ready: the store has its lines before it is taken over. Where there is
 /// no memory, or the store refuses, the world and the book are as they were.
 pub fn carry_out<A: Allocator + Copy, S: Store<A>, B: PathBook<A>>(
@@ -78,7 +104,7 @@ pub fn carry_out<A: Allocator + Copy, S: Store<A>, B: PathBook<A>>(
     ensures doubt { S.is_clean store.new → IsTied S.Store store.old world.old → (left : Tables) → S.may_leave store.new left → HoldsWorld left world.old ⊎ (HoldsWorld left (next_world world.old change.next) × ((d : Delta A) × IsMove world.old (next_world world.old change.next) d)) }
     ensures counted { result.reply ≡ replies.Refused faults.Store → result.is_shut ≡ true → Rises (S.refused store.old) (S.refused store.new) }
 {
-    let lines = match lines_of(alloc, world, book, &change) {
+    let lines = match make_ready(alloc, world, book, &change) {
         Ok(lines) => lines,
         Err(_) => {
             return Served {
@@ -93,9 +119,12 @@ pub fn carry_out<A: Allocator + Copy, S: Store<A>, B: PathBook<A>>(
             reply: take_over(alloc, change, world, book),
             is_shut: false,
         },
-        Err(_) => Served {
-            reply: Reply::Refused(DeskFault::Store),
-            is_shut: true,
-        },
+        Err(_) => {
+            change.next.give_back(world);
+            Served {
+                reply: Reply::Refused(DeskFault::Store),
+                is_shut: true,
+            }
+        }
     }
 }

@@ -3,11 +3,13 @@
 //! ready is taken over without memory.
 ghost use Rattle.fab_world.specs.Soundness.{IsSound};
 ghost use Rattle.fab_world.specs.Worlds.{records_of};
+ghost use Rattle.fab_next.specs.Nexts.{next_world, Suits};
+ghost use Rattle.fab_machine.specs.Trials.{IsStepReady};
 
 use crate::small::{Came, Heap, Means, Order, ask, came_of, carry_out, command, fill, is_made_by};
 use fab_asking::{ADA, opened, policy};
 use fab_desk_base::Command;
-use fab_machine::{Proposal, propose, take_over};
+use fab_machine::{Change, Proposal, propose, take_over};
 use fab_policy::Policy;
 use fab_port_book::PortBook;
 use fab_reach::PathBook;
@@ -253,6 +255,30 @@ fn each_request_is_refused_in_turn(rt: HostRuntime) -> Result<(), Fail> {
     Ok(())
 }
 
+/// What came of a change that is taken over without memory, once there is room for it.
+fn come_without<'a, B: PathBook<Heap<'a>>>(
+    means: Means<'a>,
+    world: &mut World<Heap<'a>>,
+    book: &mut B,
+    change: Change<Heap<'a>, B::Ready>,
+) -> Came
+    requires suits { Suits world.old change.next }
+    requires step { IsStepReady (B.leads book.old) (records_of world.old) (records_of (next_world world.old change.next)) change.step }
+    requires stands { B.stands book.old (records_of world.old) }
+{
+    match change.next.make_room(means.heap, world) {
+        Ok(()) => {
+            means.heap.refuse_after(0);
+            let reply = take_over(means.heap, change, world, book);
+            if means.heap.has_refused() {
+                return Came::Other;
+            }
+            came_of(&reply)
+        }
+        Err(_) => Came::Other,
+    }
+}
+
 /// Whether what is proposed for the command is a change, and is taken over without memory: what
 /// came of it.
 fn taken_over<'a, B: PathBook<Heap<'a>>>(
@@ -266,14 +292,7 @@ fn taken_over<'a, B: PathBook<Heap<'a>>>(
 {
     match propose(means.heap, world, book, means.policy, ADA, 0, command) {
         Proposal::Answer(_) => Came::Other,
-        Proposal::Ready(change) => {
-            means.heap.refuse_after(0);
-            let reply = take_over(means.heap, change, world, book);
-            if means.heap.has_refused() {
-                return Came::Other;
-            }
-            came_of(&reply)
-        }
+        Proposal::Ready(change) => come_without(means, world, book, change),
     }
 }
 

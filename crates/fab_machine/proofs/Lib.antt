@@ -5,3 +5,4 @@ pub mod PathLists
 pub mod Reported
 pub mod Ends
 pub mod Answered
+pub mod Rooms

@@ -4,7 +4,7 @@ ghost use Rattle.fab_world.specs.Soundness.{IsSound};
 ghost use Rattle.fab_world.specs.Worlds.{records_of};
 ghost use Rattle.fab_machine.specs.Proposals.{AreAnswered, IsAnswered, asked_of, request_of};
 
-use crate::change::take_over;
+use crate::change::carry_through;
 use crate::proposing::{Proposal, propose};
 use fab_desk_base::{Command, Reply};
 use fab_policy_base::Policy;
@@ -39,7 +39,7 @@ pub fn answer<A: Allocator + Copy, B: PathBook<A>>(
 {
     match propose(alloc, world, book, policy, token, moment, command) {
         Proposal::Answer(reply) => reply,
-        Proposal::Ready(change) => take_over(alloc, change, world, book),
+        Proposal::Ready(change) => carry_through(alloc, change, world, book),
     }
 }
 

@@ -1,23 +1,25 @@
 //! A change that is ready, and how it is taken over.
-ghost use Rattle.std.specs.Prelude.{◌≡◌, IfOk};
+ghost use Rattle.std.specs.Prelude.{◌≡◌, ◌⊎◌, IfOk};
 ghost use Rattle.fab_reach.specs.Books.{IsDelta};
 ghost use Rattle.fab_reach.specs.Records.{Records};
 ghost use Rattle.fab_reach.specs.declared.book.Delta.{Delta};
 ghost use Rattle.fab_world.specs.Worlds.{records_of};
-ghost use Rattle.fab_next.specs.Nexts.{next_world, Suits};
+ghost use Rattle.fab_next.specs.Nexts.{next_world, IsReadyFor, Suits};
 ghost use Rattle.fab_desk_base.specs.Answers.{IsMove};
+ghost use Rattle.fab_machine.specs.Proposals.{IsMemory};
 ghost use Rattle.fab_machine.specs.Reports.{reply_of};
 ghost use Rattle.fab_machine.specs.Trials.{IsStepReady};
 
 use crate::report::{Report, reply_with};
-use fab_desk_base::Reply;
+use fab_desk_base::{DeskFault, Reply};
 use fab_next::Next;
 use fab_reach::{Delta, Path, PathBook};
 use fab_world::World;
 use std::alloc::{AllocError, Allocator};
 
-/// A change for which all memory is taken: the parts of the world after it, the step of a book of
-/// paths, where paths may move, and what is answered then.
+/// A change that is ready: the parts of the world after it, the step of a book of paths, where paths
+/// may move, and what is answered then. All memory for it is taken, but for the room in the world that
+/// `Next::make_room` makes.
 #[derive(Drop)]
 pub struct Change<A: Allocator + Copy, R> {
     pub next: Next<A>,
@@ -85,14 +87,14 @@ fn adopt<A: Allocator + Copy, B: PathBook<A>>(
 
 /// Takes over a change: the world is the next one, the book stands at it, and this is answered. It
 /// takes no memory and can not fail. The change has to be one that was proposed for this world and
-/// this book.
+/// this book, and the world has room for it.
 pub fn take_over<A: Allocator + Copy, B: PathBook<A>>(
     alloc: A,
     change: Change<A, B::Ready>,
     world: &mut World<A>,
     book: &mut B,
 ) -> Reply<A>
-    requires suits { Suits world.old change.next }
+    requires room { IsReadyFor world.old change.next }
     requires step { IsStepReady (B.leads book.old) (records_of world.old) (records_of (next_world world.old change.next)) change.step }
     requires stands { B.stands book.old (records_of world.old) }
     ensures world { world.new ≡ next_world world.old change.next }
@@ -102,4 +104,25 @@ pub fn take_over<A: Allocator + Copy, B: PathBook<A>>(
     let delta = adopt(alloc, book, change.step);
     change.next.take_over(alloc, world);
     reply_with(change.report, delta)
+}
+
+/// Makes room for a change, and takes it over. Want of memory is answered `Memory`, and nothing is
+/// changed.
+pub fn carry_through<A: Allocator + Copy, B: PathBook<A>>(
+    alloc: A,
+    change: Change<A, B::Ready>,
+    world: &mut World<A>,
+    book: &mut B,
+) -> Reply<A>
+    requires suits { Suits world.old change.next }
+    requires step { IsStepReady (B.leads book.old) (records_of world.old) (records_of (next_world world.old change.next)) change.step }
+    requires stands { B.stands book.old (records_of world.old) }
+    ensures stands { B.stands book.new (records_of world.new) }
+    ensures done { (IsMemory result × (world.new ≡ world.old))
+        ⊎ ((world.new ≡ next_world world.old change.next) × ((delta : Delta A) × (result ≡ reply_of change.report delta) × IsMove world.old world.new delta)) }
+{
+    match change.next.make_room(alloc, world) {
+        Ok(()) => take_over(alloc, change, world, book),
+        Err(_) => Reply::Refused(DeskFault::Memory),
+    }
 }

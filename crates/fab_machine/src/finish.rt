@@ -1,15 +1,14 @@
 //! What a command comes to that was tried.
-ghost use Rattle.std.specs.Prelude.{◌≡◌, ◌⊎◌, ℕ, List, None, IsSome, IfOk};
+ghost use Rattle.std.specs.Prelude.{◌≡◌, ◌⊎◌, ℕ, None, IsSome};
 ghost use Rattle.fab_policy.specs.declared.act.Verdict.TheVariants.{Allowed};
 ghost use Rattle.fab_policy_base.specs.Policies.{PolicyRows};
 ghost use Rattle.fab_reach.specs.Books.{IsDelta};
 ghost use Rattle.fab_reach.specs.Records.{Records};
 ghost use Rattle.fab_reach.specs.declared.book.Delta.{Delta};
 ghost use Rattle.fab_world.specs.Soundness.{IsSound};
-ghost use Rattle.fab_world.specs.Worlds.{records_of};
 ghost use Rattle.fab_next.specs.Nexts.{next_world, Suits};
 ghost use Rattle.fab_desk_base.specs.Acts.{IsJudged};
-ghost use Rattle.fab_desk_base.specs.Answers.{IsCarriedOut, IsKept, IsThere};
+ghost use Rattle.fab_desk_base.specs.Answers.{IsCarriedOut, IsThere};
 ghost use Rattle.fab_desk_base.specs.Commands.{action_of, tried};
 ghost use Rattle.fab_desk_base.specs.Refusals.{IsFirstFault};
 ghost use Rattle.fab_desk_base.specs.declared.reply.Reply.TheVariants as reply;
@@ -28,7 +27,7 @@ use fab_next::{Next, staged_next};
 use fab_policy_base::Policy;
 use fab_reach::PathBook;
 use fab_world::World;
-use std::alloc::{AllocError, Allocator};
+use std::alloc::Allocator;
 use std::collections::BTreeSet;
 
 /// What a refused command comes to: the policy's denial, or the refusal.
@@ -59,10 +58,10 @@ fn planned_next<A: Allocator + Copy>(
     world: &World<A>,
     caller: Name,
     command: Command<A>,
-) -> Result<Next<A>, AllocError>
+) -> Next<A>
     requires { IsNewPlan world.now command }
-    ensures world { IfOk result (λ next. next_world world.now next ≡ planned world.now caller command) }
-    ensures suits { IfOk result (Suits world.now) }
+    ensures world { next_world world.now result ≡ planned world.now caller command }
+    ensures suits { Suits world.now result }
 {
     match command {
         Command::Stage { plan, steps } => staged_next(alloc, world, caller, plan, steps),
@@ -77,13 +76,13 @@ fn next_of<A: Allocator + Copy>(
     caller: Name,
     command: Command<A>,
     effect: Effect<A>,
-) -> Result<Next<A>, AllocError>
+) -> Next<A>
     requires { EffectSuits world.now command effect }
-    ensures world { IfOk result (λ next. next_world world.now next ≡ effect_world world.now caller command effect) }
-    ensures suits { IfOk result (Suits world.now) }
+    ensures world { next_world world.now result ≡ effect_world world.now caller command effect }
+    ensures suits { Suits world.now result }
 {
     match effect {
-        Effect::Parts(next) => Ok(next),
+        Effect::Parts(next) => next,
         Effect::NewPlan => planned_next(alloc, world, caller, command),
     }
 }
@@ -131,14 +130,12 @@ fn ready<A: Allocator + Copy, B: PathBook<A>>(
 {
     let _book = book;
     let report = report_of(world, &sender.name, &command);
-    match next_of(alloc, world, sender.name, command, prepared.effect) {
-        Ok(next) => Proposal::Ready(Change {
-            next,
-            step: prepared.step,
-            report,
-        }),
-        Err(_) => Proposal::Answer(Reply::Refused(DeskFault::Memory)),
-    }
+    let next = next_of(alloc, world, sender.name, command, prepared.effect);
+    Proposal::Ready(Change {
+        next,
+        step: prepared.step,
+        report,
+    })
 }
 
 /// What an allowed command comes to: what its dry run is answered, or its change.

@@ -1,9 +1,9 @@
 //! The desk as a machine over its world: what is answered to a request, and the change that is ready
 //! to be taken over. It knows no store and no wire.
 //!
-//! `propose` is lent the world and changes nothing. What it hands out is the answer, or a change for
-//! which all memory is taken; a store may stand between the two. `take_over` needs no memory and can
-//! not fail.
+//! `propose` is lent the world and changes nothing. What it hands out is the answer, or a change that
+//! is ready. Once there is room for it in the world, a store may stand between the two: `take_over`
+//! needs no memory and can not fail.
 #![tactic(auto)]
 
 mod answers;
@@ -18,7 +18,7 @@ mod steps;
 mod verdicts;
 
 pub use answers::{Asked, answer, answer_all};
-pub use change::{Change, lists_of, take_over};
+pub use change::{Change, carry_through, lists_of, take_over};
 pub use proposing::{Proposal, propose, sender_of};
 pub use report::Report;
 pub use verdicts::Sender;

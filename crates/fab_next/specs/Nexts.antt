@@ -1,15 +1,16 @@
 -- Which world the parts of a change make, and when they suit a world.
-use Rattle.std.specs.Prelude.{ℕ, ◌≡◌, ◌<◌, ◌⊎◌, ◌↔◌, List, Option, None, Some, IsSome, false}
-use Rattle.std.specs.BTreeMap.{BTreeMap, get}
+use Rattle.std.specs.Prelude.{ℕ, ◌≡◌, ◌<◌, List, [], Option, None, Some, true, false}
 use Rattle.std.specs.FinMap as map
 use Rattle.fab_names.specs.Orders.{name_cmp}
+use Rattle.fab_reach.specs.Records.{ConfigRows}
+use Rattle.fab_rows.specs.Differences.{IsDifference}
 use Rattle.fab_rows.specs.declared.record_row.PlanState.TheVariants as state
 use Rattle.fab_world.specs.PlanRecords.{PlanRecord, active, rolled_back, withdrawn}
 use Rattle.fab_world.specs.Plans.{state_of}
 use Rattle.fab_world.specs.Worlds.{WorldRows}
 use Rattle.fab_world.specs.declared.limits.TheConstants.{MOST_CHANGES}
 use Rattle.fab_desk_base.specs.Commands.{IsPlan}
-use Rattle.fab_desk_base.specs.Effects.{counted, with_inventory, with_plan}
+use Rattle.fab_desk_base.specs.Effects.{counted, staged_plan, with_inventory, with_plan}
 use Rattle.fab_next.specs.declared.next.Next.{Next}
 use Rattle.fab_next.specs.declared.next.Next.TheVariants.{Same, Stock, Staged, Turned, Reconfigured}
 use Rattle.fab_next.specs.declared.next.Turn.{Turn}
@@ -41,7 +42,7 @@ turned_at n t w = with_turn n t (map.get w.plans n) w
 abbrev pub next_world : {A : Type 0} → WorldRows → Next A → WorldRows
 next_world w Same = w
 next_world w (Stock v) = counted (with_inventory v w)
-next_world w (Staged n p room) = with_plan n p w
+next_world w (Staged n p) = with_plan n p w
 next_world w (Turned n t) = turned_at n t w
 next_world w (Reconfigured c n t order) = counted (record (turned_at n t w) { config = c; order = order.items })
 
@@ -56,18 +57,36 @@ Leads _ p = state_of p.standing ≡ state.Staged
 abbrev pub LeadsAt : {A : Type 0} → WorldRows → List ℕ → Turn A → Type 0
 LeadsAt w n t = (p : PlanRecord) × IsPlan w n p × Leads t p
 
--- the room has just the names of the plans, and this one
-abbrev pub HasPlaces : {X Y : Type 0} → (List ℕ → Option X) → List ℕ → (List ℕ → Option Y) → Type 0
-HasPlaces plans n room = (k : List ℕ) → IsSome (room k) ↔ ((k ≡ n) ⊎ IsSome (plans k))
+-- an activation tells what it takes from the one configuration and adds in the other
+abbrev pub TellsChange : {A : Type 0} → ConfigRows → ConfigRows → Turn A → Type 0
+TellsChange before after (Activated change) = IsDifference before after change.taken.items change.added.items
+TellsChange before after _ = Unit {0}
 
--- the map has just the names of the plans, and this one
-abbrev pub HasRoomFor : {X : Type 0} → WorldRows → List ℕ → BTreeMap (List ℕ) X → Type 0
-HasRoomFor w n room = HasPlaces (map.get w.plans) n (get name_cmp room)
-
--- the parts are for this world: it may take them over
+-- the parts are for this world: it may take them over, once there is room for them
 abbrev pub Suits : {A : Type 0} → WorldRows → Next A → Type 0
 Suits w Same = Unit {0}
 Suits w (Stock v) = w.revision < MOST_CHANGES
-Suits w (Staged n p room) = (map.contains_key w.plans n ≡ false) × HasRoomFor w n room
+Suits w (Staged n p) = map.contains_key w.plans n ≡ false
 Suits w (Turned n t) = LeadsAt w n t
-Suits w (Reconfigured c n t order) = LeadsAt w n t × (w.revision < MOST_CHANGES)
+Suits w (Reconfigured c n t order) = LeadsAt w n t × (w.revision < MOST_CHANGES) × TellsChange w.config c t
+
+-- ---- room for them
+
+-- the plan that keeps the place of one that is to come: it has no steps
+abbrev pub blank_plan : List ℕ → PlanRecord
+blank_plan n = staged_plan n []
+
+-- the world with room for the parts: a plan that is new has a place in it
+abbrev pub with_room : {A : Type 0} → WorldRows → Next A → WorldRows
+with_room w (Staged n p) = with_plan n (blank_plan n) w
+with_room w _ = w
+
+-- the world without the place of a plan that is new
+abbrev pub without_room : {A : Type 0} → WorldRows → Next A → WorldRows
+without_room w (Staged n p) = record w { plans = map.remove w.plans n }
+without_room w _ = w
+
+-- the parts are for this world, and it has room for them
+abbrev pub IsReadyFor : {A : Type 0} → WorldRows → Next A → Type 0
+IsReadyFor w (Staged n p) = map.contains_key w.plans n ≡ true
+IsReadyFor w next = Suits w next

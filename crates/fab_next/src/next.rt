@@ -1,18 +1,18 @@
 //! The parts of the world after a change.
-ghost use Rattle.std.specs.Prelude.{◌≡◌, ◌<◌, false};
+ghost use Rattle.std.specs.Prelude.{◌≡◌, ◌<◌, OnOk, OnErr, true};
 ghost use Rattle.std.specs.FinMap as map;
 ghost use Rattle.fab_world.specs.declared.limits.TheConstants.{MOST_CHANGES};
 ghost use Rattle.fab_desk_base.specs.Effects.{counted, with_inventory, with_plan};
-ghost use Rattle.fab_next.specs.Nexts.{next_world, turned_at, HasRoomFor, LeadsAt, Suits};
+ghost use Rattle.fab_next.specs.Nexts.{blank_plan, next_world, turned_at, with_room, without_room, IsReadyFor, LeadsAt};
 
-use crate::staging::stage;
+use crate::rooms::{make_place, put_in_place, remove_place};
 use crate::turns::turn_at;
 use fab_inventory::Inventory;
 use fab_names::Name;
 use fab_reach::Config;
 use fab_rows::RowDifference;
 use fab_world::{KeptPlan, World};
-use std::alloc::Allocator;
+use std::alloc::{AllocError, Allocator};
 use std::collections::BTreeMap;
 
 /// What becomes of a plan.
@@ -28,19 +28,18 @@ pub enum Turn<A: Allocator + Copy> {
     RolledBack,
 }
 
-/// The parts of the world that a change leaves others than they were. All memory for them is taken.
+/// The parts of the world that a change leaves others than they were. All memory for them is taken,
+/// but for the place of a plan that is new: `make_room` takes that.
 #[derive(Drop)]
 pub enum Next<A: Allocator + Copy> {
     /// The world stays as it is.
     Same,
     /// Another inventory, by one change more.
     Stock(Inventory<A>),
-    /// One plan more: its name, the plan, and a map to move all plans to, which has just the names
-    /// of the plans and this one.
+    /// One plan more, under a name that no plan has.
     Staged {
         name: Name,
         plan: KeptPlan<A>,
-        room: BTreeMap<Name, KeptPlan<A>, A>,
     },
     /// A plan in another state, or with other approvals.
     Turned {
@@ -84,18 +83,27 @@ fn reconfigure<A: Allocator + Copy>(world: &mut World<A>, config: Config<A>, ord
     count(world);
 }
 
-/// Takes over one plan more, with a map to move all plans to.
-fn add_plan<A: Allocator + Copy>(
-    world: &mut World<A>,
-    name: Name,
-    plan: KeptPlan<A>,
-    room: BTreeMap<Name, KeptPlan<A>, A>,
-)
-    requires absent { map.contains_key world.old.plans name ≡ false }
-    requires room { HasRoomFor world.old name room }
-    ensures { world.new ≡ with_plan name plan world.old }
+/// Makes a place for a plan.
+fn place<A: Allocator + Copy>(alloc: A, world: &mut World<A>, name: Name) -> Result<(), AllocError>
+    ensures ok { OnOk result (world.new ≡ with_plan name (blank_plan name) world.old) }
+    ensures err { OnErr result (world.new ≡ world.old) }
 {
-    stage(&mut world.plans, (name, plan), room);
+    make_place(alloc, &mut world.plans, name)
+}
+
+/// Takes the place of a plan away.
+fn displace<A: Allocator + Copy>(world: &mut World<A>, name: &Name)
+    ensures { world.new ≡ record world.old { plans = map.remove world.old.plans name.now } }
+{
+    remove_place(&mut world.plans, name);
+}
+
+/// Takes over a plan in its place.
+fn put_plan<A: Allocator + Copy>(world: &mut World<A>, name: &Name, plan: KeptPlan<A>)
+    requires { map.contains_key world.old.plans name.now ≡ true }
+    ensures { world.new ≡ with_plan name.now plan world.old }
+{
+    put_in_place(&mut world.plans, name, plan);
 }
 
 /// Turns a plan in its place.
@@ -107,17 +115,43 @@ fn turn_in<A: Allocator + Copy>(alloc: A, world: &mut World<A>, name: &Name, tur
 }
 
 impl<A: Allocator + Copy> Next<A> {
+    /// Makes room for the parts: a plan that is new has its place then, where a plan without steps
+    /// stands until it is taken over, or the room is given back.
+    ///
+    /// # Errors
+    /// `AllocError` where there is no memory: the world is as it was.
+    pub fn make_room(&self, alloc: A, world: &mut World<A>) -> Result<(), AllocError>
+        ensures ok { OnOk result (world.new ≡ with_room world.old self.now) }
+        ensures err { OnErr result (world.new ≡ world.old) }
+    {
+        match self {
+            Next::Staged { name, .. } => place(alloc, world, *name),
+            _ => Ok(()),
+        }
+    }
+
+    /// Gives the room back that was made for the parts. It takes no memory.
+    pub fn give_back(&self, world: &mut World<A>)
+        ensures { world.new ≡ without_room world.old self.now }
+    {
+        match self {
+            Next::Staged { name, .. } => displace(world, name),
+            _ => {}
+        }
+    }
+
     /// Takes over the parts: the world is the next one then. It asks that the parts are for this
-    /// world: a plan that takes a turn is there, in the state that the turn leads from, and one
-    /// change more may be counted where one is. It takes no memory and can not fail.
+    /// world, which has room for them: a plan that is new has its place, one that takes a turn is
+    /// there, in the state that the turn leads from, and one change more may be counted where one
+    /// is. It takes no memory and can not fail.
     pub fn take_over(self, alloc: A, world: &mut World<A>)
-        requires { Suits world.old self }
+        requires { IsReadyFor world.old self }
         ensures { world.new ≡ next_world world.old self }
     {
         match self {
             Next::Same => {}
             Next::Stock(inventory) => stock(world, inventory),
-            Next::Staged { name, plan, room } => add_plan(world, name, plan, room),
+            Next::Staged { name, plan } => put_plan(world, &name, plan),
             Next::Turned { name, turn } => turn_in(alloc, world, &name, turn),
             Next::Reconfigured {
                 config,

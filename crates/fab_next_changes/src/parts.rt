@@ -8,14 +8,14 @@ ghost use Rattle.fab_rows.specs.Differences.{IsDifference};
 ghost use Rattle.fab_row_lists.specs.Inventories.{AreListsOf, IsKnownOnlyIn, IsInventoryDifference};
 ghost use Rattle.fab_world.specs.Worlds.{records_of};
 ghost use Rattle.fab_desk_laws.specs.Keeping.{KeepsHosts};
-ghost use Rattle.fab_next.specs.Nexts.{next_world};
+ghost use Rattle.fab_next.specs.Nexts.{next_world, Suits, TellsChange};
 ghost use Rattle.fab_next_changes.specs.Moves.{ArePartsMoved};
 
 use crate::paths::path_rows_moved;
-use fab_next::Next;
-use fab_reach::{Delta, View};
+use fab_next::{Next, Turn};
+use fab_reach::{Config, Delta, View};
 use fab_row_lists::{InventoryDifference, InventoryLists, PathRowDifference, inventory_difference};
-use fab_rows::{RowDifference, difference};
+use fab_rows::{ConfigRow, RowDifference, difference};
 use fab_world::World;
 use std::alloc::{AllocError, Allocator};
 
@@ -87,16 +87,49 @@ fn inventory_moved<A: Allocator + Copy>(
     }
 }
 
+/// Rows of a configuration once more.
+fn copied<A: Allocator + Copy>(
+    alloc: A,
+    rows: &[ConfigRow],
+) -> Result<Vec<ConfigRow, A>, AllocError>
+    ensures { IfOk result (λ copy. copy.items ≡ rows.now) }
+{
+    rows.iter().copied().collect(alloc)
+}
+
+/// The rows in which a configuration differs to which a turn leads: an activation tells them.
+fn rows_told<A: Allocator + Copy>(
+    alloc: A,
+    world: &World<A>,
+    config: &Config<A>,
+    turn: &Turn<A>,
+) -> Result<RowDifference<A>, AllocError>
+    requires { TellsChange world.now.config config.now turn.now }
+    ensures { IfOk result (λ d. IsDifference world.now.config config.now d.taken.items d.added.items) }
+{
+    match turn {
+        Turn::Activated(change) => {
+            let taken = copied(alloc, change.taken.as_slice())?;
+            let added = copied(alloc, change.added.as_slice())?;
+            Ok(RowDifference { taken, added })
+        }
+        Turn::Withdrawn | Turn::Approved(_) | Turn::RolledBack => {
+            difference(alloc, &world.config, config)
+        }
+    }
+}
+
 /// The rows of the configuration in which the next world differs.
 fn config_moved<A: Allocator + Copy>(
     alloc: A,
     world: &World<A>,
     next: &Next<A>,
 ) -> Result<RowDifference<A>, AllocError>
+    requires { Suits world.now next.now }
     ensures { IfOk result (λ d. IsDifference world.now.config (next_world world.now next.now).config d.taken.items d.added.items) }
 {
     match next {
-        Next::Reconfigured { config, .. } => difference(alloc, &world.config, config),
+        Next::Reconfigured { config, turn, .. } => rows_told(alloc, world, config, turn),
         Next::Same | Next::Stock(_) | Next::Staged { .. } | Next::Turned { .. } => {
             Ok(same_config(alloc))
         }
@@ -113,6 +146,7 @@ pub fn parts_moved<A: Allocator + Copy>(
     next: &Next<A>,
     delta: &Delta<A>,
 ) -> Result<Parts<A>, AllocError>
+    requires suits { Suits world.now next.now }
     requires delta { IsDelta (records_of world.now) (records_of (next_world world.now next.now)) delta.now.gained.items delta.now.lost.items }
     requires keeps { KeepsHosts (records_of world.now) (records_of (next_world world.now next.now)) }
     ensures { IfOk result (ArePartsMoved world.now (next_world world.now next.now)) }

@@ -6,7 +6,7 @@ ghost use Rattle.fab_world.specs.Worlds.{records_of};
 use crate::asks::{Ask, command, policy, token};
 use crate::same::are_same;
 use fab_changes::{Changes, changes};
-use fab_machine::{Proposal, answer, lists_of, propose, take_over};
+use fab_machine::{Proposal, answer, carry_through, lists_of, propose};
 use fab_next_changes::next_changes;
 use fab_policy::Policy;
 use fab_port_book::PortBook;
@@ -59,7 +59,7 @@ fn told<B: PathBook<Global>>(
     };
     let delta = lists_of(alloc, book, &change.step)?;
     let told = next_changes(alloc, world, &change.next, &delta)?;
-    let _reply = take_over(alloc, change, world, book);
+    let _reply = carry_through(alloc, change, world, book);
     Ok(told)
 }
 

@@ -171,7 +171,7 @@ module _ (A : Type 0) (w : WorldRows) (caller n : List ℕ) (p : PlanRecord) (is
 pub rolled_world : {A : Type 0} (w : WorldRows) (n : List ℕ) (c : ConfigRows) (rest : List (List ℕ)) (next : Next A) → IsRollback n c rest next → (p : PlanRecord) → IsPlan w n p → next_world w next ≡ after w n p c rest
 rolled_world w n c rest Same h p is = absurd h
 rolled_world w n c rest (Stock v) h p is = absurd h
-rolled_world w n c rest (Staged m q room) h p is = absurd h
+rolled_world w n c rest (Staged m q) h p is = absurd h
 rolled_world w n c rest (Turned m t) h p is = absurd h
 rolled_world w n c rest (Reconfigured config m Withdrawn order) h p is = absurd h
 rolled_world w n c rest (Reconfigured config m (Approved given) order) h p is = absurd h
@@ -182,7 +182,7 @@ rolled_world {A} w n c rest (Reconfigured config m RolledBack order) h p is =
 pub is_reconfiguration : {A : Type 0} (n : List ℕ) (c : ConfigRows) (rest : List (List ℕ)) (next : Next A) → IsRollback n c rest next → IsReconfiguration n next
 is_reconfiguration n c rest Same h = absurd h
 is_reconfiguration n c rest (Stock v) h = absurd h
-is_reconfiguration n c rest (Staged m q room) h = absurd h
+is_reconfiguration n c rest (Staged m q) h = absurd h
 is_reconfiguration n c rest (Turned m t) h = absurd h
 is_reconfiguration n c rest (Reconfigured config m Withdrawn order) h = absurd h
 is_reconfiguration n c rest (Reconfigured config m (Approved given) order) h = absurd h
@@ -192,9 +192,9 @@ is_reconfiguration n c rest (Reconfigured config m RolledBack order) h = h.1
 pub rollback_suits : {A : Type 0} (w : WorldRows) (n : List ℕ) (p : PlanRecord) → IsPlan w n p → state_of p.standing ≡ state.Active → (c : ConfigRows) (rest : List (List ℕ)) (next : Next A) → IsRollback n c rest next → w.revision < MOST_CHANGES → Suits w next
 rollback_suits w n p is works c rest Same h few = absurd h
 rollback_suits w n p is works c rest (Stock v) h few = absurd h
-rollback_suits w n p is works c rest (Staged m q room) h few = absurd h
+rollback_suits w n p is works c rest (Staged m q) h few = absurd h
 rollback_suits w n p is works c rest (Turned m t) h few = absurd h
 rollback_suits w n p is works c rest (Reconfigured config m Withdrawn order) h few = absurd h
 rollback_suits w n p is works c rest (Reconfigured config m (Approved given) order) h few = absurd h
 rollback_suits w n p is works c rest (Reconfigured config m (Activated d) order) h few = absurd h
-rollback_suits w n p is works c rest (Reconfigured config m RolledBack order) h few = ((p, subst (λ k. IsPlan w k p) (sym h.1) is, works), few)
+rollback_suits w n p is works c rest (Reconfigured config m RolledBack order) h few = ((p, subst (λ k. IsPlan w k p) (sym h.1) is, works), few, tt)

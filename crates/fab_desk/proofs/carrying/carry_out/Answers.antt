@@ -1,10 +1,37 @@
-use Rattle.std.proofs.Common.{inl, inr, sym, subst}
+use Rattle.std.proofs.Common.{inl, inr, refl, sym, ap, subst, ◌∙◌}
+use Rattle.fab_machine.proofs.Rooms.{same_records, leads_there, room_for, ready_there, moved_there, back_there}
 use Rattle.fab_next.specs.Nexts.{next_world}
 use Rattle.fab_stores.specs.Worlds.{HoldsWorld}
 use Rattle.fab_tables.specs.Tables.{Tables, HaveKeys}
 use Rattle.fab_desk.specs.Desks.{IsTied}
 use Rattle.fab_desk.proofs.Tied.{can, tied_after, left_after}
+use Rattle.fab_world.specs.Worlds.{records_of}
 use Rattle.fab_desk.proofs.carrying.carry_out.Goals as goal
+
+pub take_over-requires-clause-room : goal.take_over-requires-clause-room
+take_over-requires-clause-room g c = room_for c.args.world.now c.make_ready.new.world c.args.change.next c.in-Ok.ensures.room c.requires.suits
+
+pub take_over-requires-clause-step : goal.take_over-requires-clause-step
+take_over-requires-clause-step g c = ready_there c.args.world.now c.make_ready.new.world c.args.change.next c.in-Ok.ensures.room (g.B.PathBook.leads c.args.book.now) c.args.change.step c.requires.step
+
+pub take_over-requires-clause-stands : goal.take_over-requires-clause-stands
+take_over-requires-clause-stands g c = subst (g.B.PathBook.stands c.args.book.now) (sym (same_records c.args.world.now c.make_ready.new.world c.args.change.next c.in-Ok.ensures.room)) c.requires.stands
+
+pub returns-in-Ok-commit-clause-done : goal.returns-in-Ok-commit-clause-done
+returns-in-Ok-commit-clause-done g c =
+    let w = c.args.world.now in
+    let v = c.make_ready.new.world in
+    let next = c.args.change.next in
+    let told = c.take_over.ensures.reply in
+    inr (inr (refl, c.take_over.ensures.world ∙ leads_there w v next c.in-Ok.ensures.room, (told.0, told.1, moved_there w v next c.in-Ok.ensures.room c.take_over.new.world told.0 told.2)))
+
+pub returns-in-Err-commit-clause-done : goal.returns-in-Err-commit-clause-done
+returns-in-Err-commit-clause-done g c = inr (inl (refl, back_there c.args.world.now c.make_ready.new.world c.args.change.next c.in-Ok.ensures.room c.give_back.new.world c.requires.suits c.give_back.ensures, refl))
+
+pub returns-in-Err-commit-clause-stands : goal.returns-in-Err-commit-clause-stands
+returns-in-Err-commit-clause-stands g c =
+    let back = back_there c.args.world.now c.make_ready.new.world c.args.change.next c.in-Ok.ensures.room c.give_back.new.world c.requires.suits c.give_back.ensures in
+    subst (g.B.PathBook.stands c.args.book.now) (ap records_of (sym back)) c.requires.stands
 
 pub returns-in-Ok-commit-clause-tied : goal.returns-in-Ok-commit-clause-tied
 returns-in-Ok-commit-clause-tied g c clean tied serves =
@@ -13,7 +40,7 @@ returns-in-Ok-commit-clause-tied g c clean tied serves =
     let keys : (u : Tables) → HoldsWorld u w → HaveKeys u = λ u holds. c.holds_keys.ensures u w c.requires.sound holds in
     let may = can w v c.in-Ok.lines c.in-Ok.ensures.lines g.S.Store c.args.store.now c.commit.new.self g.met.S.Store.settled keys tied in
     let after = tied_after w v c.in-Ok.lines c.in-Ok.ensures.lines g.S.Store c.args.store.now c.commit.new.self g.met.S.Store.settled keys tied (c.in-Ok-commit.ensures.ready clean tied.ready may) (c.in-Ok-commit.ensures.done clean tied.ready may) in
-    subst (IsTied g.S.Store c.commit.new.self) {y = c.take_over.new.world} (sym c.take_over.ensures.world) after
+    subst (IsTied g.S.Store c.commit.new.self) {y = c.take_over.new.world} (sym (c.take_over.ensures.world ∙ leads_there w c.make_ready.new.world c.args.change.next c.in-Ok.ensures.room)) after
 
 pub returns-in-Ok-commit-clause-doubt : goal.returns-in-Ok-commit-clause-doubt
 returns-in-Ok-commit-clause-doubt g c clean tied left leaves =

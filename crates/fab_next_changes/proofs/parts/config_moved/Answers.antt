@@ -1,4 +1,4 @@
-use Rattle.std.proofs.Common.{◌≡◌, inl, inr, ap, sym, subst}
+use Rattle.std.proofs.Common.{◌≡◌, IfOk, inl, inr, ap, sym, subst}
 use Rattle.fab_reach.specs.Records.{ConfigRows}
 use Rattle.fab_rows.specs.Differences.{IsDifference}
 use Rattle.fab_next.specs.Nexts.{next_world}
@@ -11,7 +11,13 @@ returns-in-Same g c =
       | inl e ↦ ap (λ n. (next_world w n).config) e
       | inr more ↦ elim more [
         | inl e ↦ ap (λ n. (next_world w n).config) e.1
-        | inr more ↦ elim more [ inl e ↦ ap (λ n. (next_world w n).config) e.3 | inr e ↦ ap (λ n. (next_world w n).config) e.2 ]
+        | inr more ↦ elim more [ inl e ↦ ap (λ n. (next_world w n).config) e.2 | inr e ↦ ap (λ n. (next_world w n).config) e.2 ]
       ]
     ] in
     subst (λ (d : ConfigRows). IsDifference w.config d c.same_config.result.taken.items c.same_config.result.added.items) (sym stays) (c.same_config.ensures w.config)
+
+pub returns-in-Reconfigured : goal.returns-in-Reconfigured
+returns-in-Reconfigured g c =
+    let w = c.args.world.now in
+    let same : (next_world w c.args.next.now).config ≡ c.in-Reconfigured.config = ap (λ n. (next_world w n).config) c.in-Reconfigured.is in
+    subst (λ (d : ConfigRows). IfOk c.rows_told.result (λ x. IsDifference w.config d x.taken.items x.added.items)) (sym same) c.rows_told.ensures

@@ -10,7 +10,7 @@ returns-in-Same g c =
     let stays : (next_world w c.args.next.now).inventory ≡ w.inventory = elim c.in-Same.is [
       | inl e ↦ ap (λ n. (next_world w n).inventory) e
       | inr more ↦ elim more [
-        | inl e ↦ ap (λ n. (next_world w n).inventory) e.3
+        | inl e ↦ ap (λ n. (next_world w n).inventory) e.2
         | inr more ↦ elim more [ inl e ↦ ap (λ n. (next_world w n).inventory) e.2 | inr e ↦ ap (λ n. (next_world w n).inventory) e.4 ]
       ]
     ] in
