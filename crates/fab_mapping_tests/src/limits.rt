@@ -4,6 +4,7 @@ use fab_inventory::Inventory;
 use fab_mapping::{Mapping, MappingFault, MappingLimit};
 use fab_names::Name;
 use std::alloc::Global;
+use std::process::Abort;
 use std::test::Fail;
 
 /// Something of which there may be so many.
@@ -17,7 +18,7 @@ enum Kind {
 }
 
 /// Of what there are so many, the number that comes then, and what refuses it, if anything does.
-const COUNTS: [(Kind, u16, u16, Option<MappingLimit>); 9] = [
+const COUNTS: &[(Kind, u16, u16, Option<MappingLimit>)] = &[
     (Kind::HostGroups, 2048, 2048, Some(MappingLimit::HostGroups)),
     (Kind::HostGroups, 2048, 0, None),
     (Kind::Groups, 2048, 2048, Some(MappingLimit::Groups)),
@@ -42,7 +43,7 @@ fn put_hosts(
     name: Name,
 ) -> Result<Result<(), MappingFault>, Fail> {
     let host = Name::read("db1")?;
-    put_two(mapping, inventory, name, host, host)
+    put_two(mapping, inventory, name, host, "db1")
 }
 
 /// Adds a host group of `db1` to the storage group.
@@ -72,7 +73,25 @@ fn make(
     }
 }
 
-/// What the last is answered, made after so many; these are accepted.
+/// Makes so many, which are accepted.
+fn make_all(
+    mapping: &mut Mapping<Global>,
+    inventory: &Inventory<Global>,
+    alloc: Global,
+    kind: Kind,
+    count: u16,
+) -> Result<(), Fail> {
+    let group = numbered(alloc, 0)?;
+    new_group(mapping, inventory, group, "arr1")??;
+    let first = if let Kind::Groups = kind { 1 } else { 0 };
+    for number in first..count {
+        let item = (kind, numbered(alloc, number)?, number);
+        make(mapping, inventory, group, item)??;
+    }
+    Ok(())
+}
+
+/// What the last is answered, made after so many.
 fn last_made(
     alloc: Global,
     inventory: &Inventory<Global>,
@@ -80,15 +99,10 @@ fn last_made(
     count: u16,
     last: u16,
 ) -> Result<Result<(), MappingFault>, Fail> {
-    let mut mapping = Mapping::new(alloc);
     let group = numbered(alloc, 0)?;
-    new_group(&mut mapping, inventory, group, "arr1")??;
-    let first = if let Kind::Groups = kind { 1 } else { 0 };
-    for number in first..count {
-        let item = (kind, numbered(alloc, number)?, number);
-        make(&mut mapping, inventory, group, item)??;
-    }
     let item = (kind, numbered(alloc, last)?, last);
+    let mut mapping = Mapping::new(alloc);
+    make_all(&mut mapping, inventory, alloc, kind, count)?;
     make(&mut mapping, inventory, group, item)
 }
 
@@ -100,14 +114,23 @@ fn is_limited(answer: Result<(), MappingFault>, limit: Option<MappingLimit>) -> 
     }
 }
 
+/// Each count is limited so.
+fn assert_limits(
+    rt: &impl Abort,
+    alloc: Global,
+    inventory: &Inventory<Global>,
+) -> Result<(), Fail> {
+    for (kind, count, last, limit) in COUNTS {
+        let answer = last_made(alloc, inventory, *kind, *count, *last)?;
+        assert!(rt; is_limited(answer, *limit), "{count} and {last}");
+    }
+    Ok(())
+}
+
 #[test]
 fn limits(rt: HostRuntime) -> Result<(), Fail> {
     let inventory = stock(rt.alloc())?;
-    for (kind, count, last, limit) in COUNTS {
-        let answer = last_made(rt.alloc(), &inventory, kind, count, last)?;
-        assert!(rt; is_limited(answer, limit), "{count} and {last}");
-    }
-    Ok(())
+    assert_limits(&rt, rt.alloc(), &inventory)
 }
 
 /// What a host group of so many hosts, all equal, is answered.
@@ -129,14 +152,23 @@ fn put_listed(
 }
 
 /// So many hosts are listed, and what refuses them, if anything does.
-const LENGTHS: [(u16, Option<MappingLimit>); 2] = [(255, None), (256, Some(MappingLimit::Hosts))];
+const LENGTHS: &[(u16, Option<MappingLimit>)] = &[(255, None), (256, Some(MappingLimit::Hosts))];
+
+/// Each length is limited so.
+fn assert_lengths(
+    rt: &impl Abort,
+    alloc: Global,
+    inventory: &Inventory<Global>,
+) -> Result<(), Fail> {
+    for (count, limit) in LENGTHS {
+        let answer = put_listed(alloc, inventory, *count)?;
+        assert!(rt; is_limited(answer, *limit), "{count} hosts");
+    }
+    Ok(())
+}
 
 #[test]
 fn limits_of_hosts(rt: HostRuntime) -> Result<(), Fail> {
     let inventory = stock(rt.alloc())?;
-    for (count, limit) in LENGTHS {
-        let answer = put_listed(rt.alloc(), &inventory, count)?;
-        assert!(rt; is_limited(answer, limit), "{count} hosts");
-    }
-    Ok(())
+    assert_lengths(&rt, rt.alloc(), &inventory)
 }

@@ -1,12 +1,13 @@
 //! What is found in a mapping, and what is shown of its groups.
 use crate::stock::{Row, port, world};
-use fab_mapping::{Mapping, StorageGroup};
+use fab_mapping::{HostGroup, Mapping, StorageGroup};
 use fab_names::Name;
 use std::alloc::Global;
+use std::process::Abort;
 use std::test::Fail;
 
 /// Storage groups of two arrays.
-const SEARCHED: [Row; 4] = [
+const SEARCHED: &[Row] = &[
     ("g4", "arr2", "hosts2", 40, 1, "w1"),
     ("g3", "arr2", "hosts3", 40, 0, "w1"),
     ("g2", "arr1", "hosts3", 3, 0, "v2"),
@@ -24,7 +25,7 @@ enum Search {
 }
 
 /// What is found, if anything is.
-const FOUND: [(Search, Option<&str>); 15] = [
+const FOUND: &[(Search, Option<&str>)] = &[
     (Search::Host("db1"), Some("hosts1")),
     (Search::Host("db2"), Some("hosts2")),
     (Search::Host("arr1"), None),
@@ -43,11 +44,11 @@ const FOUND: [(Search, Option<&str>); 15] = [
 ];
 
 /// The first host group or storage group by name.
-fn find(mapping: &Mapping<Global>, search: Search) -> Result<Option<Name>, Fail> {
+fn find(mapping: &Mapping<Global>, search: &Search) -> Result<Option<Name>, Fail> {
     match search {
         Search::Host(host) => Ok(mapping.host_group_with(&Name::read(host)?)),
         Search::Served(hosts) => Ok(mapping.group_serving(&Name::read(hosts)?)),
-        Search::Target(target) => Ok(mapping.group_with_target(&port(target))),
+        Search::Target(target) => Ok(mapping.group_with_target(&port(*target))),
         Search::Array(array) => Ok(mapping.group_of_array(&Name::read(array)?)),
         Search::Volume(volume) => Ok(mapping.group_with_volume(&Name::read(volume)?)),
     }
@@ -61,13 +62,18 @@ fn is_found(found: Option<Name>, want: Option<&str>) -> bool {
     }
 }
 
-#[test]
-fn the_first_by_name_is_found(rt: HostRuntime) -> Result<(), Fail> {
-    let mapping = world(rt.alloc(), &SEARCHED)?;
+/// What is searched for is found, or not.
+fn assert_found(rt: &impl Abort, mapping: &Mapping<Global>) -> Result<(), Fail> {
     for (search, want) in FOUND {
-        assert!(rt; is_found(find(&mapping, search)?, want));
+        assert!(rt; is_found(find(mapping, search)?, *want));
     }
     Ok(())
+}
+
+#[test]
+fn the_first_by_name_is_found(rt: HostRuntime) -> Result<(), Fail> {
+    let mapping = world(rt.alloc(), SEARCHED)?;
+    assert_found(&rt, &mapping)
 }
 
 /// Whether a name of a host group is shown, its tenant is `blue`, and which of two hosts it has.
@@ -84,20 +90,25 @@ fn shown_hosts(mapping: &Mapping<Global>, name: &str) -> Result<[bool; 4], Fail>
 }
 
 /// Names, and what is shown of the host groups.
-const SHOWN_HOSTS: [(&str, [bool; 4]); 4] = [
+const SHOWN_HOSTS: &[(&str, [bool; 4])] = &[
     ("hosts1", [true, true, true, false]),
     ("hosts2", [true, true, true, true]),
     ("hosts3", [true, true, false, true]),
     ("g1", [false, false, false, false]),
 ];
 
-#[test]
-fn host_groups_that_are_shown(rt: HostRuntime) -> Result<(), Fail> {
-    let mapping = world(rt.alloc(), &SEARCHED)?;
+/// The host groups are shown so.
+fn assert_hosts_shown(rt: &impl Abort, mapping: &Mapping<Global>) -> Result<(), Fail> {
     for (name, shown) in SHOWN_HOSTS {
-        assert!(rt; shown_hosts(&mapping, name)? == shown, "{name}");
+        assert!(rt; shown_hosts(mapping, name)? == *shown, "{name}");
     }
     Ok(())
+}
+
+#[test]
+fn host_groups_that_are_shown(rt: HostRuntime) -> Result<(), Fail> {
+    let mapping = world(rt.alloc(), SEARCHED)?;
+    assert_hosts_shown(&rt, &mapping)
 }
 
 /// Whether a storage group has the parts of `g2`: `blue`, `arr1`, `hosts3`, port 3 and `v2` at
@@ -123,57 +134,92 @@ fn shown_group(mapping: &Mapping<Global>, name: &str) -> Result<[bool; 7], Fail>
 }
 
 /// Names, and which parts of `g2` are shown.
-const SHOWN_GROUPS: [(&str, [bool; 7]); 4] = [
+const SHOWN_GROUPS: &[(&str, [bool; 7])] = &[
     ("g1", [true, true, false, false, false, false, true]),
     ("g2", [true, true, true, true, true, true, true]),
     ("g3", [true, false, true, false, false, false, true]),
     ("hosts1", [false, false, false, false, false, false, false]),
 ];
 
-#[test]
-fn groups_that_are_shown(rt: HostRuntime) -> Result<(), Fail> {
-    let mapping = world(rt.alloc(), &SEARCHED)?;
+/// The storage groups are shown so.
+fn assert_groups_shown(rt: &impl Abort, mapping: &Mapping<Global>) -> Result<(), Fail> {
     for (name, shown) in SHOWN_GROUPS {
-        assert!(rt; shown_group(&mapping, name)? == shown, "{name}");
+        assert!(rt; shown_group(mapping, name)? == *shown, "{name}");
     }
     Ok(())
 }
 
-/// How many host groups and storage groups are walked through, and how many hosts of `hosts2`.
-fn walked(mapping: &Mapping<Global>) -> Result<[usize; 3], Fail> {
-    let hosts = match mapping.host_group(&Name::read("hosts2")?) {
-        Some(group) => group.hosts().count(),
-        None => 0,
-    };
-    Ok([
-        mapping.host_groups().count(),
-        mapping.groups().count(),
-        hosts,
-    ])
+#[test]
+fn groups_that_are_shown(rt: HostRuntime) -> Result<(), Fail> {
+    let mapping = world(rt.alloc(), SEARCHED)?;
+    assert_groups_shown(&rt, &mapping)
+}
+
+fn count_host_groups(mapping: &Mapping<Global>) -> usize {
+    mapping.host_groups().count()
+}
+
+fn count_groups(mapping: &Mapping<Global>) -> usize {
+    mapping.groups().count()
+}
+
+fn count_hosts(group: &HostGroup<Global>) -> usize {
+    group.hosts().count()
+}
+
+fn count_served(group: &StorageGroup<Global>) -> usize {
+    group.host_groups().count()
+}
+
+fn count_targets(group: &StorageGroup<Global>) -> usize {
+    group.targets().count()
+}
+
+fn count_units(group: &StorageGroup<Global>) -> usize {
+    group.units().count()
+}
+
+/// How many hosts of a host group are walked through.
+fn walked_hosts(mapping: &Mapping<Global>, name: &str) -> Result<usize, Fail> {
+    match mapping.host_group(&Name::read(name)?) {
+        Some(group) => Ok(count_hosts(group)),
+        None => Ok(0),
+    }
 }
 
 /// How many host groups, targets and units of a storage group are walked through.
 fn walked_parts(mapping: &Mapping<Global>, name: &str) -> Result<[usize; 3], Fail> {
     match mapping.group(&Name::read(name)?) {
         Some(group) => Ok([
-            group.host_groups().count(),
-            group.targets().count(),
-            group.units().count(),
+            count_served(group),
+            count_targets(group),
+            count_units(group),
         ]),
         None => Ok([0; 3]),
     }
 }
 
-#[test]
-fn walks(rt: HostRuntime) -> Result<(), Fail> {
-    let mapping = world(rt.alloc(), &SEARCHED)?;
-    assert!(rt; walked(&mapping)? == [3, 4, 2]);
-    assert!(rt; walked_parts(&mapping, "g1")? == [1, 1, 1]);
+/// How many host groups and storage groups are walked through, and how many hosts of `hosts2`.
+fn walked(mapping: &Mapping<Global>) -> Result<[usize; 3], Fail> {
+    let hosts = walked_hosts(mapping, "hosts2")?;
+    Ok([count_host_groups(mapping), count_groups(mapping), hosts])
+}
+
+/// Walks through all of a mapping.
+fn assert_walks(rt: &impl Abort, mapping: &Mapping<Global>) -> Result<(), Fail> {
+    assert!(rt; walked(mapping)? == [3, 4, 2]);
+    assert!(rt; walked_parts(mapping, "g1")? == [1, 1, 1]);
     Ok(())
 }
 
+#[test]
+fn walks(rt: HostRuntime) -> Result<(), Fail> {
+    let mapping = world(rt.alloc(), SEARCHED)?;
+    assert_walks(&rt, &mapping)
+}
+
 /// Storage groups, of which each but the first two differs from the first in one part.
-const ALIKE: [Row; 7] = [
+const ALIKE: &[Row] = &[
     ("first", "arr1", "hosts1", 1, 0, "v1"),
     ("same", "arr1", "hosts1", 1, 0, "v1"),
     ("array", "arr2", "hosts1", 1, 0, "v1"),
@@ -194,14 +240,29 @@ fn is_same_as_first(mapping: &Mapping<Global>, name: &str) -> Result<bool, Fail>
     }
 }
 
-#[test]
-fn storage_groups_that_are_the_same(rt: HostRuntime) -> Result<(), Fail> {
-    let mapping = world(rt.alloc(), &ALIKE)?;
-    for (name, _, _, _, _, _) in ALIKE {
-        let want = name == "first" || name == "same";
-        assert!(rt; is_same_as_first(&mapping, name)? == want, "{name}");
+/// The names of these storage groups, and whether each is the same as the first.
+const SAME_GROUPS: &[(&str, bool)] = &[
+    ("first", true),
+    ("same", true),
+    ("array", false),
+    ("hosts", false),
+    ("target", false),
+    ("unit", false),
+    ("volume", false),
+];
+
+/// The storage groups are the same as the first, or not.
+fn assert_same_groups(rt: &impl Abort, mapping: &Mapping<Global>) -> Result<(), Fail> {
+    for (name, want) in SAME_GROUPS {
+        assert!(rt; is_same_as_first(mapping, name)? == *want, "{name}");
     }
     Ok(())
+}
+
+#[test]
+fn storage_groups_that_are_the_same(rt: HostRuntime) -> Result<(), Fail> {
+    let mapping = world(rt.alloc(), ALIKE)?;
+    assert_same_groups(&rt, &mapping)
 }
 
 /// Whether the host groups of two names are the same.
@@ -216,18 +277,23 @@ fn are_same_hosts(mapping: &Mapping<Global>, name: &str, other: &str) -> Result<
 }
 
 /// Two host groups, and whether they are the same.
-const SAME_HOSTS: [(&str, &str, bool); 4] = [
+const SAME_HOSTS: &[(&str, &str, bool)] = &[
     ("hosts2", "hosts2", true),
     ("hosts1", "hosts2", false),
     ("hosts2", "hosts1", false),
     ("hosts1", "hosts3", false),
 ];
 
+/// The host groups are the same, or not.
+fn assert_same_hosts(rt: &impl Abort, mapping: &Mapping<Global>) -> Result<(), Fail> {
+    for (name, other, want) in SAME_HOSTS {
+        assert!(rt; are_same_hosts(mapping, name, other)? == *want, "{name}");
+    }
+    Ok(())
+}
+
 #[test]
 fn host_groups_that_are_the_same(rt: HostRuntime) -> Result<(), Fail> {
     let mapping = world(rt.alloc(), &[])?;
-    for (name, other, want) in SAME_HOSTS {
-        assert!(rt; are_same_hosts(&mapping, name, other)? == want, "{name}");
-    }
-    Ok(())
+    assert_same_hosts(&rt, &mapping)
 }

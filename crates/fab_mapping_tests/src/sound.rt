@@ -4,10 +4,11 @@ use fab_inventory::Inventory;
 use fab_mapping::Gone;
 use fab_names::Name;
 use std::alloc::Global;
+use std::process::Abort;
 use std::test::Fail;
 
 /// Worlds of one storage group, whether each is sound, and whether it fits the stock.
-const JUDGED: [(Row, bool, bool); 8] = [
+const JUDGED: &[(Row, bool, bool)] = &[
     (("g1", "arr1", "hosts1", 3, 16383, "v1"), true, true),
     (("g1", "arr1", "hosts9", 1, 0, "v1"), false, true),
     (("g1", "arr1", "hosts1", 1, 16384, "v1"), false, true),
@@ -19,8 +20,8 @@ const JUDGED: [(Row, bool, bool); 8] = [
 ];
 
 /// Whether the world of a row is sound, and whether it fits the stock and an inventory of nothing.
-fn judged(alloc: Global, inventory: &Inventory<Global>, row: Row) -> Result<[bool; 3], Fail> {
-    let mapping = world(alloc, &[row])?;
+fn judged(alloc: Global, inventory: &Inventory<Global>, row: &Row) -> Result<[bool; 3], Fail> {
+    let mapping = world(alloc, &[*row])?;
     let nothing = Inventory::new(alloc);
     Ok([
         mapping.is_sound(),
@@ -29,13 +30,22 @@ fn judged(alloc: Global, inventory: &Inventory<Global>, row: Row) -> Result<[boo
     ])
 }
 
+/// Each world is judged so.
+fn assert_judged(
+    rt: &impl Abort,
+    alloc: Global,
+    inventory: &Inventory<Global>,
+) -> Result<(), Fail> {
+    for (row, sound, fits) in JUDGED {
+        assert_eq!(rt; judged(alloc, inventory, row)?, [*sound, *fits, false]);
+    }
+    Ok(())
+}
+
 #[test]
 fn sound_and_fitting(rt: HostRuntime) -> Result<(), Fail> {
     let inventory = stock(rt.alloc())?;
-    for (row, sound, fits) in JUDGED {
-        assert_eq!(rt; judged(rt.alloc(), &inventory, row)?, [sound, fits, false]);
-    }
-    Ok(())
+    assert_judged(&rt, rt.alloc(), &inventory)
 }
 
 /// What is gone, if anything is.
@@ -52,47 +62,56 @@ enum Lost {
 const GOOD: Row = ("g1", "arr1", "hosts1", 1, 0, "v1");
 
 /// Worlds of two storage groups, and the first that the stock has not.
-const GONE: [(Row, Row, Lost); 7] = [
-    (GOOD, ("g2", "arr2", "hosts2", 40, 0, "w1"), Lost::Nothing),
+const GONE: &[(&[Row], Lost)] = &[
     (
-        GOOD,
-        ("g2", "db2", "hosts2", 99, 0, "v9"),
+        &[GOOD, ("g2", "arr2", "hosts2", 40, 0, "w1")],
+        Lost::Nothing,
+    ),
+    (
+        &[GOOD, ("g2", "db2", "hosts2", 99, 0, "v9")],
         Lost::Array("db2"),
     ),
     (
-        ("g1", "arr9", "hosts1", 1, 0, "v1"),
-        ("g2", "arr8", "hosts1", 1, 0, "v1"),
+        &[
+            ("g1", "arr9", "hosts1", 1, 0, "v1"),
+            ("g2", "arr8", "hosts1", 1, 0, "v1"),
+        ],
         Lost::Array("arr8"),
     ),
     (
-        ("g1", "arr1", "hosts1", 1, 0, "v9"),
-        ("g2", "arr1", "hosts1", 40, 0, "v1"),
+        &[
+            ("g1", "arr1", "hosts1", 1, 0, "v9"),
+            ("g2", "arr1", "hosts1", 40, 0, "v1"),
+        ],
         Lost::Target(40),
     ),
     (
-        ("g1", "arr1", "hosts1", 99, 0, "v9"),
-        ("g2", "arr2", "hosts1", 1, 0, "w1"),
+        &[
+            ("g1", "arr1", "hosts1", 99, 0, "v9"),
+            ("g2", "arr2", "hosts1", 1, 0, "w1"),
+        ],
         Lost::Target(1),
     ),
     (
-        GOOD,
-        ("g2", "arr1", "hosts1", 1, 0, "w1"),
+        &[GOOD, ("g2", "arr1", "hosts1", 1, 0, "w1")],
         Lost::Volume("w1"),
     ),
     (
-        ("g1", "arr1", "hosts1", 1, 0, "w1"),
-        ("g2", "arr2", "hosts1", 40, 0, "v2"),
+        &[
+            ("g1", "arr1", "hosts1", 1, 0, "w1"),
+            ("g2", "arr2", "hosts1", 40, 0, "v2"),
+        ],
         Lost::Volume("v2"),
     ),
 ];
 
 /// What is wanted to be gone.
-fn gone_of(lost: Lost) -> Result<Option<Gone>, Fail> {
+fn gone_of(lost: &Lost) -> Result<Option<Gone>, Fail> {
     let gone = match lost {
         Lost::Nothing => return Ok(None),
         Lost::Host(name) => Gone::Host(Name::read(name)?),
         Lost::Array(name) => Gone::Array(Name::read(name)?),
-        Lost::Target(number) => Gone::Target(port(number)),
+        Lost::Target(number) => Gone::Target(port(*number)),
         Lost::Volume(name) => Gone::Volume(Name::read(name)?),
     };
     Ok(Some(gone))
@@ -102,26 +121,34 @@ fn gone_of(lost: Lost) -> Result<Option<Gone>, Fail> {
 fn is_gone(
     alloc: Global,
     inventory: &Inventory<Global>,
-    row: Row,
-    other: Row,
-    lost: Lost,
+    rows: &[Row],
+    lost: &Lost,
 ) -> Result<bool, Fail> {
     let wanted = gone_of(lost)?;
-    Ok(world(alloc, &[row, other])?.first_gone(inventory) == wanted)
+    let mapping = world(alloc, rows)?;
+    Ok(mapping.first_gone(inventory) == wanted)
 }
 
-#[test]
-fn the_first_that_is_gone(rt: HostRuntime) -> Result<(), Fail> {
-    let inventory = stock(rt.alloc())?;
-    for (row, other, lost) in GONE {
-        assert!(rt; is_gone(rt.alloc(), &inventory, row, other, lost)?);
+/// Of each world it is the first that is gone.
+fn assert_gone(rt: &impl Abort, alloc: Global, inventory: &Inventory<Global>) -> Result<(), Fail> {
+    for (rows, lost) in GONE {
+        assert!(rt; is_gone(alloc, inventory, rows, lost)?);
     }
     Ok(())
 }
 
 #[test]
+fn the_first_that_is_gone(rt: HostRuntime) -> Result<(), Fail> {
+    let inventory = stock(rt.alloc())?;
+    assert_gone(&rt, rt.alloc(), &inventory)
+}
+
+/// Two good storage groups of one name.
+const GOOD_TWICE: &[Row] = &[GOOD, GOOD];
+
+#[test]
 fn hosts_are_gone_first(rt: HostRuntime) -> Result<(), Fail> {
     let nothing = Inventory::new(rt.alloc());
-    assert!(rt; is_gone(rt.alloc(), &nothing, GOOD, GOOD, Lost::Host("db1"))?);
+    assert!(rt; is_gone(rt.alloc(), &nothing, GOOD_TWICE, &Lost::Host("db1"))?);
     Ok(())
 }

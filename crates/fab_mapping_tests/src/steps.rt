@@ -4,6 +4,7 @@ use fab_inventory::Inventory;
 use fab_mapping::{Mapping, MappingFault, MappingLimit};
 use fab_names::Name;
 use std::alloc::Global;
+use std::process::Abort;
 use std::test::Fail;
 
 /// A change, or what is asked. Target ports are numbers.
@@ -44,7 +45,7 @@ enum Answer {
 }
 
 /// Two storage groups made one after the other, both still hidden.
-const MADE: [(Step, Answer); 11] = [
+const MADE: &[(Step, Answer)] = &[
     (Step::PutHosts("hosts1", "db1", "db1"), Answer::Done),
     (Step::PutHosts("hosts2", "db2", "db1"), Answer::Done),
     (Step::NewGroup("g1", "arr1"), Answer::Done),
@@ -59,7 +60,7 @@ const MADE: [(Step, Answer); 11] = [
 ];
 
 /// They clash while both are exposed and map two volumes.
-const EXPOSED: [(Step, Answer); 14] = [
+const EXPOSED: &[(Step, Answer)] = &[
     (Step::Expose("g1"), Answer::Done),
     (Step::Clash(None), Answer::Done),
     (Step::Expose("g2"), Answer::Done),
@@ -77,7 +78,7 @@ const EXPOSED: [(Step, Answer); 14] = [
 ];
 
 /// Three clashes: of `db1` at the first target and at the third, and of `db2` at the first.
-const CLASHING: [Row; 6] = [
+const CLASHING: &[Row] = &[
     ("g1", "arr1", "hosts3", 1, 3, "v1"),
     ("g2", "arr1", "hosts1", 3, 5, "v1"),
     ("g3", "arr1", "hosts1", 1, 7, "v2"),
@@ -86,7 +87,7 @@ const CLASHING: [Row; 6] = [
     ("g6", "arr1", "hosts1", 1, 7, "v1"),
 ];
 
-const THREE_CLASHES: [(Step, Answer); 7] = [
+const THREE_CLASHES: &[(Step, Answer)] = &[
     (Step::Clash(Some(("db1", 1, 7))), Answer::Done),
     (Step::Hide("g3"), Answer::Done),
     (Step::Clash(Some(("db1", 3, 5))), Answer::Done),
@@ -97,13 +98,13 @@ const THREE_CLASHES: [(Step, Answer); 7] = [
 ];
 
 /// Two exposed storage groups that give `db1` the same volume.
-const SHARED: [Row; 2] = [
+const SHARED: &[Row] = &[
     ("g1", "arr1", "hosts1", 1, 0, "v1"),
     ("g2", "arr1", "hosts2", 1, 0, "v1"),
 ];
 
 /// What is refused of storage groups and host groups, which are then as they were.
-const REFUSED_GROUPS: [(Step, Answer); 14] = [
+const REFUSED_GROUPS: &[(Step, Answer)] = &[
     (Step::Clash(None), Answer::Done),
     (Step::NewGroup("g1", "arr1"), Answer::Exists("g1")),
     (Step::NewGroup("g9", "db1"), Answer::Unknown("db1")),
@@ -127,7 +128,7 @@ const REFUSED_GROUPS: [(Step, Answer); 14] = [
 ];
 
 /// What is dropped is gone.
-const DROPS: [(Step, Answer); 9] = [
+const DROPS: &[(Step, Answer)] = &[
     (Step::RemoveHosts("g1", "hosts1"), Answer::Done),
     (Step::RemoveHosts("g1", "hosts1"), Answer::Unknown("hosts1")),
     (Step::DropHosts("hosts1"), Answer::Done),
@@ -140,7 +141,7 @@ const DROPS: [(Step, Answer); 9] = [
 ];
 
 /// What is refused of targets: of another array, not known, or not there.
-const REFUSED_TARGETS: [(Step, Answer); 9] = [
+const REFUSED_TARGETS: &[(Step, Answer)] = &[
     (Step::AddTarget("g1", 40), Answer::WrongArray),
     (Step::AddTarget("g1", 99), Answer::UnknownPort(99)),
     (Step::AddTarget("g9", 99), Answer::Unknown("g9")),
@@ -153,7 +154,7 @@ const REFUSED_TARGETS: [(Step, Answer); 9] = [
 ];
 
 /// What is refused of units: of another array, taken, not mapped, or above the last number.
-const REFUSED_UNITS: [(Step, Answer); 15] = [
+const REFUSED_UNITS: &[(Step, Answer)] = &[
     (Step::Map("g1", 1, "w1"), Answer::WrongArray),
     (Step::Map("g1", 1, "v9"), Answer::Unknown("v9")),
     (Step::Map("g9", 1, "v9"), Answer::Unknown("g9")),
@@ -177,25 +178,46 @@ const REFUSED_UNITS: [(Step, Answer); 15] = [
     (Step::Clash(Some(("db1", 1, 0))), Answer::Done),
 ];
 
+/// The names of a step: the one it begins with, and the next, or the first again where it has none.
+fn words_of(step: &Step) -> (&'static str, &'static str) {
+    match step {
+        Step::PutHosts(name, next, _) => (name, next),
+        Step::NewGroup(name, next) => (name, next),
+        Step::AddHosts(name, next) => (name, next),
+        Step::RemoveHosts(name, next) => (name, next),
+        Step::Map(name, _, next) => (name, next),
+        Step::DropHosts(name) => (name, name),
+        Step::DropGroup(name) => (name, name),
+        Step::Expose(name) => (name, name),
+        Step::Hide(name) => (name, name),
+        Step::AddTarget(name, _) => (name, name),
+        Step::RemoveTarget(name, _) => (name, name),
+        Step::Unmap(name, _) => (name, name),
+        Step::Copied | Step::Clash(_) => ("none", "none"),
+    }
+}
+
+fn names_of(step: &Step) -> Result<(Name, Name), Fail> {
+    let (name, next) = words_of(step);
+    let name = Name::read(name)?;
+    let next = Name::read(next)?;
+    Ok((name, next))
+}
+
 /// What the change of groups is answered, or that it is no such change.
 fn change(
     mapping: &mut Mapping<Global>,
     inventory: &Inventory<Global>,
-    step: Step,
+    step: &Step,
 ) -> Result<Result<(), MappingFault>, Fail> {
+    let (name, next) = names_of(step)?;
     match step {
-        Step::PutHosts(name, host, other) => put_two(
-            mapping,
-            inventory,
-            Name::read(name)?,
-            Name::read(host)?,
-            Name::read(other)?,
-        ),
-        Step::DropHosts(name) => Ok(mapping.drop_host_group(&Name::read(name)?)),
-        Step::NewGroup(name, array) => new_group(mapping, inventory, Name::read(name)?, array),
-        Step::DropGroup(name) => Ok(mapping.drop_group(&Name::read(name)?)),
-        Step::Expose(name) => Ok(mapping.expose(&Name::read(name)?)),
-        Step::Hide(name) => Ok(mapping.hide(&Name::read(name)?)),
+        Step::PutHosts(_, _, other) => put_two(mapping, inventory, name, next, other),
+        Step::DropHosts(_) => Ok(mapping.drop_host_group(&name)),
+        Step::NewGroup(_, array) => new_group(mapping, inventory, name, array),
+        Step::DropGroup(_) => Ok(mapping.drop_group(&name)),
+        Step::Expose(_) => Ok(mapping.expose(&name)),
+        Step::Hide(_) => Ok(mapping.hide(&name)),
         _ => Ok(Ok(())),
     }
 }
@@ -204,47 +226,38 @@ fn change(
 fn change_part(
     mapping: &mut Mapping<Global>,
     inventory: &Inventory<Global>,
-    step: Step,
+    step: &Step,
 ) -> Result<Result<(), MappingFault>, Fail> {
-    match step {
-        Step::AddHosts(name, hosts) => {
-            Ok(mapping.add_hosts(&Name::read(name)?, &Name::read(hosts)?))
-        }
-        Step::RemoveHosts(name, hosts) => {
-            Ok(mapping.remove_hosts(&Name::read(name)?, &Name::read(hosts)?))
-        }
-        Step::AddTarget(name, target) => {
-            Ok(mapping.add_target(&Name::read(name)?, &port(target), inventory))
-        }
-        Step::RemoveTarget(name, target) => {
-            Ok(mapping.remove_target(&Name::read(name)?, &port(target)))
-        }
-        Step::Map(name, unit, volume) => {
-            Ok(mapping.map(&Name::read(name)?, unit, &Name::read(volume)?, inventory))
-        }
-        Step::Unmap(name, unit) => Ok(mapping.unmap(&Name::read(name)?, unit)),
-        _ => Ok(Ok(())),
-    }
+    let (name, next) = names_of(step)?;
+    Ok(match step {
+        Step::AddHosts(..) => mapping.add_hosts(&name, &next),
+        Step::RemoveHosts(..) => mapping.remove_hosts(&name, &next),
+        Step::AddTarget(_, target) => mapping.add_target(&name, &port(*target), inventory),
+        Step::RemoveTarget(_, target) => mapping.remove_target(&name, &port(*target)),
+        Step::Map(_, unit, _) => mapping.map(&name, *unit, &next, inventory),
+        Step::Unmap(_, unit) => mapping.unmap(&name, *unit),
+        _ => Ok(()),
+    })
 }
 
 /// The fault that is wanted, if one is.
-fn fault_of(answer: Answer) -> Result<Option<MappingFault>, Fail> {
+fn fault_of(answer: &Answer) -> Result<Option<MappingFault>, Fail> {
     let fault = match answer {
         Answer::Done => return Ok(None),
         Answer::Unknown(name) => MappingFault::Unknown(Name::read(name)?),
-        Answer::UnknownPort(number) => MappingFault::UnknownPort(port(number)),
+        Answer::UnknownPort(number) => MappingFault::UnknownPort(port(*number)),
         Answer::Exists(name) => MappingFault::Exists(Name::read(name)?),
         Answer::InUse(name, by) => MappingFault::InUse(Name::read(name)?, Name::read(by)?),
         Answer::WrongArray => MappingFault::WrongArray,
-        Answer::UnitTaken(unit) => MappingFault::UnitTaken(unit),
-        Answer::NotMapped(unit) => MappingFault::NotMapped(unit),
-        Answer::TooMuch(limit) => MappingFault::Limit(limit),
+        Answer::UnitTaken(unit) => MappingFault::UnitTaken(*unit),
+        Answer::NotMapped(unit) => MappingFault::NotMapped(*unit),
+        Answer::TooMuch(limit) => MappingFault::Limit(*limit),
     };
     Ok(Some(fault))
 }
 
 /// Whether it was answered so.
-fn is_answered(answer: Result<(), MappingFault>, want: Answer) -> Result<bool, Fail> {
+fn is_answered(answer: Result<(), MappingFault>, want: &Answer) -> Result<bool, Fail> {
     let wanted = fault_of(want)?;
     match answer {
         Ok(()) => Ok(wanted.is_none()),
@@ -269,15 +282,15 @@ fn is_clash(mapping: &Mapping<Global>, at: Option<(&str, u64, u16)>) -> Result<b
 fn take(
     mapping: &mut Mapping<Global>,
     inventory: &Inventory<Global>,
-    step: Step,
-    want: Answer,
+    step: &Step,
+    want: &Answer,
 ) -> Result<bool, Fail> {
     match step {
         Step::Copied => {
             *mapping = mapping.copy()?;
             Ok(true)
         }
-        Step::Clash(at) => is_clash(mapping, at),
+        Step::Clash(at) => is_clash(mapping, *at),
         Step::AddHosts(..)
         | Step::RemoveHosts(..)
         | Step::AddTarget(..)
@@ -288,73 +301,80 @@ fn take(
     }
 }
 
-/// Two hidden storage groups.
-fn made(alloc: Global, inventory: &Inventory<Global>) -> Result<Mapping<Global>, Fail> {
-    let mut mapping = Mapping::new(alloc);
-    for (step, want) in MADE {
-        if !take(&mut mapping, inventory, step, want)? {
-            return Err("a step that is taken".into());
-        }
+/// Takes the steps; each is answered so.
+fn assert_taken(
+    rt: &impl Abort,
+    mapping: &mut Mapping<Global>,
+    inventory: &Inventory<Global>,
+    steps: &[(Step, Answer)],
+) -> Result<(), Fail> {
+    for (step, want) in steps {
+        assert!(rt; take(mapping, inventory, step, want)?);
     }
-    Ok(mapping)
+    Ok(())
+}
+
+/// Takes the steps from the world of the rows on.
+fn assert_taken_over(
+    rt: &impl Abort,
+    alloc: Global,
+    inventory: &Inventory<Global>,
+    rows: &[Row],
+    steps: &[(Step, Answer)],
+) -> Result<(), Fail> {
+    let mut mapping = world(alloc, rows)?;
+    assert_taken(rt, &mut mapping, inventory, steps)
+}
+
+/// Takes the steps from the world of the rows on, over the stock.
+fn assert_taken_from(
+    rt: &impl Abort,
+    alloc: Global,
+    rows: &[Row],
+    steps: &[(Step, Answer)],
+) -> Result<(), Fail> {
+    let inventory = stock(alloc)?;
+    assert_taken_over(rt, alloc, &inventory, rows, steps)
+}
+
+/// Makes two storage groups, and exposes them.
+fn assert_clashes(
+    rt: &impl Abort,
+    alloc: Global,
+    inventory: &Inventory<Global>,
+) -> Result<(), Fail> {
+    let mut mapping = Mapping::new(alloc);
+    assert_taken(rt, &mut mapping, inventory, MADE)?;
+    assert_taken(rt, &mut mapping, inventory, EXPOSED)
 }
 
 #[test]
 fn two_volumes_clash(rt: HostRuntime) -> Result<(), Fail> {
     let inventory = stock(rt.alloc())?;
-    let mut mapping = made(rt.alloc(), &inventory)?;
-    for (step, want) in EXPOSED {
-        assert!(rt; take(&mut mapping, &inventory, step, want)?);
-    }
-    Ok(())
+    assert_clashes(&rt, rt.alloc(), &inventory)
 }
 
 #[test]
 fn the_least_of_three_clashes(rt: HostRuntime) -> Result<(), Fail> {
-    let inventory = stock(rt.alloc())?;
-    let mut mapping = world(rt.alloc(), &CLASHING)?;
-    for (step, want) in THREE_CLASHES {
-        assert!(rt; take(&mut mapping, &inventory, step, want)?);
-    }
-    Ok(())
+    assert_taken_from(&rt, rt.alloc(), CLASHING, THREE_CLASHES)
 }
 
 #[test]
 fn refused_groups(rt: HostRuntime) -> Result<(), Fail> {
-    let inventory = stock(rt.alloc())?;
-    let mut mapping = world(rt.alloc(), &SHARED)?;
-    for (step, want) in REFUSED_GROUPS {
-        assert!(rt; take(&mut mapping, &inventory, step, want)?);
-    }
-    Ok(())
+    assert_taken_from(&rt, rt.alloc(), SHARED, REFUSED_GROUPS)
 }
 
 #[test]
 fn dropped_groups(rt: HostRuntime) -> Result<(), Fail> {
-    let inventory = stock(rt.alloc())?;
-    let mut mapping = world(rt.alloc(), &SHARED)?;
-    for (step, want) in DROPS {
-        assert!(rt; take(&mut mapping, &inventory, step, want)?);
-    }
-    Ok(())
+    assert_taken_from(&rt, rt.alloc(), SHARED, DROPS)
 }
 
 #[test]
 fn refused_targets(rt: HostRuntime) -> Result<(), Fail> {
-    let inventory = stock(rt.alloc())?;
-    let mut mapping = world(rt.alloc(), &SHARED)?;
-    for (step, want) in REFUSED_TARGETS {
-        assert!(rt; take(&mut mapping, &inventory, step, want)?);
-    }
-    Ok(())
+    assert_taken_from(&rt, rt.alloc(), SHARED, REFUSED_TARGETS)
 }
 
 #[test]
 fn refused_units(rt: HostRuntime) -> Result<(), Fail> {
-    let inventory = stock(rt.alloc())?;
-    let mut mapping = world(rt.alloc(), &SHARED)?;
-    for (step, want) in REFUSED_UNITS {
-        assert!(rt; take(&mut mapping, &inventory, step, want)?);
-    }
-    Ok(())
+    assert_taken_from(&rt, rt.alloc(), SHARED, REFUSED_UNITS)
 }

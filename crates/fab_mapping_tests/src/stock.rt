@@ -7,7 +7,7 @@ use std::collections::{BTreeMap, BTreeSet};
 use std::test::Fail;
 
 /// The holders: each with its first port, and the one after its last. Port 40 is the last port.
-const HOLDERS: [(&str, HolderKind, u64, u64); 4] = [
+const HOLDERS: &[(&str, HolderKind, u64, u64)] = &[
     ("db1", HolderKind::Host, 1, 1),
     ("db2", HolderKind::Host, 1, 1),
     ("arr1", HolderKind::Array, 1, 40),
@@ -15,10 +15,10 @@ const HOLDERS: [(&str, HolderKind, u64, u64); 4] = [
 ];
 
 /// The volumes, and the array of each.
-const VOLUMES: [(&str, &str); 3] = [("v1", "arr1"), ("v2", "arr1"), ("w1", "arr2")];
+const VOLUMES: &[(&str, &str)] = &[("v1", "arr1"), ("v2", "arr1"), ("w1", "arr2")];
 
 /// The host groups of a world, and two hosts of each, which may be equal.
-const HOST_GROUPS: [(&str, &str, &str); 3] = [
+const HOST_GROUPS: &[(&str, &str, &str)] = &[
     ("hosts3", "db2", "db2"),
     ("hosts2", "db2", "db1"),
     ("hosts1", "db1", "db1"),
@@ -74,7 +74,7 @@ fn ports_of(alloc: Global, first: u64, end: u64) -> Result<Vec<Wwn>, Fail> {
 fn put_holder(
     inventory: &mut Inventory<Global>,
     alloc: Global,
-    row: (&str, HolderKind, u64, u64),
+    row: &(&str, HolderKind, u64, u64),
 ) -> Result<(), Fail> {
     let name = Name::read(row.0)?;
     let ports = ports_of(alloc, row.2, row.3)?;
@@ -96,13 +96,18 @@ fn put_volumes(inventory: &mut Inventory<Global>) -> Result<(), Fail> {
     Ok(())
 }
 
+fn put_holders(inventory: &mut Inventory<Global>, alloc: Global) -> Result<(), Fail> {
+    for row in HOLDERS {
+        put_holder(inventory, alloc, row)?;
+    }
+    Ok(())
+}
+
 /// The ports, the holders and the volumes.
 pub fn stock(alloc: Global) -> Result<Inventory<Global>, Fail> {
     let mut inventory = Inventory::new(alloc);
     import(&mut inventory, alloc)?;
-    for row in HOLDERS {
-        put_holder(&mut inventory, alloc, row)?;
-    }
+    put_holders(&mut inventory, alloc)?;
     put_volumes(&mut inventory)?;
     Ok(inventory)
 }
@@ -122,11 +127,18 @@ fn host_group_of(alloc: Global, host: &str, other: &str) -> Result<HostGroup<Glo
     Ok(HostGroup::from_parts(tenant, hosts))
 }
 
+/// Puts a value under the name.
+fn put<V: Drop>(map: &mut BTreeMap<Name, V>, name: &str, value: V) -> Result<(), Fail> {
+    let name = Name::read(name)?;
+    map.insert(name, value)?;
+    Ok(())
+}
+
 /// The host groups of a world.
 fn host_groups(alloc: Global) -> Result<BTreeMap<Name, HostGroup<Global>>, Fail> {
     let mut groups = BTreeMap::new(alloc);
     for (name, host, other) in HOST_GROUPS {
-        groups.insert(Name::read(name)?, host_group_of(alloc, host, other)?)?;
+        put(&mut groups, name, host_group_of(alloc, host, other)?)?;
     }
     Ok(groups)
 }
@@ -139,17 +151,17 @@ fn unit_of(alloc: Global, unit: u16, volume: &str) -> Result<BTreeMap<u16, Name>
 }
 
 /// The exposed storage group of `blue` of a row.
-fn group_of(alloc: Global, row: Row) -> Result<StorageGroup<Global>, Fail> {
+fn group_of(alloc: Global, row: &Row) -> Result<StorageGroup<Global>, Fail> {
     let (_, array, hosts, target, unit, volume) = row;
     let tenant = Name::read("blue")?;
     let hosts = Name::read(hosts)?;
-    let target = port(target);
+    let target = port(*target);
     Ok(StorageGroup::from_parts(
         tenant,
         Name::read(array)?,
         set_of(alloc, hosts, hosts)?,
         set_of(alloc, target, target)?,
-        unit_of(alloc, unit, volume)?,
+        unit_of(alloc, *unit, volume)?,
         true,
     ))
 }
@@ -158,7 +170,7 @@ fn group_of(alloc: Global, row: Row) -> Result<StorageGroup<Global>, Fail> {
 fn groups_of(alloc: Global, rows: &[Row]) -> Result<BTreeMap<Name, StorageGroup<Global>>, Fail> {
     let mut groups = BTreeMap::new(alloc);
     for row in rows {
-        groups.insert(Name::read(row.0)?, group_of(alloc, *row)?)?;
+        put(&mut groups, row.0, group_of(alloc, row)?)?;
     }
     Ok(groups)
 }
@@ -175,9 +187,10 @@ pub fn put_two(
     inventory: &Inventory<Global>,
     name: Name,
     host: Name,
-    other: Name,
+    other: &str,
 ) -> Result<Result<(), MappingFault>, Fail> {
     let tenant = Name::read("blue")?;
+    let other = Name::read(other)?;
     Ok(mapping.put_host_group(name, tenant, &[host, other], inventory))
 }
 
