@@ -45,10 +45,10 @@ const FOUND: &[(Search, Option<&str>)] = &[
 
 /// The first host group or storage group by name.
 fn find(mapping: &Mapping<Global>, search: &Search) -> Result<Option<Name>, Fail> {
-    match search {
+    match *search {
         Search::Host(host) => Ok(mapping.host_group_with(&Name::read(host)?)),
         Search::Served(hosts) => Ok(mapping.group_serving(&Name::read(hosts)?)),
-        Search::Target(target) => Ok(mapping.group_with_target(&port(*target))),
+        Search::Target(target) => Ok(mapping.group_with_target(&port(target))),
         Search::Array(array) => Ok(mapping.group_of_array(&Name::read(array)?)),
         Search::Volume(volume) => Ok(mapping.group_with_volume(&Name::read(volume)?)),
     }

@@ -180,7 +180,7 @@ const REFUSED_UNITS: &[(Step, Answer)] = &[
 
 /// The names of a step: the one it begins with, and the next, or the first again where it has none.
 fn words_of(step: &Step) -> (&'static str, &'static str) {
-    match step {
+    match *step {
         Step::PutHosts(name, next, _) => (name, next),
         Step::NewGroup(name, next) => (name, next),
         Step::AddHosts(name, next) => (name, next),
