@@ -197,6 +197,7 @@ fn words_of(step: &Step) -> (&'static str, &'static str) {
     }
 }
 
+/// The same, read.
 fn names_of(step: &Step) -> Result<(Name, Name), Fail> {
     let (name, next) = words_of(step);
     let name = Name::read(name)?;
