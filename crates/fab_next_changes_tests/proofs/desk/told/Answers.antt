@@ -19,6 +19,6 @@ next_changes-requires-clause-keeps g c =
 
 pub returns-clause-sound : goal.returns-clause-sound
 returns-clause-sound g c = elim c.carry_through-reply.ensures.done [
-    | inl kept ↦ subst IsSound (sym kept.1) c.requires.sound
-    | inr is ↦ subst IsSound (sym is.0) c.in-Ready.ensures.proposes.sound
-  ]
+  | inl kept ↦ subst IsSound (sym kept.1) c.requires.sound
+  | inr is ↦ subst IsSound (sym is.0) c.in-Ready.ensures.proposes.sound
+]
