@@ -1,11 +1,11 @@
 -- What a desk that serves connections does.
 use Rattle.std.specs.Prelude.{ℕ, ◌≡◌, Bool, None, is_none}
-use Rattle.fab_desk.specs.Desks.{IsOpened, IsUnopened}
-use Rattle.fab_desk.specs.Handled.{policy_of, world_of, serving_of}
-use Rattle.fab_desk.specs.declared.desk.Desk.{Desk}
-use Rattle.fab_stores.specs.declared.faults.OpenFault.{OpenFault}
-use Rattle.fab_stores.specs.declared.store.Store as store
+use Rattle.fab_store.specs.declared.OpenFault.{OpenFault}
+use Rattle.fab_store.specs.declared.Store as store
+use Rattle.fab_wire.specs.Desks.{IsOpened, IsUnopened}
+use Rattle.fab_wire.specs.Handled.{policy_of, world_of, serving_of}
 use Rattle.fab_wire.specs.Serving.{Side, Serves}
+use Rattle.fab_wire.specs.declared.Desk.{Desk}
 use Rattle.fab_wire.specs.declared.outcome.Outcome.{Outcome}
 
 -- no store serves

@@ -1,11 +1,10 @@
 //! Databases: files with the tables of a desk, and tables in memory.
 
 use crate::faults::Fault;
-use fab_desk::Desk;
 use fab_policy_base::Policy;
 use fab_port_book::PortBook;
-use fab_store::SqlStore;
-use fab_stores::{OpenFault, Store};
+use fab_store::{OpenFault, SqlStore, Store};
+use fab_wire::Desk;
 use sqlite::{Connection, Error, ErrorCode, File as DatabaseFile, FileStore, MemStore};
 use std::alloc::Global;
 use std::fs::File;

@@ -1,8 +1,7 @@
 //! Why the program could not do what was asked.
 
-use fab_load::Table;
 use fab_printing::PrintFault;
-use fab_stores::OpenFault;
+use fab_store::{OpenFault, Table};
 use std::fmt;
 use std::fmt::Display;
 

@@ -4,7 +4,7 @@ ghost use Rattle.std.specs.Prelude.{◌≡◌};
 use crate::database::ProgramDesk;
 use fab_json::counted::Counted;
 use fab_serving::Server;
-use fab_stores::{OpenFault, Store};
+use fab_store::{OpenFault, Store};
 use fab_wire::{Outcome, serve_one};
 use fab_wire_base::routes::Routes;
 use std::alloc::Global;

@@ -8,7 +8,7 @@ use crate::faults::Fault;
 use fab_json::counted::Counted;
 use fab_policy_base::{Policy, TRIAL_POLICY};
 use fab_printing::End;
-use fab_stores::Store;
+use fab_store::Store;
 use fab_wire::{Outcome, serve_one};
 use fab_wire_base::routes::Routes;
 use fab_words::{Once, Over};

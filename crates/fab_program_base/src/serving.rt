@@ -7,7 +7,7 @@ use crate::front::Front;
 use fab_policy_base::Policy;
 use fab_printing::End;
 use fab_serving::{ServeFault, Watch, serve_on};
-use fab_stores::{OpenFault, Store};
+use fab_store::{OpenFault, Store};
 use fab_wire_base::routes::Routes;
 use fab_words::Serve;
 use std::alloc::Global;

@@ -9,7 +9,7 @@ use fab_files_base::port_list::{FileFault, read_ports};
 use fab_names::{Fabric, Name};
 use fab_policy_base::Policy;
 use fab_printing::{End, Form, print};
-use fab_stores::Store;
+use fab_store::Store;
 use fab_wire_base::requests::Refusal;
 use std::alloc::Global;
 use std::io::Write;

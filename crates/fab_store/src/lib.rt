@@ -7,4 +7,5 @@ mod paths;
 mod reading;
 mod store;
 
+pub use fab_stores::{OpenFault, RefusingStore, Store, StoreFault, Table};
 pub use store::SqlStore;

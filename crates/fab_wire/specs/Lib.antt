@@ -1,3 +1,5 @@
+pub use Rattle.fab_desk.specs.Desks
+pub use Rattle.fab_desk.specs.Handled
 pub mod Known
 pub mod Serving
 pub mod Telling

@@ -8,5 +8,6 @@ mod outcome;
 mod serving;
 
 pub use callers::KnownTo;
+pub use fab_desk::Desk;
 pub use outcome::Outcome;
 pub use serving::serve_one;
