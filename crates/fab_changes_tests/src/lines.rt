@@ -1,133 +1,139 @@
-//! Rows as plain lines.
+//! Rows as plain data.
 
-use crate::desk::TEXT;
-use fab_names::Fabric;
-use fab_rows::{
-    ApprovalRow, ConfigRow, CountRow, HolderRow, PlanRow, PlanState, SettingRow, Sign, TableRows,
-    UndoRow,
-};
-use std::alloc::Global;
+use fab_inventory::{HolderKind, Port};
+use fab_names::{Fabric, Name, Place, Wwn};
+use fab_reach::Path;
+use fab_rows::{HolderRow, PathRow, VolumeRow};
+use std::test::Fail;
 
-/// The rows that the tests look for; each table has no others.
-#[derive(Clone, Copy)]
-pub struct Lines {
-    pub counts: &'static [CountRow],
-    /// The name of a host.
-    pub holder: Option<&'static str>,
-    pub config: &'static [Line],
-    /// The state of the plan, and its position.
-    pub plan: Option<(PlanState, u64)>,
-    /// The revision of the approval.
-    pub approval: Option<u64>,
-    /// What the activation did with rows.
-    pub undo: &'static [(Sign, Line)],
+/// A port of a node of the same number: where it is logged in, and who holds it.
+pub type PortLine = (u64, Option<(Fabric, u8, u16)>, Option<&'static str>);
+
+/// A holder with its kind and its tenant.
+pub type HolderLine = (&'static str, HolderKind, &'static str);
+
+/// A volume of `arr1`, with its tenant and its bytes.
+pub type VolumeLine = (&'static str, &'static str, u64);
+
+/// A path of a host in fabric A to the volume `v1`: initiator, target, unit.
+pub type PathLine = (&'static str, u64, u64, u16);
+
+/// The port of this number.
+pub fn wwn(number: u64) -> Result<Wwn, Fail> {
+    if number == 0 {
+        return Err(Fail::from("port"));
+    }
+    Ok(Wwn::new(number))
 }
 
-pub const NONE: Lines = Lines {
-    counts: &[],
-    holder: None,
-    config: &[],
-    plan: None,
-    approval: None,
-    undo: &[],
-};
-
-/// A setting: no zone set is active in the fabric, or whether its default zone permits.
-#[derive(Clone, Copy)]
-pub enum Line {
-    Idle(Fabric),
-    Permits(Fabric, bool),
+/// The name of this text.
+pub fn name(text: &str) -> Result<Name, Fail> {
+    Ok(Name::read(text)?)
 }
 
-/// The row of fabric A's default zone, where it denies.
-pub const DENIES: Line = Line::Permits(Fabric::A, false);
+/// The place of this domain and slot.
+pub fn place(domain: u8, slot: u16) -> Result<Place, Fail> {
+    if domain == 0 || domain > 239 || slot > 4095 {
+        return Err(Fail::from("place"));
+    }
+    Ok(Place::new(domain, slot))
+}
 
-/// The same, where it permits.
-pub const PERMITS: Line = Line::Permits(Fabric::A, true);
+fn location(at: Option<(Fabric, u8, u16)>) -> Result<Option<(Fabric, Place)>, Fail> {
+    match at {
+        Some((fabric, domain, slot)) => Ok(Some((fabric, place(domain, slot)?))),
+        None => Ok(None),
+    }
+}
 
-/// The row of a line.
-fn row_of(line: Line) -> ConfigRow {
-    match line {
-        Line::Idle(fabric) => ConfigRow::Setting(SettingRow::ActiveSet(fabric, None)),
-        Line::Permits(fabric, permit) => {
-            ConfigRow::Setting(SettingRow::DefaultZone(fabric, permit))
+fn holder_of(holder: Option<&'static str>) -> Result<Option<Name>, Fail> {
+    match holder {
+        Some(text) => Ok(Some(name(text)?)),
+        None => Ok(None),
+    }
+}
+
+fn port(line: PortLine) -> Result<Port, Fail> {
+    let name = wwn(line.0)?;
+    let at = location(line.1)?;
+    let holder = holder_of(line.2)?;
+    Ok(Port {
+        name,
+        node: name,
+        at,
+        holder,
+    })
+}
+
+fn holder(line: HolderLine) -> Result<HolderRow, Fail> {
+    let (name, kind, tenant) = (name(line.0)?, line.1, name(line.2)?);
+    Ok(HolderRow { name, kind, tenant })
+}
+
+fn volume(line: VolumeLine) -> Result<VolumeRow, Fail> {
+    let (array, bytes) = (name("arr1")?, line.2);
+    let (name, tenant) = (name(line.0)?, name(line.1)?);
+    Ok(VolumeRow {
+        name,
+        array,
+        tenant,
+        bytes,
+    })
+}
+
+fn path(line: PathLine) -> Result<Path, Fail> {
+    let (initiator, target, volume) = (wwn(line.1)?, wwn(line.2)?, name("v1")?);
+    Ok(Path {
+        fabric: Fabric::A,
+        initiator,
+        target,
+        volume,
+        unit: line.3,
+    })
+}
+
+/// The row of a path.
+pub fn path_row(line: PathLine) -> Result<PathRow, Fail> {
+    let (host, path) = (name(line.0)?, path(line)?);
+    Ok(PathRow { host, path })
+}
+
+/// Whether the ports are those of the lines, in this order.
+pub fn are_ports(rows: &[Port], lines: &[PortLine]) -> Result<bool, Fail> {
+    for (i, line) in lines.iter().enumerate() {
+        if rows.get(i) != Some(&port(*line)?) {
+            return Ok(false);
         }
     }
+    Ok(rows.len() == lines.len())
 }
 
-fn is_holder(rows: &[HolderRow], line: Option<&'static str>) -> bool {
-    match (rows, line) {
-        ([], None) => true,
-        ([row], Some(name)) => row.name.as_str() == name,
-        _ => false,
-    }
-}
-
-fn is_plan(rows: &[PlanRow<Global>], line: Option<(PlanState, u64)>) -> bool {
-    let Some((state, position)) = line else {
-        return rows.is_empty();
-    };
-    let [row] = rows else {
-        return false;
-    };
-    if row.name.as_str() != "p1" || row.author.as_str() != "alice" {
-        return false;
-    }
-    row.text.as_str() == TEXT && row.state == state && row.position == position
-}
-
-fn is_approval(rows: &[ApprovalRow], line: Option<u64>) -> bool {
-    match (rows, line) {
-        ([], None) => true,
-        ([row], Some(revision)) => row.caller.as_str() == "bob" && row.revision == revision,
-        _ => false,
-    }
-}
-
-fn is_undo(row: &UndoRow, sign: Sign, changed: Line) -> bool {
-    row.plan.as_str() == "p1" && row.sign == sign && row.row == row_of(changed)
-}
-
-fn are_undo(rows: &[UndoRow], lines: &[(Sign, Line)]) -> bool {
-    if rows.len() != lines.len() {
-        return false;
-    }
-    for (row, line) in rows.iter().zip(lines) {
-        if !is_undo(row, line.0, line.1) {
-            return false;
+/// Whether the holders are those of the lines, in this order.
+pub fn are_holders(rows: &[HolderRow], lines: &[HolderLine]) -> Result<bool, Fail> {
+    for (i, line) in lines.iter().enumerate() {
+        if rows.get(i) != Some(&holder(*line)?) {
+            return Ok(false);
         }
     }
-    true
+    Ok(rows.len() == lines.len())
 }
 
-fn are_config(rows: &[ConfigRow], lines: &[Line]) -> bool {
-    if rows.len() != lines.len() {
-        return false;
-    }
-    for (row, line) in rows.iter().zip(lines) {
-        if *row != row_of(*line) {
-            return false;
+/// Whether the volumes are those of the lines, in this order.
+pub fn are_volumes(rows: &[VolumeRow], lines: &[VolumeLine]) -> Result<bool, Fail> {
+    for (i, line) in lines.iter().enumerate() {
+        if rows.get(i) != Some(&volume(*line)?) {
+            return Ok(false);
         }
     }
-    true
+    Ok(rows.len() == lines.len())
 }
 
-/// Whether the rows of the tables are those of the lines.
-pub fn are(rows: &TableRows<Global>, lines: Lines) -> bool {
-    if !rows.ports.is_empty() || !rows.volumes.is_empty() || !rows.paths.is_empty() {
-        return false;
+/// Whether the rows of paths are those of the lines, in this order.
+pub fn are_paths(rows: &[PathRow], lines: &[PathLine]) -> Result<bool, Fail> {
+    for (i, line) in lines.iter().enumerate() {
+        if rows.get(i) != Some(&path_row(*line)?) {
+            return Ok(false);
+        }
     }
-    if rows.counts.as_slice() != lines.counts {
-        return false;
-    }
-    if !are_config(rows.config.as_slice(), lines.config) {
-        return false;
-    }
-    if !is_holder(rows.holders.as_slice(), lines.holder) {
-        return false;
-    }
-    if !is_approval(rows.approvals.as_slice(), lines.approval) {
-        return false;
-    }
-    is_plan(rows.plans.as_slice(), lines.plan) && are_undo(rows.undo.as_slice(), lines.undo)
+    Ok(rows.len() == lines.len())
 }

@@ -1,217 +1,109 @@
-//! The rows of worlds, and those in which two worlds differ.
+//! Configurations beside the inventory of the tests.
 
-use crate::desk::{Stage, world};
-use crate::lines::{DENIES, Line, Lines, NONE, PERMITS, are};
-use fab_changes::{Changes, changes, rows_of};
-use fab_names::Fabric;
-use fab_rows::{CountRow, PlanState, Sign};
-use fab_world::World;
+use crate::lines::{name, wwn};
+use crate::stock::TP1;
+use fab_mapping::{HostGroup, Mapping, StorageGroup};
+use fab_names::{Fabric, Name, Wwn};
+use fab_reach::Config;
+use fab_zoning::{DefaultFlag, Zoning};
 use std::alloc::Global;
+use std::collections::{BTreeMap, BTreeSet};
 use std::test::Fail;
 
-/// A world and a later one, the rows that are removed, and those that are added.
-type Case = (Stage, Stage, Lines, Lines);
-
-const CASES: [Case; 10] = [
-    (Stage::New, Stage::New, NONE, NONE),
-    (Stage::Host, Stage::Host, NONE, NONE),
-    (Stage::Active, Stage::Active, NONE, NONE),
-    (
-        Stage::New,
-        Stage::Host,
-        Lines {
-            counts: &[CountRow::Revision(0)],
-            ..NONE
-        },
-        Lines {
-            counts: &[CountRow::Revision(1)],
-            holder: Some("web1"),
-            ..NONE
-        },
-    ),
-    (
-        Stage::Host,
-        Stage::New,
-        Lines {
-            counts: &[CountRow::Revision(1)],
-            holder: Some("web1"),
-            ..NONE
-        },
-        Lines {
-            counts: &[CountRow::Revision(0)],
-            ..NONE
-        },
-    ),
-    // A plan that is staged, and approved.
-    (
-        Stage::New,
-        Stage::Staged(3),
-        Lines {
-            counts: &[CountRow::Revision(0)],
-            ..NONE
-        },
-        Lines {
-            counts: &[CountRow::Revision(4)],
-            plan: Some((PlanState::Staged, 0)),
-            approval: Some(3),
-            ..NONE
-        },
-    ),
-    // An approval that is given again.
-    (
-        Stage::Staged(3),
-        Stage::Staged(4),
-        Lines {
-            approval: Some(3),
-            ..NONE
-        },
-        Lines {
-            approval: Some(4),
-            ..NONE
-        },
-    ),
-    // The activation.
-    (
-        Stage::Staged(3),
-        Stage::Active,
-        Lines {
-            counts: &[CountRow::Revision(4)],
-            config: &[DENIES],
-            plan: Some((PlanState::Staged, 0)),
-            ..NONE
-        },
-        Lines {
-            counts: &[CountRow::Revision(5)],
-            config: &[PERMITS],
-            plan: Some((PlanState::Active, 1)),
-            undo: &[(Sign::Taken, DENIES), (Sign::Added, PERMITS)],
-            ..NONE
-        },
-    ),
-    // And its undoing.
-    (
-        Stage::Active,
-        Stage::RolledBack,
-        Lines {
-            counts: &[CountRow::Revision(5)],
-            config: &[PERMITS],
-            plan: Some((PlanState::Active, 1)),
-            undo: &[(Sign::Taken, DENIES), (Sign::Added, PERMITS)],
-            ..NONE
-        },
-        Lines {
-            counts: &[CountRow::Revision(6)],
-            config: &[DENIES],
-            plan: Some((PlanState::RolledBack, 0)),
-            ..NONE
-        },
-    ),
-    (Stage::RolledBack, Stage::RolledBack, NONE, NONE),
-];
-
-/// Whether the changes are those of the lines.
-fn are_changes(found: &Changes<Global>, removed: Lines, added: Lines) -> bool {
-    are(&found.removed, removed) && are(&found.added, added)
+/// A configuration: the default zone of fabric A permits, and a storage group maps `v1` at its units
+/// to the hosts of one host group, by the target.
+#[derive(Clone, Copy)]
+pub enum World {
+    /// Both hosts, at unit 0.
+    Both,
+    /// The host `zeta`, at unit 0.
+    Zeta,
+    /// The host `zeta`, at the units 0 and 5.
+    Units,
+    /// Both hosts, by a hidden group.
+    Hidden,
 }
 
-/// Whether the worlds differ by the lines.
-fn differ(
-    alloc: Global,
-    before: &World<Global>,
-    after: &World<Global>,
-    removed: Lines,
-    added: Lines,
-) -> Result<bool, Fail> {
-    let found = changes(alloc, before, after)?;
-    Ok(are_changes(&found, removed, added))
-}
-
-/// Whether the world at a later stage differs by the lines.
-fn differs(
-    alloc: Global,
-    before: &World<Global>,
-    to: Stage,
-    removed: Lines,
-    added: Lines,
-) -> Result<bool, Fail> {
-    let after = world(alloc, to)?;
-    differ(alloc, before, &after, removed, added)
-}
-
-fn is_change(
-    alloc: Global,
-    from: Stage,
-    to: Stage,
-    removed: Lines,
-    added: Lines,
-) -> Result<bool, Fail> {
-    let before = world(alloc, from)?;
-    differs(alloc, &before, to, removed, added)
-}
-
-#[test]
-fn changes_are_listed(rt: HostRuntime) -> Result<(), Fail> {
-    for (from, to, removed, added) in CASES {
-        assert!(rt; is_change(rt.alloc(), from, to, removed, added)?);
+/// The names of the hosts.
+fn hosts(alloc: Global, world: World) -> Result<BTreeSet<Name, Global>, Fail> {
+    let (zeta, alpha) = (name("zeta")?, name("alpha")?);
+    let mut hosts = BTreeSet::new(alloc);
+    hosts.insert(zeta)?;
+    if matches!(world, World::Both | World::Hidden) {
+        hosts.insert(alpha)?;
     }
-    Ok(())
+    Ok(hosts)
 }
 
-/// No zone set is active in fabric A; nor in B.
-const IDLE_A: Line = Line::Idle(Fabric::A);
-
-const IDLE_B: Line = Line::Idle(Fabric::B);
-
-/// Fabric B's default zone denies.
-const B_DENIES: Line = Line::Permits(Fabric::B, false);
-
-/// Worlds and all their rows.
-const WHOLE: [(Stage, Lines); 3] = [
-    (
-        Stage::New,
-        Lines {
-            counts: &[CountRow::Schema(1), CountRow::Revision(0)],
-            config: &[IDLE_A, IDLE_B, DENIES, B_DENIES],
-            ..NONE
-        },
-    ),
-    (
-        Stage::Host,
-        Lines {
-            counts: &[CountRow::Schema(1), CountRow::Revision(1)],
-            holder: Some("web1"),
-            config: &[IDLE_A, IDLE_B, DENIES, B_DENIES],
-            ..NONE
-        },
-    ),
-    (
-        Stage::Active,
-        Lines {
-            counts: &[CountRow::Schema(1), CountRow::Revision(5)],
-            config: &[IDLE_A, IDLE_B, PERMITS, B_DENIES],
-            plan: Some((PlanState::Active, 1)),
-            approval: Some(3),
-            undo: &[(Sign::Taken, DENIES), (Sign::Added, PERMITS)],
-            ..NONE
-        },
-    ),
-];
-
-/// Whether the world has the rows of the lines and no other.
-fn has_rows(alloc: Global, world: &World<Global>, lines: Lines) -> Result<bool, Fail> {
-    let rows = rows_of(alloc, world)?;
-    Ok(are(&rows, lines))
-}
-
-fn is_whole(alloc: Global, stage: Stage, lines: Lines) -> Result<bool, Fail> {
-    let world = world(alloc, stage)?;
-    has_rows(alloc, &world, lines)
-}
-
-#[test]
-fn rows_are_listed(rt: HostRuntime) -> Result<(), Fail> {
-    for (stage, lines) in WHOLE {
-        assert!(rt; is_whole(rt.alloc(), stage, lines)?);
+/// The units with their volume.
+fn units(alloc: Global, world: World) -> Result<BTreeMap<u16, Name, Global>, Fail> {
+    let volume = name("v1")?;
+    let mut units = BTreeMap::new(alloc);
+    units.insert(0, volume)?;
+    if matches!(world, World::Units) {
+        units.insert(5, volume)?;
     }
-    Ok(())
+    Ok(units)
+}
+
+/// The names of one.
+fn names(alloc: Global, one: &str) -> Result<BTreeSet<Name, Global>, Fail> {
+    let one = name(one)?;
+    let mut names = BTreeSet::new(alloc);
+    names.insert(one)?;
+    Ok(names)
+}
+
+fn targets(alloc: Global) -> Result<BTreeSet<Wwn, Global>, Fail> {
+    let target = wwn(TP1)?;
+    let mut targets = BTreeSet::new(alloc);
+    targets.insert(target)?;
+    Ok(targets)
+}
+
+fn host_groups(
+    alloc: Global,
+    world: World,
+) -> Result<BTreeMap<Name, HostGroup<Global>, Global>, Fail> {
+    let mut groups = BTreeMap::new(alloc);
+    let group = HostGroup::from_parts(name("blue")?, hosts(alloc, world)?);
+    groups.insert(name("hosts1")?, group)?;
+    Ok(groups)
+}
+
+fn storage_group(alloc: Global, world: World) -> Result<StorageGroup<Global>, Fail> {
+    let hosts = names(alloc, "hosts1")?;
+    let (targets, units) = (targets(alloc)?, units(alloc, world)?);
+    let exposed = !matches!(world, World::Hidden);
+    Ok(StorageGroup::from_parts(name("blue")?, name("arr1")?, hosts, targets, units, exposed))
+}
+
+fn groups(
+    alloc: Global,
+    world: World,
+) -> Result<BTreeMap<Name, StorageGroup<Global>, Global>, Fail> {
+    let mut groups = BTreeMap::new(alloc);
+    groups.insert(name("g1")?, storage_group(alloc, world)?)?;
+    Ok(groups)
+}
+
+fn mapped(alloc: Global, world: World) -> Result<Mapping<Global>, Fail> {
+    let host_groups = host_groups(alloc, world)?;
+    let groups = groups(alloc, world)?;
+    Ok(Mapping::from_maps(alloc, host_groups, groups))
+}
+
+/// A zoning whose default zone permits.
+fn permitting(alloc: Global) -> Zoning<Global> {
+    let mut zoning = Zoning::new(alloc, Fabric::A);
+    zoning.set_default(DefaultFlag::Permit);
+    zoning
+}
+
+/// The configuration of a world.
+pub fn config(alloc: Global, world: World) -> Result<Config<Global>, Fail> {
+    let mapping = mapped(alloc, world)?;
+    let a = permitting(alloc);
+    let b = Zoning::new(alloc, Fabric::B);
+    Ok(Config { a, b, mapping })
 }

@@ -3,11 +3,11 @@
 
 use crate::desks::{DeskOver, left, opened};
 use crate::lists::{List, turns_of};
-use crate::memory::{Tables, tables};
+use crate::memory::tables;
 use crate::worlds::are_kept;
 use fab_asking::{Turn, are_told, requests};
 use fab_desk::handle_all;
-use fab_stores::Store;
+use fab_store::Store;
 use std::alloc::Global;
 use std::test::Fail;
 
@@ -37,12 +37,17 @@ fn answer_lists<S: Store<Global>>(
     Ok(())
 }
 
-/// The tables of a new desk that has answered the lists.
-fn tables_after_lists(alloc: Global, lists: &[List]) -> Result<Tables, Fail> {
-    let tables = tables(alloc)?;
-    let mut desk = opened(alloc, tables)?;
+/// The store again, after a desk over it has answered the lists.
+fn store_after_lists<S: Store<Global>>(alloc: Global, store: S, lists: &[List]) -> Result<S, Fail> {
+    let mut desk = opened(alloc, store)?;
     let asked = answer_lists(alloc, &mut desk, lists);
     left(desk, asked)
+}
+
+/// Whether the store has the machine's world then.
+fn is_kept_after<S: Store<Global>>(alloc: Global, store: S, lists: &[List]) -> Result<bool, Fail> {
+    let mut store = store_after_lists(alloc, store, lists)?;
+    are_kept(alloc, &mut store, lists, &[])
 }
 
 /// The world, the first plan, the volume taken away, and what is refused then.
@@ -51,8 +56,7 @@ const LISTS: &[List] = &[List::World, List::First, List::Unmapped, List::Row15];
 /// Whether a new desk answers the lists as their turns say, and its tables have the machine's world
 /// then.
 fn are_answered(alloc: Global, lists: &[List]) -> Result<bool, Fail> {
-    let mut tables = tables_after_lists(alloc, lists)?;
-    are_kept(alloc, &mut tables, lists, &[])
+    is_kept_after(alloc, tables(alloc)?, lists)
 }
 
 #[test]

@@ -3,8 +3,7 @@
 use crate::desks::{play, tables_of};
 use crate::worlds::{are_after, found};
 use fab_asking::Turn;
-use fab_store::SqlStore;
-use fab_stores::Store;
+use fab_store::{SqlStore, Store};
 use sqlite::{Alter, Connection, FileStore, Files, Options};
 use sqlite_disk::Disk;
 use std::alloc::Global;
@@ -26,19 +25,29 @@ fn connect<D: Disk + Drop>(
     }
 }
 
-/// How many turns a desk over new tables answers, with the connection. It is none where the tables
-/// were not made.
+/// How many turns a desk over new tables answers, with what the connection was over. It is none where
+/// the tables were not made.
 fn play_new<S: Alter + Drop>(
     alloc: Global,
     conn: Connection<S>,
     turns: &[Turn],
-) -> Result<(Option<usize>, Connection<S>), Fail> {
+) -> Result<(Option<usize>, S), Fail> {
     let mut tables = tables_of(alloc, conn)?;
     if tables.init().is_err() {
-        return Ok((None, tables.into_connection()));
+        return Ok((None, tables.into_connection().into_store()));
     }
     let (count, tables) = play(alloc, tables, turns)?;
-    Ok((Some(count), tables.into_connection()))
+    Ok((Some(count), tables.into_connection().into_store()))
+}
+
+/// The files as they are left.
+fn closed<D: Disk + Drop>(
+    played: Result<(Option<usize>, FileStore<D>), Fail>,
+) -> Result<(Option<usize>, Files<D>), Fail> {
+    match played {
+        Ok((count, store)) => Ok((count, store.close())),
+        Err(fail) => Err(fail),
+    }
 }
 
 /// The same over new files, which are given back as they are.
@@ -48,28 +57,34 @@ pub fn run<D: Disk + Drop>(
     turns: &[Turn],
 ) -> Result<(Option<usize>, Files<D>), Fail> {
     match connect(alloc, files) {
-        Ok(conn) => {
-            let (count, conn) = play_new(alloc, conn, turns)?;
-            Ok((count, conn.into_store().close()))
-        }
+        Ok(conn) => closed(play_new(alloc, conn, turns)),
         Err(files) => Ok((None, files)),
     }
 }
 
-/// The tables again, which are made where they were not made before.
-fn tables_again<D: Disk + Drop>(
+/// The tables of a connection, which are made where they were not made before.
+fn made_again<S: Alter + Drop>(
     alloc: Global,
-    files: Files<D>,
+    conn: Connection<S>,
     is_made: bool,
-) -> Result<SqlStore<FileStore<D>>, Fail> {
-    let Ok(conn) = connect(alloc, files) else {
-        return Err(Fail::from("files"));
-    };
+) -> Result<SqlStore<S>, Fail> {
     let mut tables = tables_of(alloc, conn)?;
     if !is_made {
         let _are_new = tables.init();
     }
     Ok(tables)
+}
+
+/// The same of files.
+fn tables_again<D: Disk + Drop>(
+    alloc: Global,
+    files: Files<D>,
+    is_made: bool,
+) -> Result<SqlStore<FileStore<D>>, Fail> {
+    match connect(alloc, files) {
+        Ok(conn) => made_again(alloc, conn, is_made),
+        Err(_) => Err(Fail::from("files")),
+    }
 }
 
 /// After how many turns the tables stand, after so many were answered.
@@ -86,6 +101,17 @@ fn found_in<S: Store<Global>>(
     }
 }
 
+/// The same of tables, if there are some.
+fn checked<S: Store<Global>>(
+    alloc: Global,
+    tables: Result<S, Fail>,
+    turns: &[Turn],
+    count: Option<usize>,
+) -> Result<usize, Fail> {
+    let mut tables = tables?;
+    found_in(alloc, &mut tables, turns, count)
+}
+
 /// After how many turns the tables in the files stand, after so many were answered.
 ///
 /// # Errors
@@ -96,8 +122,12 @@ pub fn check<D: Disk + Drop>(
     turns: &[Turn],
     count: Option<usize>,
 ) -> Result<usize, Fail> {
-    let mut tables = tables_again(alloc, files, count.is_some())?;
-    found_in(alloc, &mut tables, turns, count)
+    checked(
+        alloc,
+        tables_again(alloc, files, count.is_some()),
+        turns,
+        count,
+    )
 }
 
 /// Has a desk over the tables answer the turns behind those after which they stand.
@@ -118,7 +148,19 @@ fn serve<S: Store<Global>>(
     Ok(())
 }
 
-/// The same, and a desk over them answers the rest of the turns.
+/// The same of the turns behind those after which the tables are found to stand.
+fn serve_rest<S: Store<Global>>(
+    alloc: Global,
+    tables: Result<S, Fail>,
+    turns: &[Turn],
+    count: Option<usize>,
+) -> Result<(), Fail> {
+    let mut tables = tables?;
+    let count = found_in(alloc, &mut tables, turns, count)?;
+    serve(alloc, tables, turns, count)
+}
+
+/// Looks at the tables in the files as `check` does, and a desk over them answers the rest of the turns.
 ///
 /// # Errors
 /// Other rows, or another answer.
@@ -128,7 +170,10 @@ pub fn check_served<D: Disk + Drop>(
     turns: &[Turn],
     count: Option<usize>,
 ) -> Result<(), Fail> {
-    let mut tables = tables_again(alloc, files, count.is_some())?;
-    let count = found_in(alloc, &mut tables, turns, count)?;
-    serve(alloc, tables, turns, count)
+    serve_rest(
+        alloc,
+        tables_again(alloc, files, count.is_some()),
+        turns,
+        count,
+    )
 }

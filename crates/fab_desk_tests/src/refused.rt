@@ -3,12 +3,12 @@
 
 use crate::desks::{Came, DeskOver, ask, ask_all, left, opened};
 use crate::lists::{List, turns_of};
-use crate::memory::{Tables, tables};
+use crate::memory::tables;
 use crate::worlds::are_kept;
 use fab_asking::{ADA, Ask, FIRST_INITIATOR, FIRST_TARGET, NO_PORTS, See, Turn, policy};
 use fab_desk::Desk;
 use fab_names::Fabric;
-use fab_stores::{OpenFault, RefusingStore, Store};
+use fab_store::{OpenFault, RefusingStore, Store};
 use std::alloc::Global;
 use std::test::Fail;
 
@@ -141,22 +141,35 @@ fn store_at_last<S: Store<Global>>(
     left(desk, asked)
 }
 
-/// How many calls the store has refused. Its tables have the machine's world after these turns.
-fn refusals_of(alloc: Global, store: RefusingStore<Tables>, lists: &[List]) -> Result<u64, Fail> {
+/// How many calls the store has refused. It has the machine's world after these turns.
+fn refusals_of<S: Store<Global>>(
+    alloc: Global,
+    store: RefusingStore<S>,
+    lists: &[List],
+) -> Result<u64, Fail> {
     let refusals = Store::<Global>::refusals(&store);
-    let mut tables = store.into_inner();
-    if !are_kept(alloc, &mut tables, lists, &[])? {
+    let mut inner = store.into_inner();
+    if !are_kept(alloc, &mut inner, lists, &[])? {
         return Err(Fail::from("world"));
     }
     Ok(refusals)
 }
 
-/// How many calls are refused, where a desk answers these turns over tables that refuse the call after
-/// so many.
-fn refusals_after(alloc: Global, calls: u64, lists: &[List]) -> Result<u64, Fail> {
-    let tables = tables(alloc)?;
-    let store = store_at_last(alloc, RefusingStore::new(tables, calls), lists)?;
+/// How many calls are refused, where a desk answers these turns over a store that refuses the call
+/// after so many.
+fn refusals_over<S: Store<Global>>(
+    alloc: Global,
+    store: S,
+    calls: u64,
+    lists: &[List],
+) -> Result<u64, Fail> {
+    let store = store_at_last(alloc, RefusingStore::new(store, calls), lists)?;
     refusals_of(alloc, store, lists)
+}
+
+/// The same over the tables of a new desk.
+fn refusals_after(alloc: Global, calls: u64, lists: &[List]) -> Result<u64, Fail> {
+    refusals_over(alloc, tables(alloc)?, calls, lists)
 }
 
 /// More calls than any list of turns makes.
@@ -175,7 +188,7 @@ fn calls_for(alloc: Global, lists: &[List]) -> Result<u64, Fail> {
 
 /// Turns, and how many calls they make: one to open the desk, one for each change of a plan or of the
 /// records, and one for each read of paths.
-const CASES: [(&[List], u64); 5] = [
+const CASES: &[(&[List], u64)] = &[
     (&[List::World, List::First], 10),
     (&[List::World, List::First, List::Row6], 14),
     (&[List::World, List::First, List::Second, List::Row9], 14),
@@ -198,6 +211,6 @@ fn first_wrong(alloc: Global) -> Result<usize, Fail> {
 
 #[test]
 fn each_call_is_refused(rt: HostRuntime) -> Result<(), Fail> {
-    assert_eq!(rt; first_wrong(rt.alloc())?, CASES.len());
+    assert!(rt; first_wrong(rt.alloc())? == CASES.len());
     Ok(())
 }

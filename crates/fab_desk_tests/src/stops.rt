@@ -52,7 +52,7 @@ fn serve_row(alloc: Global, row: Worked, failing: Failing) -> Result<(), Fail> {
 }
 
 /// The rows, and the file whose disk fails.
-const STOPS: [(Worked, Failing); 8] = [
+const STOPS: &[(Worked, Failing)] = &[
     (Worked::Row5, Failing::Log),
     (Worked::Row5, Failing::Database),
     (Worked::Row6, Failing::Log),
@@ -65,7 +65,7 @@ const STOPS: [(Worked, Failing); 8] = [
 
 #[test]
 fn stop_at_each_call(rt: HostRuntime) -> Result<(), Fail> {
-    for (row, failing) in STOPS {
+    for &(row, failing) in STOPS {
         stop_row(rt.alloc(), row, failing)?;
     }
     Ok(())
@@ -73,7 +73,7 @@ fn stop_at_each_call(rt: HostRuntime) -> Result<(), Fail> {
 
 #[test]
 fn stopped_then_served(rt: HostRuntime) -> Result<(), Fail> {
-    for (row, failing) in STOPS {
+    for &(row, failing) in STOPS {
         serve_row(rt.alloc(), row, failing)?;
     }
     Ok(())

@@ -4,7 +4,7 @@ use crate::lists::{List, turns_of};
 use fab_asking::{Turn, holds_in};
 use fab_changes::changes;
 use fab_rows::TableRows;
-use fab_stores::Store;
+use fab_store::Store;
 use fab_world::World;
 use std::alloc::Global;
 use std::test::Fail;

@@ -38,13 +38,13 @@ enum Answer {
 }
 
 /// Ports 1 to 65.
-const MANY: [u64; 65] = [
+const MANY: &[u64] = &[
     1, 2, 3, 4, 5, 6, 7, 8, 9, 10, 11, 12, 13, 14, 15, 16, 17, 18, 19, 20, 21, 22, 23, 24, 25, 26,
     27, 28, 29, 30, 31, 32, 33, 34, 35, 36, 37, 38, 39, 40, 41, 42, 43, 44, 45, 46, 47, 48, 49, 50,
     51, 52, 53, 54, 55, 56, 57, 58, 59, 60, 61, 62, 63, 64, 65,
 ];
 
-const STEPS: [(Step, Answer); 60] = [
+const STEPS: &[(Step, Answer)] = &[
     (Step::At(1, None), Answer::Done),
     (Step::Import(Fabric::A, &[(1, 1), (2, 1)]), Answer::Done),
     (Step::Import(Fabric::B, &[(3, 1)]), Answer::Done),
@@ -93,7 +93,7 @@ const STEPS: [(Step, Answer); 60] = [
     (Step::DropHolder("db1"), Answer::Unknown("db1")),
     // refusals come in their order
     (
-        Step::PutHolder("db2", HolderKind::Host, &MANY),
+        Step::PutHolder("db2", HolderKind::Host, MANY),
         Answer::TooMuch(InventoryLimit::PortsOfHolder),
     ),
     (
@@ -358,7 +358,7 @@ fn take(
 #[test]
 fn steps(rt: HostRuntime) -> Result<(), Fail> {
     let mut inventory = Inventory::new(rt.alloc());
-    for (step, answer) in STEPS {
+    for &(step, answer) in STEPS {
         assert!(rt; take(&mut inventory, rt.alloc(), step, answer)?);
     }
     Ok(())
@@ -400,7 +400,7 @@ const FULL: World = World {
     bytes: 9223372036854775807,
 };
 
-const WORLDS: [(World, Option<RestoreFault>); 11] = [
+const WORLDS: &[(World, Option<RestoreFault>)] = &[
     (
         World {
             ports: 0,
@@ -536,14 +536,14 @@ fn is_restored(alloc: Global, world: World, wanted: Option<RestoreFault>) -> Res
 
 #[test]
 fn worlds(rt: HostRuntime) -> Result<(), Fail> {
-    for (world, wanted) in WORLDS {
+    for &(world, wanted) in WORLDS {
         assert!(rt; is_restored(rt.alloc(), world, wanted)?);
     }
     Ok(())
 }
 
 /// Changes of an inventory that is full.
-const AT_THE_LIMITS: [(Step, Answer); 8] = [
+const AT_THE_LIMITS: &[(Step, Answer)] = &[
     (
         Step::Import(Fabric::A, &[(4097, 1)]),
         Answer::TooMuch(InventoryLimit::Ports),
@@ -571,7 +571,7 @@ fn limits(rt: HostRuntime) -> Result<(), Fail> {
     let Ok(mut inventory) = restored(rt.alloc(), FULL)? else {
         return Err("a full inventory".into());
     };
-    for (step, answer) in AT_THE_LIMITS {
+    for &(step, answer) in AT_THE_LIMITS {
         assert!(rt; take(&mut inventory, rt.alloc(), step, answer)?);
     }
     Ok(())

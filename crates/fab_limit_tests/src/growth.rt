@@ -21,7 +21,7 @@ use std::test::Fail;
 
 /// What the desk is asked, what comes of it with ample memory, and of what before and after it the
 /// world is made and how many paths the host has.
-#[derive(Clone, Copy, Debug)]
+#[derive(Clone, Copy)]
 struct Case<'c> {
     order: Order,
     came: Came,
@@ -79,7 +79,7 @@ const CASES: &[Case<'static>] = &[
 const MOST: u64 = 10_000;
 
 /// What a refused request led to.
-#[derive(Clone, Copy, Debug, PartialEq, Eq)]
+#[derive(Clone, Copy, PartialEq, Eq)]
 enum Turnout {
     /// The command made fewer requests, and was carried out.
     Through,
@@ -235,7 +235,7 @@ fn refusals(rt: &impl Abort, alloc: Global, policy: &Policy, case: &Case<'_>) ->
             Turnout::Through => return Ok(refusals),
             Turnout::Without => {}
             Turnout::Refused => refusals = refusals.saturating_add(1),
-            Turnout::Astray => assert!(rt; false, "{case:?}, request {requests}"),
+            Turnout::Astray => assert!(rt; false),
         }
     }
     Err(Fail::from("each command met a refusal"))
@@ -250,7 +250,7 @@ fn is_refused_in_turn(rt: &impl Abort, alloc: Global, case: &Case<'_>) -> Result
 #[test]
 fn each_request_is_refused_in_turn(rt: HostRuntime) -> Result<(), Fail> {
     for case in CASES {
-        assert!(rt; is_refused_in_turn(&rt, rt.alloc(), case)?, "{case:?}");
+        assert!(rt; is_refused_in_turn(&rt, rt.alloc(), case)?);
     }
     Ok(())
 }
@@ -331,7 +331,7 @@ fn needs_no_memory(alloc: Global, case: &Case<'_>) -> Result<bool, Fail> {
 #[test]
 fn ready_changes_need_no_memory(rt: HostRuntime) -> Result<(), Fail> {
     for case in CASES {
-        assert!(rt; needs_no_memory(rt.alloc(), case)?, "{case:?}");
+        assert!(rt; needs_no_memory(rt.alloc(), case)?);
     }
     Ok(())
 }

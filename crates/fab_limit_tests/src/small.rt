@@ -24,7 +24,7 @@ use std::test::Fail;
 pub type Heap<'a> = &'a Refusing<Global>;
 
 /// Something that is asked of the desk.
-#[derive(Clone, Copy, Debug)]
+#[derive(Clone, Copy)]
 pub enum Order {
     /// An initiator and a target, in fabric A.
     Ports,
@@ -44,7 +44,7 @@ pub enum Order {
 }
 
 /// What came of it.
-#[derive(Clone, Copy, Debug, PartialEq, Eq)]
+#[derive(Clone, Copy, PartialEq, Eq)]
 pub enum Came {
     /// The world was changed, and this is the revision.
     Changed(u64),

@@ -7,7 +7,7 @@ use fab_rows::{PartRow, StoragePart};
 use std::alloc::{AllocError, Global};
 
 /// Keys and values of `meta`, and whether they show a row.
-const META: [(&str, &str, bool); 16] = [
+const META: &[(&str, &str, bool)] = &[
     ("schema", "1", true),
     ("schema", "01", false),
     ("revision", "0", true),
@@ -57,14 +57,14 @@ fn shows_meta(alloc: Global, key: &'static str, value: &'static str) -> Result<b
 
 #[test]
 fn settings(rt: HostRuntime) -> Result<(), AllocError> {
-    for (key, value, shown) in META {
+    for &(key, value, shown) in META {
         assert!(rt; shows_meta(rt.alloc(), key, value)? == shown);
     }
     Ok(())
 }
 
 /// Columns of `zoning`, and whether they show a row.
-const ZONING: [([&str; 4], bool); 10] = [
+const ZONING: &[([&str; 4], bool)] = &[
     (["A", "alias", "disk", "wwpn=50:00:00:00:00:00:00:01"], true),
     (["B", "zone", "z1", "alias=disk"], true),
     (["A", "zone", "z3", "dp=12,5"], true),
@@ -99,14 +99,14 @@ fn shows_zoning(alloc: Global, columns: &[&'static str; 4]) -> Result<bool, Allo
 
 #[test]
 fn zoning(rt: HostRuntime) -> Result<(), AllocError> {
-    for (columns, shown) in &ZONING {
+    for (columns, shown) in ZONING {
         assert!(rt; shows_zoning(rt.alloc(), columns)? == *shown);
     }
     Ok(())
 }
 
 /// Columns of `active`, and whether they show a row.
-const ACTIVE: [([&str; 3], bool); 5] = [
+const ACTIVE: &[([&str; 3], bool)] = &[
     (["A", "z1", "wwpn=10:00:00:00:00:00:00:01"], true),
     (["B", "z1", "wwnn=50:00:00:00:00:00:00:00"], true),
     (["", "z1", "dp=1,1"], false),
@@ -134,14 +134,14 @@ fn shows_active(alloc: Global, columns: &[&'static str; 3]) -> Result<bool, Allo
 
 #[test]
 fn active(rt: HostRuntime) -> Result<(), AllocError> {
-    for (columns, shown) in &ACTIVE {
+    for (columns, shown) in ACTIVE {
         assert!(rt; shows_active(rt.alloc(), columns)? == *shown);
     }
     Ok(())
 }
 
 /// Columns of `groups`, and whether they show a row.
-const GROUPS: [([&str; 4], i64, bool); 9] = [
+const GROUPS: &[([&str; 4], i64, bool)] = &[
     (["host", "hosts1", "blue", ""], 0, true),
     (["storage", "g1", "blue", "arr1"], 0, true),
     (["storage", "g1", "blue", "arr1"], 1, true),
@@ -181,14 +181,14 @@ fn shows_group(
 
 #[test]
 fn groups(rt: HostRuntime) -> Result<(), AllocError> {
-    for (columns, exposed, shown) in &GROUPS {
+    for (columns, exposed, shown) in GROUPS {
         assert!(rt; shows_group(rt.alloc(), columns, *exposed)? == *shown);
     }
     Ok(())
 }
 
 /// Columns of `group_parts`, and whether they show a row.
-const PARTS: [([&str; 5], bool); 13] = [
+const PARTS: &[([&str; 5], bool)] = &[
     (["host", "hosts1", "host", "db1", ""], true),
     (["storage", "g1", "hostgroup", "hosts1", ""], true),
     (["storage", "g1", "target", "5000000000000001", ""], true),
@@ -241,7 +241,7 @@ fn shows_part(alloc: Global, columns: &[&'static str; 5]) -> Result<bool, AllocE
 
 #[test]
 fn parts(rt: HostRuntime) -> Result<(), AllocError> {
-    for (columns, shown) in &PARTS {
+    for (columns, shown) in PARTS {
         assert!(rt; shows_part(rt.alloc(), columns)? == *shown);
     }
     Ok(())

@@ -14,7 +14,7 @@ type PortCase = (
 );
 
 /// Columns of `ports`, and whether they show a port.
-const PORTS: [(PortCase, bool); 12] = [
+const PORTS: &[(PortCase, bool)] = &[
     (
         (
             "1000000000000001",
@@ -200,14 +200,14 @@ fn shows_port(alloc: Global, case: &PortCase) -> Result<bool, AllocError> {
 
 #[test]
 fn ports(rt: HostRuntime) -> Result<(), AllocError> {
-    for (case, shown) in &PORTS {
+    for (case, shown) in PORTS {
         assert!(rt; shows_port(rt.alloc(), case)? == *shown);
     }
     Ok(())
 }
 
 /// Columns of `holders`, and whether they show a holder.
-const HOLDERS: [(&str, &str, &str, bool); 6] = [
+const HOLDERS: &[(&str, &str, &str, bool)] = &[
     ("db1", "host", "blue", true),
     ("arr1", "array", "store", true),
     ("arr1", "Array", "store", false),
@@ -241,14 +241,14 @@ fn shows_holder(
 
 #[test]
 fn holders(rt: HostRuntime) -> Result<(), AllocError> {
-    for (name, kind, tenant, shown) in HOLDERS {
+    for &(name, kind, tenant, shown) in HOLDERS {
         assert!(rt; shows_holder(rt.alloc(), name, kind, tenant)? == shown);
     }
     Ok(())
 }
 
 /// Names, arrays, tenants and bytes of volumes, and whether they show one.
-const VOLUMES: [(&str, &str, &str, i64, bool); 6] = [
+const VOLUMES: &[(&str, &str, &str, i64, bool)] = &[
     ("v1", "arr1", "blue", 1073741824, true),
     ("v1", "arr1", "blue", 1, true),
     ("v1", "arr1", "blue", 9223372036854775807, true),
@@ -285,7 +285,7 @@ fn shows_volume(
 
 #[test]
 fn volumes(rt: HostRuntime) -> Result<(), AllocError> {
-    for (name, array, tenant, bytes, shown) in VOLUMES {
+    for &(name, array, tenant, bytes, shown) in VOLUMES {
         assert!(rt; shows_volume(rt.alloc(), name, array, tenant, bytes)? == shown);
     }
     Ok(())

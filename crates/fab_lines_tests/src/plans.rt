@@ -5,7 +5,7 @@ use fab_undo_lines::UndoLine;
 use std::alloc::{AllocError, Global};
 
 /// Names, authors, texts and states of plans, their positions, and whether they show a plan.
-const PLANS: [([&str; 4], i64, bool); 12] = [
+const PLANS: &[([&str; 4], i64, bool)] = &[
     (["p1", "ada", "deactivate A\n", "staged"], 0, true),
     (["p1", "ada", "deactivate A\n", "active"], 1, true),
     (["p1", "ada", "deactivate A\n", "rolled-back"], 0, true),
@@ -48,14 +48,14 @@ fn shows_plan(
 
 #[test]
 fn plans(rt: HostRuntime) -> Result<(), AllocError> {
-    for (columns, position, shown) in &PLANS {
+    for (columns, position, shown) in PLANS {
         assert!(rt; shows_plan(rt.alloc(), columns, *position)? == *shown);
     }
     Ok(())
 }
 
 /// Signs and entries of changes to undo, and whether they show a row.
-const CHANGES: [(&str, &str, bool); 34] = [
+const CHANGES: &[(&str, &str, bool)] = &[
     ("-", "meta default.A deny", true),
     ("+", "meta default.A permit", true),
     ("-", "meta active.A ", true),
@@ -112,7 +112,7 @@ fn shows_change(
 
 #[test]
 fn changes(rt: HostRuntime) -> Result<(), AllocError> {
-    for (sign, entry, shown) in CHANGES {
+    for &(sign, entry, shown) in CHANGES {
         assert!(rt; shows_change(rt.alloc(), sign, entry)? == shown);
     }
     Ok(())

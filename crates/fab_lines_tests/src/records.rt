@@ -4,7 +4,7 @@ use fab_lines::{ApprovalLine, PathLine};
 use std::alloc::{AllocError, Global};
 
 /// Plans, callers and revisions, and whether they show an approval.
-const APPROVALS: [(&str, &str, i64, bool); 5] = [
+const APPROVALS: &[(&str, &str, i64, bool)] = &[
     ("q1", "bob", 6, true),
     ("q1", "bob", 0, true),
     ("q1", "bob", -1, false),
@@ -33,14 +33,14 @@ fn shows_approval(
 
 #[test]
 fn approvals(rt: HostRuntime) -> Result<(), AllocError> {
-    for (plan, caller, revision, shown) in APPROVALS {
+    for &(plan, caller, revision, shown) in APPROVALS {
         assert!(rt; shows_approval(rt.alloc(), plan, caller, revision)? == shown);
     }
     Ok(())
 }
 
 /// Columns of `paths`, and whether they show a path.
-const PATHS: [([&str; 5], i64, bool); 6] = [
+const PATHS: &[([&str; 5], i64, bool)] = &[
     (
         ["db1", "A", "1000000000000001", "5000000000000001", "v1"],
         0,
@@ -105,7 +105,7 @@ fn shows_path(alloc: Global, columns: &[&'static str; 5], lun: i64) -> Result<bo
 
 #[test]
 fn paths(rt: HostRuntime) -> Result<(), AllocError> {
-    for (columns, lun, shown) in &PATHS {
+    for (columns, lun, shown) in PATHS {
         assert!(rt; shows_path(rt.alloc(), columns, *lun)? == *shown);
     }
     Ok(())

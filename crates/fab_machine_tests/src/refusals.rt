@@ -238,7 +238,7 @@ const DROPPED: &[Turn] = &[
 
 /// What goes then bars the way back: what is named is of the first kind that has any, and there the
 /// least.
-const GONE: [&[Turn]; 4] = [
+const GONE: &[&[Turn]] = &[
     &[
         (
             ADA,
@@ -300,7 +300,7 @@ const GONE: [&[Turn]; 4] = [
 
 #[test]
 fn what_is_gone_bars_the_way_back(rt: HostRuntime) -> Result<(), Fail> {
-    for turns in GONE {
+    for &turns in GONE {
         assert!(rt; holds(rt.alloc(), &[WORLD, FIRST, DROPPED, turns])?);
     }
     Ok(())

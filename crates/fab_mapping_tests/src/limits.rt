@@ -122,7 +122,7 @@ fn assert_limits(
 ) -> Result<(), Fail> {
     for (kind, count, last, limit) in COUNTS {
         let answer = last_made(alloc, inventory, *kind, *count, *last)?;
-        assert!(rt; is_limited(answer, *limit), "{count} and {last}");
+        assert!(rt; is_limited(answer, *limit));
     }
     Ok(())
 }
@@ -162,7 +162,7 @@ fn assert_lengths(
 ) -> Result<(), Fail> {
     for (count, limit) in LENGTHS {
         let answer = put_listed(alloc, inventory, *count)?;
-        assert!(rt; is_limited(answer, *limit), "{count} hosts");
+        assert!(rt; is_limited(answer, *limit));
     }
     Ok(())
 }

@@ -100,7 +100,7 @@ const SHOWN_HOSTS: &[(&str, [bool; 4])] = &[
 /// The host groups are shown so.
 fn assert_hosts_shown(rt: &impl Abort, mapping: &Mapping<Global>) -> Result<(), Fail> {
     for (name, shown) in SHOWN_HOSTS {
-        assert!(rt; shown_hosts(mapping, name)? == *shown, "{name}");
+        assert!(rt; shown_hosts(mapping, name)? == *shown);
     }
     Ok(())
 }
@@ -144,7 +144,7 @@ const SHOWN_GROUPS: &[(&str, [bool; 7])] = &[
 /// The storage groups are shown so.
 fn assert_groups_shown(rt: &impl Abort, mapping: &Mapping<Global>) -> Result<(), Fail> {
     for (name, shown) in SHOWN_GROUPS {
-        assert!(rt; shown_group(mapping, name)? == *shown, "{name}");
+        assert!(rt; shown_group(mapping, name)? == *shown);
     }
     Ok(())
 }
@@ -254,7 +254,7 @@ const SAME_GROUPS: &[(&str, bool)] = &[
 /// The storage groups are the same as the first, or not.
 fn assert_same_groups(rt: &impl Abort, mapping: &Mapping<Global>) -> Result<(), Fail> {
     for (name, want) in SAME_GROUPS {
-        assert!(rt; is_same_as_first(mapping, name)? == *want, "{name}");
+        assert!(rt; is_same_as_first(mapping, name)? == *want);
     }
     Ok(())
 }
@@ -287,7 +287,7 @@ const SAME_HOSTS: &[(&str, &str, bool)] = &[
 /// The host groups are the same, or not.
 fn assert_same_hosts(rt: &impl Abort, mapping: &Mapping<Global>) -> Result<(), Fail> {
     for (name, other, want) in SAME_HOSTS {
-        assert!(rt; are_same_hosts(mapping, name, other)? == *want, "{name}");
+        assert!(rt; are_same_hosts(mapping, name, other)? == *want);
     }
     Ok(())
 }

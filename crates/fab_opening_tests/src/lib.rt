@@ -9,6 +9,12 @@ mod edits;
 #[cfg(test)]
 mod lines;
 #[cfg(test)]
+mod orders;
+#[cfg(test)]
+mod plan_lines;
+#[cfg(test)]
+mod plans;
+#[cfg(test)]
 mod records;
 #[cfg(test)]
 mod stock;

@@ -13,7 +13,7 @@ use std::test::Fail;
 const ROWS: usize = 20;
 
 /// The rows of the configuration, in their order.
-pub const CONFIG: [Line; 16] = [
+pub const CONFIG: &[Line] = &[
     Line::ActiveSet(A, "s1"),
     Line::NoActiveSet(B),
     Line::DefaultZone(A, false),
@@ -33,7 +33,7 @@ pub const CONFIG: [Line; 16] = [
 ];
 
 /// What the activation changed.
-const CHANGES: [(Sign, Line); 14] = [
+const CHANGES: &[(Sign, Line)] = &[
     (Sign::Taken, Line::NoActiveSet(A)),
     (Sign::Added, Line::ActiveSet(A, "s1")),
     (Sign::Added, Line::Alias("disk", FIRST_TARGET)),
@@ -62,7 +62,7 @@ fn put(rows: &mut [ConfigRow], lines: &[Line]) -> Result<(), Fail> {
 pub fn config_rows(alloc: Global) -> Result<Vec<ConfigRow, Global>, Fail> {
     let last = row(Line::Unit("g1", 0, "v1"))?;
     let mut rows = [last; ROWS];
-    put(&mut rows, &CONFIG)?;
+    put(&mut rows, CONFIG)?;
     Ok(rows.to_vec(alloc)?)
 }
 
@@ -77,7 +77,7 @@ pub fn undo_row(plan: Name, sign: Sign, line: Line) -> Result<UndoRow, Fail> {
 
 /// Puts the changed rows at the beginning.
 fn put_changes(rows: &mut [UndoRow], plan: Name) -> Result<(), Fail> {
-    for (place, change) in rows.iter_mut().zip(&CHANGES) {
+    for (place, change) in rows.iter_mut().zip(CHANGES) {
         *place = undo_row(plan, change.0, change.1)?;
     }
     Ok(())

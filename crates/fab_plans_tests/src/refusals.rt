@@ -31,14 +31,14 @@ enum Why {
 type Case = (&'static str, usize, Why);
 
 /// Plans on a new configuration.
-const ON_NEW: [Case; 3] = [
+const ON_NEW: &[Case] = &[
     (NO_ZONE, 3, Why::Unknown("z9")),
     (FIFTH, 5, Why::Unknown("z9")),
     ("deactivate A\nactivate A s1\n", 2, Why::Unknown("s1")),
 ];
 
 /// Plans on the configuration after the first plan.
-const ON_FIRST: [Case; 32] = [
+const ON_FIRST: &[Case] = &[
     (CLASH, 0, Why::Clash("db1", FIRST_TARGET, 0)),
     (FIFTH, 5, Why::Unknown("z9")),
     ("alias.drop A none\n", 1, Why::Unknown("none")),
@@ -156,10 +156,10 @@ fn are_refused(
 /// groups there are.
 type Table = (&'static [Case], &'static [Way], Link, [usize; 5]);
 
-const NEW: Table = (&ON_NEW, &[], Link::Apart, [0, 0, 0, 0, 0]);
+const NEW: Table = (ON_NEW, &[], Link::Apart, [0, 0, 0, 0, 0]);
 
 const AFTER_FIRST: Table = (
-    &ON_FIRST,
+    ON_FIRST,
     &[(FIRST_INITIATOR, FIRST_TARGET, "v1", 0)],
     Link::Zone("z1"),
     [1, 1, 1, 1, 1],
@@ -224,7 +224,7 @@ const SETS: (&str, &str, &str) = ("set.put A s", " z\nalias.put A a", " dp=1,1\n
 /// Host groups of one storage group.
 const SERVED: (&str, &str, &str) = ("hg.put k", " blue db1\nsg.host g k", "\n");
 
-const LONG: [Long; 4] = [
+const LONG: &[Long] = &[
     ("zone.put A z dp=1,1\n", SETS, 64, None),
     (
         "zone.put A z dp=1,1\n",
@@ -298,7 +298,7 @@ fn is_limited(alloc: Global, case: Long) -> Result<bool, Fail> {
 
 #[test]
 fn limits(rt: HostRuntime) -> Result<(), Fail> {
-    for case in LONG {
+    for &case in LONG {
         assert!(rt; is_limited(rt.alloc(), case)?);
     }
     Ok(())

@@ -19,7 +19,7 @@ type Line = (&'static str, &'static [Way], (u64, u64), Link);
 /// The path of the first host to the first volume.
 const ONE: Way = (FIRST_INITIATOR, FIRST_TARGET, "v1", 0);
 
-const ROW_5: [Line; 1] = [(
+const ROW_5: &[Line] = &[(
     FIRST,
     &[ONE],
     (FIRST_INITIATOR, FIRST_TARGET),
@@ -27,7 +27,7 @@ const ROW_5: [Line; 1] = [(
 )];
 
 /// The active set is a copy.
-const ROW_6: [Line; 3] = [
+const ROW_6: &[Line] = &[
     (
         FIRST,
         &[ONE],
@@ -48,7 +48,7 @@ const ROW_6: [Line; 3] = [
     ),
 ];
 
-const ROW_7: [Line; 3] = [
+const ROW_7: &[Line] = &[
     (
         FIRST,
         &[ONE],
@@ -70,7 +70,7 @@ const ROW_7: [Line; 3] = [
 ];
 
 /// A port in a zone is not in the default zone.
-const ROW_8: [Line; 3] = [
+const ROW_8: &[Line] = &[
     (FIRST, &[ONE], (FIRST_INITIATOR, SECOND_TARGET), Link::Apart),
     (
         PERMIT,
@@ -87,7 +87,7 @@ const ROW_8: [Line; 3] = [
 ];
 
 /// A place stands for each port that is logged in there, and a node for each of its ports.
-const ROW_9: [Line; 3] = [
+const ROW_9: &[Line] = &[
     (FIRST, &[ONE], (SECOND_INITIATOR, FIRST_TARGET), Link::Apart),
     (
         SECOND_HOST,
@@ -103,7 +103,7 @@ const ROW_9: [Line; 3] = [
 ];
 
 /// A clash that stands between steps refuses nothing.
-const ROW_14: [Line; 2] = [
+const ROW_14: &[Line] = &[
     (
         FIRST,
         &[ONE],
@@ -165,36 +165,36 @@ fn are_right(alloc: Global, lines: &[Line]) -> Result<bool, Fail> {
 
 #[test]
 fn row_5(rt: HostRuntime) -> Result<(), Fail> {
-    assert!(rt; are_right(rt.alloc(), &ROW_5)?);
+    assert!(rt; are_right(rt.alloc(), ROW_5)?);
     Ok(())
 }
 
 #[test]
 fn row_6(rt: HostRuntime) -> Result<(), Fail> {
-    assert!(rt; are_right(rt.alloc(), &ROW_6)?);
+    assert!(rt; are_right(rt.alloc(), ROW_6)?);
     Ok(())
 }
 
 #[test]
 fn row_7(rt: HostRuntime) -> Result<(), Fail> {
-    assert!(rt; are_right(rt.alloc(), &ROW_7)?);
+    assert!(rt; are_right(rt.alloc(), ROW_7)?);
     Ok(())
 }
 
 #[test]
 fn row_8(rt: HostRuntime) -> Result<(), Fail> {
-    assert!(rt; are_right(rt.alloc(), &ROW_8)?);
+    assert!(rt; are_right(rt.alloc(), ROW_8)?);
     Ok(())
 }
 
 #[test]
 fn row_9(rt: HostRuntime) -> Result<(), Fail> {
-    assert!(rt; are_right(rt.alloc(), &ROW_9)?);
+    assert!(rt; are_right(rt.alloc(), ROW_9)?);
     Ok(())
 }
 
 #[test]
 fn row_14(rt: HostRuntime) -> Result<(), Fail> {
-    assert!(rt; are_right(rt.alloc(), &ROW_14)?);
+    assert!(rt; are_right(rt.alloc(), ROW_14)?);
     Ok(())
 }

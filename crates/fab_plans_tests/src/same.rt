@@ -113,7 +113,7 @@ fn are_equal(alloc: Global, texts: (&str, &str)) -> Result<bool, Fail> {
 #[test]
 fn each_step_is_the_same_as_itself_alone(rt: HostRuntime) -> Result<(), Fail> {
     for (at, text) in DIFFERENT.iter().enumerate() {
-        assert!(rt; is_different(rt.alloc(), at, text)?, "{text}");
+        assert!(rt; is_different(rt.alloc(), at, text)?);
     }
     Ok(())
 }
@@ -121,7 +121,7 @@ fn each_step_is_the_same_as_itself_alone(rt: HostRuntime) -> Result<(), Fail> {
 #[test]
 fn spelling_makes_no_difference(rt: HostRuntime) -> Result<(), Fail> {
     for texts in EQUAL {
-        assert!(rt; are_equal(rt.alloc(), *texts)?, "{}", texts.0);
+        assert!(rt; are_equal(rt.alloc(), *texts)?);
     }
     Ok(())
 }

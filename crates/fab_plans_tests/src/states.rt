@@ -14,7 +14,7 @@ use std::test::Fail;
 type Line = (&'static str, u64, bool, &'static [(&'static str, u64)]);
 
 /// The author does not count, and the last approval of a caller does.
-const APPROVALS: [Line; 6] = [
+const APPROVALS: &[Line] = &[
     ("ada", 6, false, &[]),
     ("bob", 6, true, &[("bob", 6)]),
     ("ada", 7, false, &[("bob", 6)]),
@@ -79,7 +79,7 @@ fn is_answered(staged: &mut Staged<Global>, line: Line) -> Result<bool, Fail> {
 
 /// Whether each approval is answered as the table says.
 fn are_answered(staged: &mut Staged<Global>) -> Result<bool, Fail> {
-    for line in APPROVALS {
+    for &line in APPROVALS {
         if !is_answered(staged, line)? {
             return Ok(false);
         }

@@ -29,7 +29,7 @@ pub const SECOND_TARGET: u64 = 0x5000_0000_0000_0002;
 type Row = (u64, u64, u8, u16);
 
 /// Three initiators, the second and the third at one place, and two targets of one node.
-const PORTS: [Row; 5] = [
+const PORTS: &[Row] = &[
     (FIRST_INITIATOR, 0x2000_0000_0000_0001, 1, 1),
     (SECOND_INITIATOR, 0x2000_0000_0000_0002, 12, 5),
     (THIRD_INITIATOR, 0x2000_0000_0000_0003, 12, 5),
@@ -38,7 +38,7 @@ const PORTS: [Row; 5] = [
 ];
 
 /// Volumes: name, array, tenant.
-const VOLUMES: [(&str, &str, &str); 3] = [
+const VOLUMES: &[(&str, &str, &str)] = &[
     ("v1", "arr1", "blue"),
     ("v2", "arr1", "green"),
     ("v3", "arr2", "blue"),
@@ -75,7 +75,7 @@ fn listed(row: Row) -> Result<PortRow, Fail> {
 /// The port list.
 fn port_list(alloc: Global) -> Result<Vec<PortRow, Global>, Fail> {
     let mut rows = Vec::new(alloc);
-    for row in PORTS {
+    for &row in PORTS {
         rows.push(listed(row)?)?;
     }
     Ok(rows)
@@ -127,7 +127,7 @@ fn volume(inventory: &mut Inventory<Global>, row: (&str, &str, &str)) -> Result<
 }
 
 fn volumes(inventory: &mut Inventory<Global>) -> Result<(), Fail> {
-    for row in VOLUMES {
+    for &row in VOLUMES {
         volume(inventory, row)?;
     }
     Ok(())

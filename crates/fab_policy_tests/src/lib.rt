@@ -1,5 +1,16 @@
-//! Tests of verdicts. Nothing here is part of the product.
+//! Tests of policies: their texts, what no clause says of reading them, how a fault is told, and
+//! verdicts. Nothing here is part of the product.
 #![tactic(auto)]
 
+#[cfg(test)]
+mod example;
+#[cfg(test)]
+mod faults;
+#[cfg(test)]
+mod sizes;
+#[cfg(test)]
+mod told;
+#[cfg(test)]
+mod values;
 #[cfg(test)]
 mod verdicts;

@@ -58,7 +58,7 @@ fn is_faulty(rt: &HostRuntime, faulty: &Faulty) -> Result<(), Fail> {
 
 /// The answers to a question and to a plan that is not there, whose writer fails at its first write or
 /// whose reader fails at its first read; and no moment, which is told first, but where one is given.
-const FAULTS: [Faulty; 8] = [
+const FAULTS: &[Faulty] = &[
     Faulty {
         words: "sandesk once",
         moment: Some(0),
@@ -139,7 +139,7 @@ const MADE: &[Run] = &[(
 fn streams_and_the_clock_fail(rt: HostRuntime) -> Result<(), Fail> {
     fs::write(&rt, "fault.toml", TRIAL_POLICY)?;
     are_run(&rt, MADE)?;
-    for faulty in &FAULTS {
+    for faulty in FAULTS {
         is_faulty(&rt, faulty)?;
     }
     Ok(())
@@ -149,7 +149,7 @@ fn streams_and_the_clock_fail(rt: HostRuntime) -> Result<(), Fail> {
 type Filled = (&'static str, &'static str, u8, usize);
 
 /// Port lists and policies with as many bytes as they may have, and with one more.
-const FILES: [Filled; 4] = [
+const FILES: &[Filled] = &[
     ("most.csv", "", b'a', 1_048_576),
     ("more.csv", "", b'a', 1_048_577),
     ("most.toml", TRIAL_POLICY, b'\n', 1_048_576),
@@ -201,7 +201,7 @@ const SIZES: &[Run] = &[
 
 #[test]
 fn files_are_limited(rt: HostRuntime) -> Result<(), Fail> {
-    for file in &FILES {
+    for file in FILES {
         fill(&rt, file)?;
     }
     are_run(&rt, SIZES)

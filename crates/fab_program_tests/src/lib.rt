@@ -1,7 +1,17 @@
-//! Tests of the program `sandesk`, by calls of `run`. Nothing here is part of the product.
+//! Tests of the program `sandesk` by calls of `run`; and want of memory under a desk that is asked over
+//! the wire, one of whose requests for memory is refused, the first, then the next, until a request
+//! meets no refusal. Nothing here is part of the product.
 #![tactic(auto)]
 
 #[cfg(test)]
+mod answers;
+#[cfg(test)]
+mod desks;
+#[cfg(test)]
 mod faults;
 #[cfg(test)]
+mod growth;
+#[cfg(test)]
 mod runs;
+#[cfg(test)]
+mod tables;

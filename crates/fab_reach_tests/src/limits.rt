@@ -12,7 +12,7 @@ use std::alloc::Global;
 use std::test::Fail;
 
 /// Names of volumes.
-const VOLUMES: [&str; 33] = [
+const VOLUMES: &[&str] = &[
     "v00", "v01", "v02", "v03", "v04", "v05", "v06", "v07", "v08", "v09", "v10", "v11", "v12",
     "v13", "v14", "v15", "v16", "v17", "v18", "v19", "v20", "v21", "v22", "v23", "v24", "v25",
     "v26", "v27", "v28", "v29", "v30", "v31", "v32",
@@ -73,7 +73,7 @@ fn volume(inventory: &mut Inventory<Global>, volume: &str) -> Result<(), Fail> {
 
 /// All volumes.
 fn volumes(inventory: &mut Inventory<Global>) -> Result<(), Fail> {
-    for name in VOLUMES {
+    for &name in VOLUMES {
         volume(inventory, name)?;
     }
     Ok(())
@@ -208,7 +208,7 @@ fn all(
 /// limit.
 type Case = (u64, u16, usize, Option<usize>);
 
-const CASES: [Case; 3] = [
+const CASES: &[Case] = &[
     (64, 32, 65_536, Some(65_536)),
     (62, 33, 65_472, Some(65_472)),
     (63, 33, 66_528, None),
@@ -285,7 +285,7 @@ fn is_right(alloc: Global, case: Case) -> Result<bool, Fail> {
 
 #[test]
 fn paths_limit(rt: HostRuntime) -> Result<(), Fail> {
-    for case in CASES {
+    for &case in CASES {
         assert!(rt; is_right(rt.alloc(), case)?);
     }
     Ok(())
@@ -303,7 +303,7 @@ enum Turn {
 }
 
 /// Turns, each with whether few paths are offered then. Zones are not asked.
-const TURNS: [(Turn, bool); 3] = [(Turn::Hide, true), (Turn::Part, true), (Turn::Deny, false)];
+const TURNS: &[(Turn, bool)] = &[(Turn::Hide, true), (Turn::Part, true), (Turn::Deny, false)];
 
 /// The group is hidden.
 fn hide(mapping: &mut Mapping<Global>) -> Result<(), Fail> {
@@ -360,7 +360,7 @@ fn is_bare_turned(alloc: Global, case: (Turn, bool)) -> Result<bool, Fail> {
 
 #[test]
 fn paths_offered(rt: HostRuntime) -> Result<(), Fail> {
-    for case in TURNS {
+    for &case in TURNS {
         assert!(rt; is_bare_turned(rt.alloc(), case)?);
     }
     Ok(())

@@ -16,14 +16,14 @@ use std::test::Fail;
 type Line = (Act, Ways);
 
 /// An alias changes, and nothing active does; then the set is activated anew.
-const ALIAS: [Line; 3] = [
+const ALIAS: &[Line] = &[
     (Act::First, Ways::One),
     (Act::Alias(DISK, SECOND_TARGET), Ways::One),
     (Act::Activate(S1), Ways::None),
 ];
 
 /// A second zone, and then that one alone.
-const SECOND_ZONE: [Line; 6] = [
+const SECOND_ZONE: &[Line] = &[
     (Act::First, Ways::One),
     (
         Act::Zone(Z2, Item::Port(FIRST_INITIATOR), Item::Port(FIRST_TARGET)),
@@ -36,7 +36,7 @@ const SECOND_ZONE: [Line; 6] = [
 ];
 
 /// The default zone has the second target, but not the initiator; then it has both.
-const DEFAULT_ZONE: [Line; 5] = [
+const DEFAULT_ZONE: &[Line] = &[
     (Act::First, Ways::One),
     (Act::Permit, Ways::One),
     (Act::Target(G1, SECOND_TARGET), Ways::One),
@@ -48,7 +48,7 @@ const DEFAULT_ZONE: [Line; 5] = [
 ];
 
 /// A second host, by a zone of a place.
-const SECOND_HOST: [Line; 4] = [
+const SECOND_HOST: &[Line] = &[
     (Act::First, Ways::One),
     (Act::Second, Ways::Both),
     (Act::Copied, Ways::Both),
@@ -56,7 +56,7 @@ const SECOND_HOST: [Line; 4] = [
 ];
 
 /// A second group of the first host gives another volume.
-const SECOND_GROUP: [Line; 6] = [
+const SECOND_GROUP: &[Line] = &[
     (Act::First, Ways::One),
     (Act::Group(G3, HOSTS1), Ways::One),
     (Act::Target(G3, FIRST_TARGET), Ways::One),
@@ -66,7 +66,7 @@ const SECOND_GROUP: [Line; 6] = [
 ];
 
 /// A hidden group gives no path.
-const HIDDEN: [Line; 4] = [
+const HIDDEN: &[Line] = &[
     (Act::First, Ways::One),
     (Act::Hide(G1), Ways::None),
     (Act::Map(G1, 5, V2), Ways::None),
@@ -74,7 +74,7 @@ const HIDDEN: [Line; 4] = [
 ];
 
 /// Two groups give one path once, until none does.
-const TWO_GROUPS: [Line; 7] = [
+const TWO_GROUPS: &[Line] = &[
     (Act::First, Ways::One),
     (Act::Group(G3, HOSTS1), Ways::One),
     (Act::Target(G3, FIRST_TARGET), Ways::One),
@@ -85,14 +85,14 @@ const TWO_GROUPS: [Line; 7] = [
 ];
 
 /// The order is by volume, and then by unit.
-const ORDER: [Line; 3] = [
+const ORDER: &[Line] = &[
     (Act::First, Ways::One),
     (Act::Map(G1, 5, V1), Ways::TwoUnits),
     (Act::Map(G1, 1, V2), Ways::Units),
 ];
 
 /// No zone joins the second host, and its group serves no other.
-const APART: [Line; 6] = [
+const APART: &[Line] = &[
     (Act::First, Ways::One),
     (Act::Hosts(HOSTS2, DB2), Ways::One),
     (Act::Group(G2, HOSTS2), Ways::One),
@@ -160,55 +160,55 @@ fn are_right(alloc: Global, lines: &[Line]) -> Result<bool, Fail> {
 
 #[test]
 fn alias_and_active_set(rt: HostRuntime) -> Result<(), Fail> {
-    assert!(rt; are_right(rt.alloc(), &ALIAS)?);
+    assert!(rt; are_right(rt.alloc(), ALIAS)?);
     Ok(())
 }
 
 #[test]
 fn second_zone(rt: HostRuntime) -> Result<(), Fail> {
-    assert!(rt; are_right(rt.alloc(), &SECOND_ZONE)?);
+    assert!(rt; are_right(rt.alloc(), SECOND_ZONE)?);
     Ok(())
 }
 
 #[test]
 fn default_zone(rt: HostRuntime) -> Result<(), Fail> {
-    assert!(rt; are_right(rt.alloc(), &DEFAULT_ZONE)?);
+    assert!(rt; are_right(rt.alloc(), DEFAULT_ZONE)?);
     Ok(())
 }
 
 #[test]
 fn second_host(rt: HostRuntime) -> Result<(), Fail> {
-    assert!(rt; are_right(rt.alloc(), &SECOND_HOST)?);
+    assert!(rt; are_right(rt.alloc(), SECOND_HOST)?);
     Ok(())
 }
 
 #[test]
 fn second_group(rt: HostRuntime) -> Result<(), Fail> {
-    assert!(rt; are_right(rt.alloc(), &SECOND_GROUP)?);
+    assert!(rt; are_right(rt.alloc(), SECOND_GROUP)?);
     Ok(())
 }
 
 #[test]
 fn hidden_group(rt: HostRuntime) -> Result<(), Fail> {
-    assert!(rt; are_right(rt.alloc(), &HIDDEN)?);
+    assert!(rt; are_right(rt.alloc(), HIDDEN)?);
     Ok(())
 }
 
 #[test]
 fn one_path_of_two_groups(rt: HostRuntime) -> Result<(), Fail> {
-    assert!(rt; are_right(rt.alloc(), &TWO_GROUPS)?);
+    assert!(rt; are_right(rt.alloc(), TWO_GROUPS)?);
     Ok(())
 }
 
 #[test]
 fn order_of_paths(rt: HostRuntime) -> Result<(), Fail> {
-    assert!(rt; are_right(rt.alloc(), &ORDER)?);
+    assert!(rt; are_right(rt.alloc(), ORDER)?);
     Ok(())
 }
 
 #[test]
 fn group_of_another_host(rt: HostRuntime) -> Result<(), Fail> {
-    assert!(rt; are_right(rt.alloc(), &APART)?);
+    assert!(rt; are_right(rt.alloc(), APART)?);
     Ok(())
 }
 
@@ -225,7 +225,7 @@ enum Move {
 
 /// The initiator moves to the other fabric, which permits, and back; it is gone from all; what
 /// is gone from the other fabric touches no port of this one.
-const MOVES: [(Move, Ways); 6] = [
+const MOVES: &[(Move, Ways)] = &[
     (Move::Stays, Ways::One),
     (Move::Alone(Fabric::B, FIRST_INITIATOR), Ways::None),
     (Move::Listed(5), Ways::One),
@@ -290,6 +290,6 @@ fn are_moved(alloc: Global, moves: &[(Move, Ways)]) -> Result<bool, Fail> {
 
 #[test]
 fn ports_that_move(rt: HostRuntime) -> Result<(), Fail> {
-    assert!(rt; are_moved(rt.alloc(), &MOVES)?);
+    assert!(rt; are_moved(rt.alloc(), MOVES)?);
     Ok(())
 }

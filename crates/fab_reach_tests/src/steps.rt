@@ -206,7 +206,7 @@ fn step(config: &mut Config<Global>, inventory: &Inventory<Global>, act: Act) ->
 }
 
 /// What gives the first host the first volume.
-const FIRST: [Act; 9] = [
+const FIRST: &[Act] = &[
     Act::Alias(DISK, FIRST_TARGET),
     Act::Zone(Z1, Item::Port(FIRST_INITIATOR), Item::Alias(DISK)),
     Act::Set(S1, Z1, Z1),
@@ -219,7 +219,7 @@ const FIRST: [Act; 9] = [
 ];
 
 /// What gives the second host the second volume.
-const SECOND: [Act; 8] = [
+const SECOND: &[Act] = &[
     Act::Zone(Z3, Item::Place(12, 5), Item::Port(FIRST_TARGET)),
     Act::Set(S1, Z1, Z3),
     Act::Activate(S1),
@@ -231,14 +231,14 @@ const SECOND: [Act; 8] = [
 ];
 
 fn first(config: &mut Config<Global>, inventory: &Inventory<Global>) -> Result<(), Fail> {
-    for act in FIRST {
+    for &act in FIRST {
         step(config, inventory, act)?;
     }
     Ok(())
 }
 
 fn second(config: &mut Config<Global>, inventory: &Inventory<Global>) -> Result<(), Fail> {
-    for act in SECOND {
+    for &act in SECOND {
         step(config, inventory, act)?;
     }
     Ok(())

@@ -7,7 +7,7 @@ use std::test::Fail;
 
 /// Ports, each with its node and its place: three initiators, the second and the third at one
 /// place, and two targets of one node.
-const PORTS: [(u64, u64, u8, u16); 5] = [
+const PORTS: &[(u64, u64, u8, u16)] = &[
     (0x1000_0000_0000_0001, 0x2000_0000_0000_0001, 1, 1),
     (0x1000_0000_0000_0002, 0x2000_0000_0000_0002, 12, 5),
     (0x1000_0000_0000_0003, 0x2000_0000_0000_0003, 12, 5),
@@ -31,7 +31,7 @@ pub const FIRST_TARGET: usize = 3;
 pub const SECOND_TARGET: usize = 4;
 
 /// Tenants, hosts, the array, and the volumes; then names of what a configuration has.
-const NAMES: [&str; 19] = [
+const NAMES: &[&str] = &[
     "blue", "green", "db1", "db2", "arr1", "v1", "v2", "disk", "z1", "z2", "z3", "s1", "s2",
     "hosts1", "hosts2", "g1", "g2", "g3", "db9",
 ];

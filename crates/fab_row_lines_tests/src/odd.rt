@@ -14,7 +14,7 @@ use std::test::Fail;
 const ODD_PATH: &str = "paths|db1|A|1000000000000001|5000000000000001|v1|-1";
 
 /// No line and a line that shows no row, of each table, and the table that is told of it.
-const ODD: [(Option<&str>, Option<Table>); 13] = [
+const ODD: &[(Option<&str>, Option<Table>)] = &[
     (None, None),
     (Some("meta|schema|01"), Some(Table::Meta)),
     (
@@ -40,7 +40,7 @@ const ODD: [(Option<&str>, Option<Table>); 13] = [
 ];
 
 /// A line that is left out of a world, and the table that is told.
-const MISSING: [(usize, Table); 5] = [
+const MISSING: &[(usize, Table)] = &[
     (0, Table::Meta),
     (3, Table::Meta),
     (14, Table::Ports),
@@ -96,16 +96,16 @@ fn told(alloc: Global, without: Option<usize>, more: Option<&str>) -> Result<Opt
 
 #[test]
 fn odd_lines_are_told(rt: HostRuntime) -> Result<(), Fail> {
-    for (more, table) in ODD {
-        assert_eq!(rt; told(rt.alloc(), None, more)?, table);
+    for &(more, table) in ODD {
+        assert!(rt; told(rt.alloc(), None, more)? == table);
     }
     Ok(())
 }
 
 #[test]
 fn missing_lines_are_told(rt: HostRuntime) -> Result<(), Fail> {
-    for (place, table) in MISSING {
-        assert_eq!(rt; told(rt.alloc(), Some(place), None)?, Some(table));
+    for &(place, table) in MISSING {
+        assert!(rt; told(rt.alloc(), Some(place), None)? == Some(table));
     }
     Ok(())
 }
@@ -186,7 +186,7 @@ fn shown(alloc: Global, unit: u16, bytes: u64, revision: u64) -> Result<usize, F
 }
 
 /// Units, bytes and revisions, and how many of four rows with them are shown.
-const NUMBERS: [(u16, u64, u64, usize); 5] = [
+const NUMBERS: &[(u16, u64, u64, usize)] = &[
     (16383, MOST, MOST, 4),
     (16384, MOST, MOST, 3),
     (16383, MOST + 1, MOST, 3),
@@ -196,14 +196,14 @@ const NUMBERS: [(u16, u64, u64, usize); 5] = [
 
 #[test]
 fn numbers_that_no_database_keeps_are_not_shown(rt: HostRuntime) -> Result<(), Fail> {
-    for (unit, bytes, revision, lines) in NUMBERS {
-        assert_eq!(rt; shown(rt.alloc(), unit, bytes, revision)?, lines);
+    for &(unit, bytes, revision, lines) in NUMBERS {
+        assert!(rt; shown(rt.alloc(), unit, bytes, revision)? == lines);
     }
     Ok(())
 }
 
 /// Lines of paths, one of them twice.
-const PATHS: [&str; 4] = [
+const PATHS: &[&str] = &[
     "paths|db1|B|1000000000000001|5000000000000001|v1|2",
     "paths|db1|A|1000000000000001|5000000000000001|v1|1",
     "paths|db1|A|1000000000000001|5000000000000001|v1|0",
@@ -214,7 +214,7 @@ const PATHS: [&str; 4] = [
 const PORT: u64 = 0x1000_0000_0000_0001;
 
 /// The units to which they lead, in order.
-const UNITS: [u16; 3] = [0, 1, 2];
+const UNITS: &[u16] = &[0, 1, 2];
 
 /// Whether the paths of the lines lead from this port to the units, or none where a line shows no
 /// path.
@@ -223,7 +223,7 @@ fn lead(alloc: Global, lines: &TableLines, port: Wwn) -> Result<Option<bool>, Fa
         return Ok(None);
     };
     let mut are_alike = paths.len() == UNITS.len();
-    for (path, unit) in paths.iter().zip(&UNITS) {
+    for (path, unit) in paths.iter().zip(UNITS) {
         are_alike = are_alike && path.initiator == port && path.unit == *unit;
     }
     Ok(Some(are_alike))
@@ -236,18 +236,18 @@ fn texts_lead(alloc: Global, texts: &[&str]) -> Result<Option<bool>, Fail> {
 }
 
 /// One of those lines, and one that shows no path.
-const ODD_PATHS: [&str; 2] = [
+const ODD_PATHS: &[&str] = &[
     "paths|db1|B|1000000000000001|5000000000000001|v1|2",
     ODD_PATH,
 ];
 
 /// Lines of paths, and whether they lead to the units, where each shows a path.
-const LISTS: [(&[&str], Option<bool>); 2] = [(&PATHS, Some(true)), (&ODD_PATHS, None)];
+const LISTS: &[(&[&str], Option<bool>)] = &[(PATHS, Some(true)), (ODD_PATHS, None)];
 
 #[test]
 fn paths_are_listed_once_and_in_order(rt: HostRuntime) -> Result<(), Fail> {
-    for (texts, are_alike) in LISTS {
-        assert_eq!(rt; texts_lead(rt.alloc(), texts)?, are_alike);
+    for &(texts, are_alike) in LISTS {
+        assert!(rt; texts_lead(rt.alloc(), texts)? == are_alike);
     }
     Ok(())
 }

@@ -11,7 +11,7 @@ use std::alloc::Global;
 use std::test::Fail;
 
 /// The lines of a world in which one plan is active.
-pub const WORLD: [&str; 46] = [
+pub const WORLD: &[&str] = &[
     "meta|schema|1",
     "meta|revision|7",
     "meta|active.A|s1",

@@ -83,7 +83,7 @@ fn world_of(alloc: Global, lines: &TableLines) -> Result<World<Global>, Fail> {
 
 /// The world of the texts.
 fn world(alloc: Global) -> Result<World<Global>, Fail> {
-    let lines = lines(alloc, &WORLD)?;
+    let lines = lines(alloc, WORLD)?;
     world_of(alloc, &lines)
 }
 

@@ -1,7 +1,13 @@
-//! Tests of rows: of a configuration's rows, of differences, and of a change undone. Nothing here is
-//! part of the product.
+//! Tests of rows: of a configuration's rows, of differences, of a change undone, and of inventories and
+//! configurations that are made of rows, sound or damaged. Nothing here is part of the product.
 #![tactic(auto)]
 
+#[cfg(test)]
+mod configs;
+#[cfg(test)]
+mod earlier;
+#[cfg(test)]
+mod inventories;
 #[cfg(test)]
 mod lines;
 #[cfg(test)]

@@ -10,7 +10,7 @@ use std::alloc::Global;
 use std::test::Fail;
 
 /// The rows of a new configuration.
-const NEW: [Line; 4] = [
+const NEW: &[Line] = &[
     Line::NoActiveSet(A),
     Line::NoActiveSet(B),
     Line::DefaultZone(A, false),
@@ -18,7 +18,7 @@ const NEW: [Line; 4] = [
 ];
 
 /// Those after the plan.
-const PLANNED: [Line; 16] = [
+const PLANNED: &[Line] = &[
     Line::ActiveSet(A, "s1"),
     Line::NoActiveSet(B),
     Line::DefaultZone(A, false),
@@ -38,10 +38,10 @@ const PLANNED: [Line; 16] = [
 ];
 
 /// What the plan takes away.
-const TAKEN: [Line; 1] = [Line::NoActiveSet(A)];
+const TAKEN: &[Line] = &[Line::NoActiveSet(A)];
 
 /// What it adds.
-const ADDED: [Line; 13] = [
+const ADDED: &[Line] = &[
     Line::ActiveSet(A, "s1"),
     Line::Alias("disk", TP1),
     Line::ZonePort("z1", I1),
@@ -87,7 +87,7 @@ fn are_these(rows: Vec<ConfigRow, Global>, lines: &[Line]) -> Result<bool, Fail>
 }
 
 /// Configurations and their rows.
-const LISTS: [(World, &'static [Line]); 2] = [(World::New, &NEW), (World::Planned, &PLANNED)];
+const LISTS: &[(World, &'static [Line])] = &[(World::New, NEW), (World::Planned, PLANNED)];
 
 /// Whether the configuration has the rows of the lines and no other.
 fn has_rows(alloc: Global, case: (World, &[Line])) -> Result<bool, Fail> {
@@ -97,7 +97,7 @@ fn has_rows(alloc: Global, case: (World, &[Line])) -> Result<bool, Fail> {
 
 #[test]
 fn rows_are_listed(rt: HostRuntime) -> Result<(), Fail> {
-    for case in LISTS {
+    for &case in LISTS {
         assert!(rt; has_rows(rt.alloc(), case)?);
     }
     Ok(())
@@ -107,9 +107,9 @@ fn rows_are_listed(rt: HostRuntime) -> Result<(), Fail> {
 type Change = (World, World, &'static [Line], &'static [Line]);
 
 /// The last is that of a storage group that is exposed.
-const CHANGES: [Change; 4] = [
-    (World::New, World::Planned, &TAKEN, &ADDED),
-    (World::Planned, World::New, &ADDED, &TAKEN),
+const CHANGES: &[Change] = &[
+    (World::New, World::Planned, TAKEN, ADDED),
+    (World::Planned, World::New, ADDED, TAKEN),
     (World::Planned, World::Planned, &[], &[]),
     (
         World::Hidden,
@@ -155,16 +155,16 @@ fn differ(alloc: Global, case: Change) -> Result<bool, Fail> {
 
 #[test]
 fn differences_are_rows(rt: HostRuntime) -> Result<(), Fail> {
-    for case in CHANGES {
+    for &case in CHANGES {
         assert!(rt; differ(rt.alloc(), case)?);
     }
     Ok(())
 }
 
 /// A configuration, another, and the rows of the first.
-const UNDONE: [(World, World, &'static [Line]); 2] = [
-    (World::New, World::Planned, &NEW),
-    (World::Planned, World::New, &PLANNED),
+const UNDONE: &[(World, World, &'static [Line])] = &[
+    (World::New, World::Planned, NEW),
+    (World::Planned, World::New, PLANNED),
 ];
 
 /// The rows, with a change undone.
@@ -207,7 +207,7 @@ fn is_undone(alloc: Global, case: (World, World, &[Line])) -> Result<bool, Fail>
 
 #[test]
 fn plan_is_undone(rt: HostRuntime) -> Result<(), Fail> {
-    for case in UNDONE {
+    for &case in UNDONE {
         assert!(rt; is_undone(rt.alloc(), case)?);
     }
     Ok(())

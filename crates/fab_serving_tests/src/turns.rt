@@ -114,10 +114,7 @@ fn two_connections_are_served_in_turn(rt: HostRuntime) -> Result<(), Fail> {
     let log = log_of(&rt, &Ticking::by(0), LONG, &listener, &[None, None])?;
     assert!(rt; is_answered(&rt, one, b"one")?);
     assert!(rt; is_answered(&rt, two, b"two")?);
-    assert_eq!(rt;
-        log.as_str(),
-        "1000 answered 200 0 ms\n1001 answered 200 0 ms\n"
-    );
+    assert!(rt; log.as_str() == "1000 answered 200 0 ms\n1001 answered 200 0 ms\n");
     Ok(())
 }
 
@@ -136,9 +133,9 @@ fn a_halted_server_is_opened_anew_before_the_next(rt: HostRuntime) -> Result<(),
         assert!(rt; is_answered(&rt, stream, b"halted")?);
     }
     assert!(rt; is_answered(&rt, fourth, b"4")?);
-    assert_eq!(rt;
-        log.as_str(),
-        "1000 answered 503 0 ms\n1001 answered 503 0 ms\n1002 answered 503 0 ms\n1003 answered 200 0 ms\n"
+    assert!(rt;
+        log.as_str()
+            == "1000 answered 503 0 ms\n1001 answered 503 0 ms\n1002 answered 503 0 ms\n1003 answered 200 0 ms\n"
     );
     Ok(())
 }
@@ -146,7 +143,7 @@ fn a_halted_server_is_opened_anew_before_the_next(rt: HostRuntime) -> Result<(),
 /// Bytes, how many seconds the clock goes on at each reading, how many milliseconds a connection may
 /// last, and the line. The clock is read as the connection comes and as its time begins, before the
 /// read, before the write and before the flush of what there is to write, and for the line.
-const LINES: [(&[u8], u64, u64, &str); 6] = [
+const LINES: &[(&[u8], u64, u64, &str)] = &[
     (b"a", 1, LONG, "1000 answered 200 5000 ms\n"),
     (b"", 1, LONG, "1000 empty 3000 ms\n"),
     (b"a", 10, 30001, "1000 answered 200 50000 ms\n"),
@@ -157,8 +154,8 @@ const LINES: [(&[u8], u64, u64, &str); 6] = [
 
 #[test]
 fn each_connection_has_its_line(rt: HostRuntime) -> Result<(), Fail> {
-    for (bytes, step, most, line) in LINES {
-        assert_eq!(rt; log_of_one(&rt, bytes, step, most)?.as_str(), line);
+    for &(bytes, step, most, line) in LINES {
+        assert!(rt; log_of_one(&rt, bytes, step, most)?.as_str() == line);
     }
     Ok(())
 }
@@ -171,10 +168,7 @@ fn opening_anew_is_no_part_of_a_connections_time(rt: HostRuntime) -> Result<(), 
     let _halting = told_whole(&rt, &listener, b"!")?;
     let _next = told_whole(&rt, &listener, b"a")?;
     let log = log_of(&rt, &Ticking::by(10), 30001, &listener, &[Some(true), None])?;
-    assert_eq!(rt;
-        log.as_str(),
-        "1000 answered 503 50000 ms\n1001 answered 200 60000 ms\n"
-    );
+    assert!(rt; log.as_str() == "1000 answered 503 50000 ms\n1001 answered 200 60000 ms\n");
     Ok(())
 }
 
@@ -206,14 +200,14 @@ fn an_answer_is_not_lost_where_more_is_sent_than_read(rt: HostRuntime) -> Result
 fn serving_ends_with_the_count_the_listener_or_a_clock(rt: HostRuntime) -> Result<(), Fail> {
     let listener = listen(&rt)?;
     listener.set_nonblocking(true)?;
-    assert_eq!(rt; end_of(&rt, &rt, &listener, Some(1), Some(0)), "done");
-    assert_eq!(rt; end_of(&rt, &rt, &listener, Some(1), None), "listener");
+    assert!(rt; end_of(&rt, &rt, &listener, Some(1), Some(0)) == "done");
+    assert!(rt; end_of(&rt, &rt, &listener, Some(1), None) == "listener");
     let _one = told_whole(&rt, &listener, b"1")?;
-    assert_eq!(rt; end_of(&rt, &rt, &listener, None, None), "no clock");
+    assert!(rt; end_of(&rt, &rt, &listener, None, None) == "no clock");
     let _two = told_whole(&rt, &listener, b"2")?;
-    assert_eq!(rt; end_of(&rt, &Broken, &listener, Some(1), None), "no clock");
+    assert!(rt; end_of(&rt, &Broken, &listener, Some(1), None) == "no clock");
     let three = told_whole(&rt, &listener, b"3")?;
-    assert_eq!(rt; end_of(&rt, &rt, &listener, Some(1), Some(1)), "done");
+    assert!(rt; end_of(&rt, &rt, &listener, Some(1), Some(1)) == "done");
     assert!(rt; is_answered(&rt, three, b"3")?);
     Ok(())
 }

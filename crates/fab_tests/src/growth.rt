@@ -151,7 +151,7 @@ fn is_right(alloc: Global, place: usize, turn: Turn) -> Result<bool, Fail> {
 #[test]
 fn refused_growth_parts(rt: HostRuntime) -> Result<(), Fail> {
     for (place, turn) in SCRIPT.iter().enumerate() {
-        assert!(rt; is_right(rt.alloc(), place, *turn)?, "{place}");
+        assert!(rt; is_right(rt.alloc(), place, *turn)?);
     }
     assert!(rt; is_step_right(rt.alloc())?);
     Ok(())

@@ -58,7 +58,7 @@ enum Quiet {
     Joined,
 }
 
-const KINDS: [Quiet; 5] = [
+const KINDS: &[Quiet] = &[
     Quiet::Texts,
     Quiet::Verdicts,
     Quiet::Found,
@@ -107,7 +107,7 @@ fn is_quiet(alloc: Global, policy: &Policy, kind: Quiet) -> Result<bool, Fail> {
 fn no_memory_calls(rt: HostRuntime) -> Result<(), Fail> {
     let policy = policy(rt.alloc())?;
     for (place, kind) in KINDS.iter().enumerate() {
-        assert!(rt; is_quiet(rt.alloc(), &policy, *kind)?, "{place}");
+        assert!(rt; is_quiet(rt.alloc(), &policy, *kind)?);
     }
     assert!(rt; is_taken(rt.alloc())?);
     Ok(())

@@ -32,7 +32,7 @@ pub enum Call {
 pub type Turn = (Call, (usize, usize), bool);
 
 /// The call of each kind, each on what those before it left.
-pub const SCRIPT: [Turn; 26] = [
+pub const SCRIPT: &[Turn] = &[
     (Call::Import, (0, 2), true),
     (Call::PutHolder(Array, "arr1", TARGET), (1, 2), true),
     (Call::PutHolder(Host, "db1", INITIATOR), (1, 2), false),

@@ -13,7 +13,7 @@ enum Kind {
 }
 
 /// Texts, and what is displayed of what they spell.
-const TEXTS: [(Kind, &str, &str); 7] = [
+const TEXTS: &[(Kind, &str, &str)] = &[
     (Kind::Wwn, "0x1000000000000001", "10:00:00:00:00:00:00:01"),
     (Kind::Fabric, "B", "B"),
     (Kind::Place, "012,5", "12,5"),

@@ -49,7 +49,7 @@ fn fate_of(policy: &Policy, token: &str) -> Result<Fate, Fail> {
 }
 
 /// Tokens, and what becomes of who shows them.
-const FATES: [(&str, Fate); 4] = [
+const FATES: &[(&str, Fate)] = &[
     ("t-ada", Fate::Allowed),
     ("t-cyd", Fate::Denied),
     ("t-zed", Fate::Unknown),
@@ -63,7 +63,7 @@ pub fn policy(alloc: Global) -> Result<Policy, Fail> {
 
 /// Whether the policy says so.
 pub fn are_judged(policy: &Policy) -> Result<bool, Fail> {
-    for (token, wanted) in FATES {
+    for &(token, wanted) in FATES {
         if fate_of(policy, token)? != wanted {
             return Ok(false);
         }

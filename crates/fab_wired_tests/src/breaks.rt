@@ -6,7 +6,7 @@ use super::turns::{plays_text, served, serves};
 use fab_exchanges::streams::{Breaking, Slow};
 use fab_exchanges::{exchange_of, turn_of};
 use fab_json::counted::Counted;
-use fab_stores::Store;
+use fab_store::Store;
 use fab_wire::Outcome;
 use std::alloc::{AllocError, Global};
 use std::test::Fail;

@@ -112,7 +112,7 @@ const UNSENT: &[(&str, &str)] = &[
 ];
 
 /// Where they break off: before a byte of the head, and at the last byte of the shortest answer.
-const BREAKS: [usize; 4] = [0, 1, 60, 112];
+const BREAKS: &[usize] = &[0, 1, 60, 112];
 
 /// Each request has acted as its answer would have said.
 fn acts(alloc: Global, k: usize) -> Result<(), Fail> {
@@ -124,7 +124,7 @@ fn acts(alloc: Global, k: usize) -> Result<(), Fail> {
 
 #[test]
 fn unsent_requests_have_acted(rt: HostRuntime) -> Result<(), Fail> {
-    for k in BREAKS {
+    for &k in BREAKS {
         acts(rt.alloc(), k)?;
     }
     Ok(())
@@ -142,7 +142,7 @@ const ACTIVATED_ONCE: &[&str] = &[
 ];
 
 /// Where it breaks off: before the first byte, in the head, in the body, and before the last byte.
-const ACTIVATION_BREAKS: [usize; 4] = [0, 40, 160, 247];
+const ACTIVATION_BREAKS: &[usize] = &[0, 40, 160, 247];
 
 /// The activation has acted as its answer would have said.
 fn activates(alloc: Global, k: usize) -> Result<(), Fail> {
@@ -159,7 +159,7 @@ fn activates(alloc: Global, k: usize) -> Result<(), Fail> {
 
 #[test]
 fn unsent_activation_has_acted(rt: HostRuntime) -> Result<(), Fail> {
-    for k in ACTIVATION_BREAKS {
+    for &k in ACTIVATION_BREAKS {
         activates(rt.alloc(), k)?;
     }
     Ok(())

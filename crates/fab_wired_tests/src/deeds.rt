@@ -7,7 +7,7 @@ use super::stages::sets;
 use super::turns::{plays_all, plays_text, serves_each};
 use super::waiting::{Waiting, serves_list};
 use fab_policy_base::TRIAL_POLICY;
-use fab_stores::Store;
+use fab_store::Store;
 use std::alloc::Global;
 use std::test::Fail;
 

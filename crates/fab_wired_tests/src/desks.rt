@@ -1,10 +1,9 @@
 //! A new desk in memory.
 
-use fab_desk::Desk;
 use fab_policy_base::Policy;
 use fab_port_book::PortBook;
-use fab_store::SqlStore;
-use fab_stores::Store;
+use fab_store::{SqlStore, Store};
+use fab_wire::Desk;
 use sqlite::{Alter, Connection, MemStore};
 use std::alloc::Global;
 use std::test::Fail;

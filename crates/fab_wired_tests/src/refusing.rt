@@ -6,7 +6,7 @@ use super::deeds::{Deed, do_over, does};
 use super::desks::new_tables;
 use super::stages::ROW_1;
 use fab_policy_base::TRIAL_POLICY;
-use fab_stores::{RefusingStore, Store};
+use fab_store::{RefusingStore, Store};
 use std::alloc::Global;
 use std::test::Fail;
 

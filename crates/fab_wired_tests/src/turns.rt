@@ -6,7 +6,7 @@ use super::desks::DeskOver;
 use fab_exchanges::streams::Slow;
 use fab_exchanges::{Turn, exchange_of, turn_of};
 use fab_json::counted::Counted;
-use fab_stores::Store;
+use fab_store::Store;
 use fab_wire::{Outcome, serve_one};
 use fab_wire_base::routes::Routes;
 use std::alloc::Global;

@@ -6,7 +6,7 @@ use super::desks::DeskOver;
 use super::turns::is_wanted;
 use fab_exchanges::streams::{Breaking, Slow};
 use fab_json::counted::Counted;
-use fab_stores::Store;
+use fab_store::Store;
 use fab_wire::Outcome;
 use fab_wire::laws::{Connection, Served, serve_all};
 use fab_wire_base::routes::Routes;

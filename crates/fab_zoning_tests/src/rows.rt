@@ -10,7 +10,7 @@ type Texts = (&'static str, &'static str);
 
 /// Rows as they come, and as they are listed: of no zone, of one zone, and of several zones that
 /// share members, where the order of the zones is not that of the members.
-const LISTED: [(&[Texts], &[Texts]); 4] = [
+const LISTED: &[(&[Texts], &[Texts])] = &[
     (&[], &[]),
     (&[("z1", "dp=1,1")], &[("z1", "dp=1,1")]),
     (
@@ -130,7 +130,7 @@ fn are_listed(alloc: Global, rows: &[Texts], listed: &[Texts]) -> Result<bool, F
 
 #[test]
 fn active_rows_by_zone(rt: HostRuntime) -> Result<(), Fail> {
-    for (rows, listed) in LISTED {
+    for &(rows, listed) in LISTED {
         assert!(rt; are_listed(rt.alloc(), rows, listed)?);
     }
     Ok(())

@@ -12,7 +12,7 @@ use std::test::Fail;
 
 /// Ports: where each is logged in, its N_Port_Name, its Node_Name and its place. Two host ports are
 /// at one place, two targets have one node, and the last is a target seen at the other fabric.
-const PORTS: [(Option<Fabric>, &str, &str, &str); 7] = [
+const PORTS: &[(Option<Fabric>, &str, &str, &str)] = &[
     (
         Some(Fabric::A),
         "1000000000000001",
@@ -115,7 +115,7 @@ enum Want {
 }
 
 /// An active set joins the ports of a zone, and no others.
-const ACTIVE_SET: [(Act, Want); 9] = [
+const ACTIVE_SET: &[(Act, Want)] = &[
     (Act::Joined(I1, TP1), Want::Apart),
     (
         Act::Zone("z1", Item::Port(I1), Item::Place("1,2")),
@@ -131,7 +131,7 @@ const ACTIVE_SET: [(Act, Want); 9] = [
 ];
 
 /// The default zone without an active set, and beside zones.
-const DEFAULT_ZONE: [(Act, Want); 11] = [
+const DEFAULT_ZONE: &[(Act, Want)] = &[
     (Act::Default(DefaultFlag::Permit), Want::Done),
     (Act::Joined(I1, TP1), Want::ByDefault),
     (Act::Joined(I1, I1), Want::Apart),
@@ -146,7 +146,7 @@ const DEFAULT_ZONE: [(Act, Want); 11] = [
 ];
 
 /// The first zone by name is why.
-const FIRST_ZONE: [(Act, Want); 8] = [
+const FIRST_ZONE: &[(Act, Want)] = &[
     (Act::Zone("z1", Item::Port(I1), Item::Port(TP1)), Want::Done),
     (Act::Zone("z2", Item::Port(I1), Item::Port(TP1)), Want::Done),
     (Act::Set("s1", "z2", "z1"), Want::Done),
@@ -158,7 +158,7 @@ const FIRST_ZONE: [(Act, Want); 8] = [
 ];
 
 /// A member for several ports.
-const SEVERAL_PORTS: [(Act, Want); 10] = [
+const SEVERAL_PORTS: &[(Act, Want)] = &[
     (
         Act::Zone("z3", Item::Place("12,5"), Item::Port(TP1)),
         Want::Done,
@@ -178,7 +178,7 @@ const SEVERAL_PORTS: [(Act, Want); 10] = [
 ];
 
 /// An alias edit changes nothing active, nor do drops, nor a copy.
-const COPIES: [(Act, Want); 16] = [
+const COPIES: &[(Act, Want)] = &[
     (Act::Alias("disk", TP1), Want::Done),
     (
         Act::Zone("z1", Item::Port(I1), Item::Alias("disk")),
@@ -201,7 +201,7 @@ const COPIES: [(Act, Want); 16] = [
 ];
 
 /// What is refused, by the first that is named.
-const REFUSALS: [(Act, Want); 16] = [
+const REFUSALS: &[(Act, Want)] = &[
     (Act::Alias("disk", TP1), Want::Done),
     (
         Act::Zone("z1", Item::Port(I1), Item::Alias("disk")),
@@ -416,37 +416,37 @@ fn are_right(alloc: Global, lines: &[(Act, Want)]) -> Result<bool, Fail> {
 
 #[test]
 fn joined_by_active_set(rt: HostRuntime) -> Result<(), Fail> {
-    assert!(rt; are_right(rt.alloc(), &ACTIVE_SET)?);
+    assert!(rt; are_right(rt.alloc(), ACTIVE_SET)?);
     Ok(())
 }
 
 #[test]
 fn default_zone(rt: HostRuntime) -> Result<(), Fail> {
-    assert!(rt; are_right(rt.alloc(), &DEFAULT_ZONE)?);
+    assert!(rt; are_right(rt.alloc(), DEFAULT_ZONE)?);
     Ok(())
 }
 
 #[test]
 fn first_zone_by_name(rt: HostRuntime) -> Result<(), Fail> {
-    assert!(rt; are_right(rt.alloc(), &FIRST_ZONE)?);
+    assert!(rt; are_right(rt.alloc(), FIRST_ZONE)?);
     Ok(())
 }
 
 #[test]
 fn members_for_several_ports(rt: HostRuntime) -> Result<(), Fail> {
-    assert!(rt; are_right(rt.alloc(), &SEVERAL_PORTS)?);
+    assert!(rt; are_right(rt.alloc(), SEVERAL_PORTS)?);
     Ok(())
 }
 
 #[test]
 fn active_set_is_a_copy(rt: HostRuntime) -> Result<(), Fail> {
-    assert!(rt; are_right(rt.alloc(), &COPIES)?);
+    assert!(rt; are_right(rt.alloc(), COPIES)?);
     Ok(())
 }
 
 #[test]
 fn refusals_by_the_first(rt: HostRuntime) -> Result<(), Fail> {
-    assert!(rt; are_right(rt.alloc(), &REFUSALS)?);
+    assert!(rt; are_right(rt.alloc(), REFUSALS)?);
     Ok(())
 }
 
@@ -473,7 +473,7 @@ fn put_one(
 }
 
 /// What is put, under how many names, how often, and what refuses the last, if anything does.
-const COUNTS: [(Kind, u32, u32, Option<ZoningLimit>); 6] = [
+const COUNTS: &[(Kind, u32, u32, Option<ZoningLimit>)] = &[
     (Kind::Alias, 2048, 2049, None),
     (Kind::Alias, 2049, 2049, Some(ZoningLimit::Aliases)),
     (Kind::Zone, 2048, 2049, None),
@@ -513,12 +513,9 @@ pub(crate) fn is_limited(answer: Result<(), ZoningFault>, limit: Option<ZoningLi
 
 #[test]
 fn limits_of_a_fabric(rt: HostRuntime) -> Result<(), Fail> {
-    for (kind, names, puts, limit) in COUNTS {
+    for &(kind, names, puts, limit) in COUNTS {
         let answer = last_put(rt.alloc(), kind, names, puts)?;
-        assert!(rt;
-            is_limited(answer, limit),
-            "{puts} puts under {names} names"
-        );
+        assert!(rt; is_limited(answer, limit));
     }
     Ok(())
 }
@@ -557,7 +554,7 @@ fn put_long(
 }
 
 /// What is put, with how many members, and what refuses it.
-const LENGTHS: [(Kind, u32, Option<ZoningLimit>); 6] = [
+const LENGTHS: &[(Kind, u32, Option<ZoningLimit>)] = &[
     (Kind::Alias, 256, Some(ZoningLimit::Members)),
     (Kind::Alias, 255, None),
     (Kind::Zone, 256, Some(ZoningLimit::Members)),
@@ -570,9 +567,9 @@ const LENGTHS: [(Kind, u32, Option<ZoningLimit>); 6] = [
 fn limits_of_members(rt: HostRuntime) -> Result<(), Fail> {
     let alloc = rt.alloc();
     let mut zoning = Zoning::new(alloc, Fabric::A);
-    for (kind, count, limit) in LENGTHS {
+    for &(kind, count, limit) in LENGTHS {
         let answer = put_long(alloc, &mut zoning, kind, count)?;
-        assert!(rt; is_limited(answer, limit), "{count} members");
+        assert!(rt; is_limited(answer, limit));
     }
     Ok(())
 }
@@ -643,7 +640,7 @@ fn parts(alloc: Global, wrong: Wrong) -> Result<Zoning<Global>, Fail> {
 }
 
 /// What is wrong, and whether definitions and active rows are sound.
-const PARTS: [(Wrong, bool, bool); 7] = [
+const PARTS: &[(Wrong, bool, bool)] = &[
     (Wrong::Nothing, true, true),
     (Wrong::AliasInAlias, false, true),
     (Wrong::UnknownAlias, false, true),
@@ -662,7 +659,7 @@ fn is_sound_so(zoning: &Zoning<Global>, definitions: bool, active: bool) -> bool
 
 #[test]
 fn parts_that_are_sound(rt: HostRuntime) -> Result<(), Fail> {
-    for (wrong, definitions, active) in PARTS {
+    for &(wrong, definitions, active) in PARTS {
         let zoning = parts(rt.alloc(), wrong)?;
         assert!(rt; is_sound_so(&zoning, definitions, active));
     }
@@ -682,7 +679,7 @@ fn is_shown(zoning: &Zoning<Global>, text: &str) -> Result<[bool; 5], Fail> {
 }
 
 /// Names, and whether each is an alias, a zone, a set, an alias in use and a zone in use.
-const SHOWN: [(&str, [bool; 5]); 4] = [
+const SHOWN: &[(&str, [bool; 5])] = &[
     ("disk", [true, false, false, true, false]),
     ("z1", [false, true, false, false, true]),
     ("s1", [false, false, true, false, false]),
@@ -692,8 +689,8 @@ const SHOWN: [(&str, [bool; 5]); 4] = [
 #[test]
 fn names_that_are_shown(rt: HostRuntime) -> Result<(), Fail> {
     let zoning = parts(rt.alloc(), Wrong::Nothing)?;
-    for (name, shown) in SHOWN {
-        assert!(rt; is_shown(&zoning, name)? == shown, "{name}");
+    for &(name, shown) in SHOWN {
+        assert!(rt; is_shown(&zoning, name)? == shown);
     }
     Ok(())
 }

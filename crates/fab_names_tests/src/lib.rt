@@ -1,5 +1,0 @@
-//! Tests of names and their texts. Nothing here is part of the product.
-#![tactic(auto)]
-
-#[cfg(test)]
-mod texts;

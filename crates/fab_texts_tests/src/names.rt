@@ -1,0 +1,328 @@
+//! The text forms, the faults, the orders, and what is printed.
+use fab_names::{Fabric, Member, Name, NameFault, Place, Wwn, read_number};
+use std::alloc::Global;
+use std::fmt;
+use std::test::Fail;
+
+/// What a text is read as.
+#[derive(Clone, Copy)]
+enum Kind {
+    AsName,
+    AsWwn,
+    AsFabric,
+    AsPlace,
+    AsMember,
+}
+
+/// Texts, and the faults that they are refused for.
+const FAULTS: &[(Kind, &str, Option<NameFault>)] = &[
+    (Kind::AsName, "Disk-1_$^", None),
+    (Kind::AsName, LONG, None),
+    (Kind::AsName, LONGER, Some(NameFault::TooLong)),
+    (Kind::AsName, "", Some(NameFault::Empty)),
+    (Kind::AsName, "1a", Some(NameFault::BadChar)),
+    (Kind::AsName, "a b", Some(NameFault::BadChar)),
+    (Kind::AsName, OF_66_BYTES, Some(NameFault::BadChar)),
+    (Kind::AsName, OF_65_BYTES, Some(NameFault::BadChar)),
+    (Kind::AsWwn, "10000000000000AF", None),
+    (Kind::AsWwn, "0x10000000000000af", None),
+    (Kind::AsWwn, "10:00:00:00:00:00:00:aF", None),
+    (
+        Kind::AsWwn,
+        "0X10000000000000af",
+        Some(NameFault::BadLength),
+    ),
+    (
+        Kind::AsWwn,
+        "1000-0000-0000-00af",
+        Some(NameFault::BadLength),
+    ),
+    (
+        Kind::AsWwn,
+        "10:00:00:00:00:00:00-af",
+        Some(NameFault::BadLength),
+    ),
+    (Kind::AsWwn, "", Some(NameFault::BadLength)),
+    (Kind::AsWwn, "100000000000000g", Some(NameFault::BadChar)),
+    (Kind::AsWwn, "0000000000000000", Some(NameFault::Zero)),
+    (Kind::AsFabric, "A", None),
+    (Kind::AsFabric, "B", None),
+    (Kind::AsFabric, "C", Some(NameFault::BadChar)),
+    (Kind::AsFabric, "a", Some(NameFault::BadChar)),
+    (Kind::AsFabric, "", Some(NameFault::Empty)),
+    (Kind::AsPlace, "012,00000000000000000005", None),
+    (Kind::AsPlace, "239,4095", None),
+    (Kind::AsPlace, "1,0", None),
+    (Kind::AsPlace, "240,5", Some(NameFault::OutOfRange)),
+    (Kind::AsPlace, "0,5", Some(NameFault::OutOfRange)),
+    (Kind::AsPlace, "1,4096", Some(NameFault::OutOfRange)),
+    (Kind::AsPlace, "12", Some(NameFault::BadChar)),
+    (Kind::AsPlace, "1,2,3", Some(NameFault::BadChar)),
+    (Kind::AsPlace, "1,+3", Some(NameFault::BadChar)),
+    (
+        Kind::AsPlace,
+        "1,000000000000000000007",
+        Some(NameFault::BadChar),
+    ),
+    (Kind::AsMember, "", Some(NameFault::BadChar)),
+    (Kind::AsMember, "wwpn", Some(NameFault::BadChar)),
+    (Kind::AsMember, "port=1", Some(NameFault::BadChar)),
+    (Kind::AsMember, "alias=1", Some(NameFault::BadChar)),
+    (Kind::AsMember, "alias=", Some(NameFault::Empty)),
+    (Kind::AsMember, "dp=1", Some(NameFault::BadChar)),
+    (Kind::AsMember, "wwnn=0", Some(NameFault::BadLength)),
+];
+
+const LONG: &str = "a123456789b123456789c123456789d123456789e123456789f123456789g123";
+
+const LONGER: &str = "a123456789b123456789c123456789d123456789e123456789f123456789g1234";
+
+/// 33 characters of two bytes each.
+const OF_66_BYTES: &str = "ééééééééééééééééééééééééééééééééé";
+
+/// 64 characters, of which one has two bytes.
+const OF_65_BYTES: &str = "a123456789b123456789c123456789d123456789e123456789f123456789g12é";
+
+/// The fault that the text is refused for, if it is refused.
+fn fault_of(kind: Kind, text: &str) -> Option<NameFault> {
+    match kind {
+        Kind::AsName => Name::read(text).err(),
+        Kind::AsWwn => Wwn::read(text).err(),
+        Kind::AsFabric => Fabric::read(text).err(),
+        Kind::AsPlace => Place::read(text).err(),
+        Kind::AsMember => Member::read(text).err(),
+    }
+}
+
+#[test]
+fn faults(rt: HostRuntime) -> Result<(), Fail> {
+    for &(kind, text, fault) in FAULTS {
+        assert!(rt; fault_of(kind, text) == fault);
+    }
+    Ok(())
+}
+
+/// Texts and their printed forms.
+const PRINTED: &[(Kind, &str, &str)] = &[
+    (Kind::AsName, LONG, LONG),
+    (Kind::AsWwn, "10000000000000AF", "10:00:00:00:00:00:00:af"),
+    (Kind::AsWwn, "0x5000000000000001", "50:00:00:00:00:00:00:01"),
+    (Kind::AsFabric, "A", "A"),
+    (Kind::AsFabric, "B", "B"),
+    (Kind::AsPlace, "012,00000000000000000005", "12,5"),
+    (Kind::AsPlace, "7,0", "7,0"),
+    (
+        Kind::AsMember,
+        "wwpn=0x5000000000000001",
+        "wwpn=50:00:00:00:00:00:00:01",
+    ),
+    (
+        Kind::AsMember,
+        "wwpn=5000000000000002",
+        "wwpn=50:00:00:00:00:00:00:02",
+    ),
+    (
+        Kind::AsMember,
+        "wwnn=1000000000000000",
+        "wwnn=10:00:00:00:00:00:00:00",
+    ),
+    (Kind::AsMember, "dp=007,4095", "dp=7,4095"),
+    (Kind::AsMember, "dp=12,0", "dp=12,0"),
+    (Kind::AsMember, "alias=Disk", "alias=Disk"),
+    (Kind::AsMember, "alias=disk", "alias=disk"),
+];
+
+/// A writer that has no memory, and takes just the text that is wanted.
+#[derive(Drop)]
+struct Wanted {
+    rest: &'static str,
+}
+
+impl fmt::Write for Wanted {
+    fn write_str(&mut self, text: &str) -> fmt::Result {
+        match self.rest.strip_prefix(text) {
+            Some(rest) => {
+                self.rest = rest;
+                Ok(())
+            }
+            None => Err(fmt::Error),
+        }
+    }
+}
+
+/// Whether the value displays itself as the text.
+fn shows<T: fmt::Display>(value: &T, text: &'static str) -> bool {
+    let mut wanted = Wanted { rest: text };
+    match fmt::Write::write_fmt(&mut wanted, format_args!("{value}")) {
+        Ok(()) => wanted.rest.is_empty(),
+        Err(_) => false,
+    }
+}
+
+/// Whether what was printed is the text.
+fn is_text(printed: String<Global>, text: &str) -> bool {
+    printed.as_str() == text
+}
+
+/// Whether the value of the text is printed and displayed so.
+fn is_shown(alloc: Global, kind: Kind, text: &str, printed: &'static str) -> Result<bool, Fail> {
+    match kind {
+        Kind::AsName => {
+            let name = Name::read(text)?;
+            Ok(shows(&name, printed) && is_text(name.print(alloc)?, printed))
+        }
+        Kind::AsWwn => {
+            let name = Wwn::read(text)?;
+            Ok(shows(&name, printed) && is_text(name.print(alloc)?, printed))
+        }
+        Kind::AsFabric => {
+            let fabric = Fabric::read(text)?;
+            Ok(shows(&fabric, printed) && is_text(fabric.print(alloc)?, printed))
+        }
+        Kind::AsPlace => {
+            let place = Place::read(text)?;
+            Ok(shows(&place, printed) && is_text(place.print(alloc)?, printed))
+        }
+        Kind::AsMember => {
+            let member = Member::read(text)?;
+            Ok(shows(&member, printed) && is_text(member.print(alloc)?, printed))
+        }
+    }
+}
+
+#[test]
+fn printed(rt: HostRuntime) -> Result<(), Fail> {
+    for &(kind, text, printed) in PRINTED {
+        assert!(rt; is_shown(rt.alloc(), kind, text, printed)?);
+    }
+    Ok(())
+}
+
+/// Texts, and whether they are the printed form of what they spell.
+const EXACT: &[(Kind, &str, bool)] = &[
+    (Kind::AsWwn, "10:00:00:00:00:00:00:af", true),
+    (Kind::AsWwn, "10:00:00:00:00:00:00:aF", false),
+    (Kind::AsWwn, "10000000000000af", false),
+    (Kind::AsPlace, "12,5", true),
+    (Kind::AsPlace, "12,0", true),
+    (Kind::AsPlace, "12,05", false),
+    (Kind::AsPlace, "012,5", false),
+    (Kind::AsMember, "wwpn=50:00:00:00:00:00:00:01", true),
+    (Kind::AsMember, "wwnn=50:00:00:00:00:00:00:01", true),
+    (Kind::AsMember, "wwnn=5000000000000001", false),
+    (Kind::AsMember, "dp=7,10", true),
+    (Kind::AsMember, "dp=7,010", false),
+    (Kind::AsMember, "alias=disk", true),
+];
+
+/// Whether the text is a printed form.
+fn is_exact(kind: Kind, text: &str) -> bool {
+    match kind {
+        Kind::AsWwn => Wwn::read_printed(text).is_some(),
+        Kind::AsPlace => Place::read_printed(text).is_some(),
+        Kind::AsMember => Member::read_printed(text).is_some(),
+        _ => false,
+    }
+}
+
+#[test]
+fn printed_forms_alone(rt: HostRuntime) -> Result<(), Fail> {
+    for &(kind, text, exact) in EXACT {
+        assert!(rt; is_exact(kind, text) == exact);
+    }
+    Ok(())
+}
+
+/// Texts, and the number of which they are the plain digits.
+const PLAIN: &[(&str, Option<u64>)] = &[
+    ("10000000000000af", Some(0x1000_0000_0000_00af)),
+    ("0000000000000001", Some(1)),
+    ("10000000000000AF", None),
+    ("0x10000000000000af", None),
+    ("10:00:00:00:00:00:00:af", None),
+    ("0000000000000000", None),
+];
+
+/// The number of the plain digits, where they are given back.
+fn plain_number(text: &str) -> Option<u64> {
+    let name = Wwn::read_plain(text)?;
+    if name.plain().as_str() != text {
+        return None;
+    }
+    Some(name.number())
+}
+
+#[test]
+fn plain_digits(rt: HostRuntime) -> Result<(), Fail> {
+    for &(text, number) in PLAIN {
+        assert!(rt; plain_number(text) == number);
+    }
+    Ok(())
+}
+
+/// Number texts and others.
+const NUMBERS: &[(&str, Option<u128>)] = &[
+    ("00000000000000000007", Some(7)),
+    ("99999999999999999999", Some(99_999_999_999_999_999_999)),
+    ("000000000000000000007", None),
+    ("+7", None),
+    ("", None),
+];
+
+/// The number of a number text.
+fn number(text: &str) -> Option<u128> {
+    read_number(text.as_bytes())
+}
+
+#[test]
+fn numbers(rt: HostRuntime) -> Result<(), Fail> {
+    for &(text, value) in NUMBERS {
+        assert!(rt; number(text) == value);
+    }
+    Ok(())
+}
+
+/// Pairs of texts, of which the first comes before the second.
+const IN_ORDER: &[(Kind, &str, &str)] = &[
+    (Kind::AsName, "B", "a"),
+    (Kind::AsName, "a", "a1"),
+    (Kind::AsWwn, "00000000000000ff", "0000000000000100"),
+    (Kind::AsFabric, "A", "B"),
+    (Kind::AsPlace, "7,4095", "12,0"),
+    (Kind::AsPlace, "12,2", "12,10"),
+    (
+        Kind::AsMember,
+        "wwpn=0000000000000002",
+        "wwpn=0000000000000003",
+    ),
+    (
+        Kind::AsMember,
+        "wwpn=0000000000000002",
+        "wwnn=0000000000000001",
+    ),
+    (Kind::AsMember, "wwnn=0000000000000002", "dp=1,0"),
+    (Kind::AsMember, "dp=7,4095", "dp=12,0"),
+    (Kind::AsMember, "dp=12,2", "dp=12,10"),
+    (Kind::AsMember, "dp=239,4095", "alias=A"),
+    (Kind::AsMember, "alias=B", "alias=a"),
+];
+
+/// Whether the first comes before the second.
+fn is_before(kind: Kind, first: &str, second: &str) -> Result<bool, Fail> {
+    match kind {
+        Kind::AsName => Ok(Name::read(first)? < Name::read(second)?),
+        Kind::AsWwn => Ok(Wwn::read(first)? < Wwn::read(second)?),
+        Kind::AsFabric => Ok(Fabric::read(first)? < Fabric::read(second)?),
+        Kind::AsPlace => Ok(Place::read(first)? < Place::read(second)?),
+        Kind::AsMember => Ok(Member::read(first)? < Member::read(second)?),
+    }
+}
+
+#[test]
+fn orders(rt: HostRuntime) -> Result<(), Fail> {
+    for &(kind, first, second) in IN_ORDER {
+        assert!(rt; is_before(kind, first, second)?);
+        assert!(rt; !is_before(kind, second, first)?);
+    }
+    Ok(())
+}
