@@ -1,8 +1,9 @@
 //! Worlds at the stages of one plan, which lets fabric A's default zone permit.
 
+use crate::lines::{name, put};
 use fab_inventory::HolderKind;
 use fab_mapping::Mapping;
-use fab_names::{Fabric, Name};
+use fab_names::Fabric;
 use fab_plans::{Active, Plan, RolledBack, Staged};
 use fab_plans_base::read_plan;
 use fab_reach::Config;
@@ -11,7 +12,7 @@ use fab_world::{AnyPlan, KeptPlan, World};
 use fab_zoning::{DefaultFlag, Zoning};
 use std::alloc::Global;
 use std::collections::BTreeMap;
-use std::test::Fail;
+use std::process::Abort;
 
 /// The plan's text.
 pub const TEXT: &str = "default A permit\n";
@@ -43,94 +44,85 @@ fn config(alloc: Global, flag: DefaultFlag) -> Config<Global> {
 }
 
 /// What the activation changes.
-fn activation(alloc: Global) -> Result<RowDifference<Global>, Fail> {
-    let (before, after) = (
-        config(alloc, DefaultFlag::Deny),
-        config(alloc, DefaultFlag::Permit),
-    );
-    Ok(difference(alloc, &before, &after)?)
+fn activation(rt: &(impl Abort + AllocGlobal)) -> RowDifference<Global> {
+    let before = config(rt.alloc(), DefaultFlag::Deny);
+    let after = config(rt.alloc(), DefaultFlag::Permit);
+    difference(rt.alloc(), &before, &after).expect(rt, "memory")
 }
 
 /// The plan, approved at a revision.
-fn plan(alloc: Global, approved: u64) -> Result<Plan<Global>, Fail> {
-    let author = Name::read("alice")?;
-    let caller = Name::read("bob")?;
-    let steps = read_plan(alloc, TEXT)?;
+fn plan(rt: &(impl Abort + AllocGlobal), approved: u64) -> Plan<Global> {
     let mut plan = Plan {
-        author,
-        steps,
-        approvals: BTreeMap::new(alloc),
+        author: name(rt, "alice"),
+        steps: read_plan(rt.alloc(), TEXT).expect(rt, "a plan"),
+        approvals: BTreeMap::new(rt.alloc()),
     };
-    plan.approvals.insert(caller, approved)?;
-    Ok(plan)
+    put(rt, &mut plan.approvals, name(rt, "bob"), approved);
+    plan
 }
 
 /// The plan at a stage.
-fn kept(alloc: Global, stage: Stage) -> Result<KeptPlan<Global>, Fail> {
+fn kept(rt: &(impl Abort + AllocGlobal), stage: Stage) -> KeptPlan<Global> {
     let approved = if let Stage::Staged(revision) = stage {
         revision
     } else {
         3
     };
-    let plan = plan(alloc, approved)?;
+    let plan = plan(rt, approved);
     let inner = match stage {
         Stage::Active => AnyPlan::Active(Active {
             plan,
-            undo: activation(alloc)?,
+            undo: activation(rt),
         }),
         Stage::RolledBack => AnyPlan::RolledBack(RolledBack { plan }),
         Stage::New | Stage::Host | Stage::Staged(_) => AnyPlan::Staged(Staged { plan }),
     };
-    Ok(KeptPlan { inner })
+    KeptPlan { inner }
 }
 
 /// Keeps the plan at a stage.
-fn keep(alloc: Global, world: &mut World<Global>, stage: Stage) -> Result<(), Fail> {
-    let name = Name::read("p1")?;
-    let kept = kept(alloc, stage)?;
-    world.plans.insert(name, kept)?;
-    Ok(())
+fn keep(rt: &(impl Abort + AllocGlobal), world: &mut World<Global>, stage: Stage) {
+    let kept = kept(rt, stage);
+    put(rt, &mut world.plans, name(rt, "p1"), kept);
 }
 
 /// Puts a host without ports.
-fn put_host(world: &mut World<Global>) -> Result<(), Fail> {
-    let name = Name::read("web1")?;
-    let tenant = Name::read("blue")?;
+fn put_host(rt: &impl Abort, world: &mut World<Global>) {
+    let (host, tenant) = (name(rt, "web1"), name(rt, "blue"));
     world
         .inventory
-        .put_holder(name, HolderKind::Host, tenant, &[])?;
-    Ok(())
+        .put_holder(host, HolderKind::Host, tenant, &[])
+        .expect(rt, "a host");
 }
 
 /// Leads a new world to a stage.
-fn lead(alloc: Global, world: &mut World<Global>, stage: Stage) -> Result<(), Fail> {
+fn lead(rt: &(impl Abort + AllocGlobal), world: &mut World<Global>, stage: Stage) {
     match stage {
         Stage::New => {}
         Stage::Host => {
             world.revision = 1;
-            put_host(world)?;
+            put_host(rt, world);
         }
         Stage::Staged(_) => {
             world.revision = 4;
-            keep(alloc, world, stage)?;
+            keep(rt, world, stage);
         }
         Stage::Active => {
             world.revision = 5;
-            world.config = config(alloc, DefaultFlag::Permit);
-            world.order.push(Name::read("p1")?)?;
-            keep(alloc, world, stage)?;
+            world.config = config(rt.alloc(), DefaultFlag::Permit);
+            world.order.push(name(rt, "p1")).expect(rt, "memory");
+            keep(rt, world, stage);
         }
         Stage::RolledBack => {
             world.revision = 6;
-            keep(alloc, world, stage)?;
+            keep(rt, world, stage);
         }
     }
-    Ok(())
 }
 
 /// The world at a stage.
-pub fn world(alloc: Global, stage: Stage) -> Result<World<Global>, Fail> {
-    let mut world = World::new(alloc);
-    lead(alloc, &mut world, stage)?;
-    Ok(world)
+pub fn world(rt: &(impl Abort + AllocGlobal), stage: Stage) -> World<Global> {
+    let mut world = World::new(rt.alloc());
+    lead(rt, &mut world, stage);
+    world
 }

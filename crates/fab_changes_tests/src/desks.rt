@@ -2,12 +2,10 @@
 
 use crate::desk::{Stage, world};
 use crate::table_lines::{DENIES, Line, Lines, NONE, PERMITS, are};
-use fab_changes::{Changes, changes, rows_of};
+use fab_changes::{changes, rows_of};
 use fab_names::Fabric;
 use fab_rows::{CountRow, PlanState, Sign};
-use fab_world::World;
-use std::alloc::Global;
-use std::test::Fail;
+use std::process::Abort;
 
 /// A world and a later one, the rows that are removed, and those that are added.
 type Case = (Stage, Stage, Lines, Lines);
@@ -109,52 +107,25 @@ const CASES: &[Case] = &[
     (Stage::RolledBack, Stage::RolledBack, NONE, NONE),
 ];
 
-/// Whether the changes are those of the lines.
-fn are_changes(found: &Changes<Global>, removed: Lines, added: Lines) -> bool {
-    are(&found.removed, removed) && are(&found.added, added)
-}
-
-/// Whether the worlds differ by the lines.
-fn differ(
-    alloc: Global,
-    before: &World<Global>,
-    after: &World<Global>,
-    removed: Lines,
-    added: Lines,
-) -> Result<bool, Fail> {
-    let found = changes(alloc, before, after)?;
-    Ok(are_changes(&found, removed, added))
-}
-
-/// Whether the world at a later stage differs by the lines.
-fn differs(
-    alloc: Global,
-    before: &World<Global>,
-    to: Stage,
-    removed: Lines,
-    added: Lines,
-) -> Result<bool, Fail> {
-    let after = world(alloc, to)?;
-    differ(alloc, before, &after, removed, added)
-}
-
+/// Whether the world differs from the later one by the lines.
 fn is_change(
-    alloc: Global,
+    rt: &(impl Abort + AllocGlobal),
     from: Stage,
     to: Stage,
     removed: Lines,
     added: Lines,
-) -> Result<bool, Fail> {
-    let before = world(alloc, from)?;
-    differs(alloc, &before, to, removed, added)
+) -> bool {
+    let before = world(rt, from);
+    let after = world(rt, to);
+    let found = changes(rt.alloc(), &before, &after).expect(rt, "changes");
+    are(&found.removed, removed) && are(&found.added, added)
 }
 
 #[test]
-fn changes_are_listed(rt: HostRuntime) -> Result<(), Fail> {
+fn changes_are_listed(rt: HostRuntime) {
     for &(from, to, removed, added) in CASES {
-        assert!(rt; is_change(rt.alloc(), from, to, removed, added)?);
+        assert!(rt; is_change(&rt, from, to, removed, added));
     }
-    Ok(())
 }
 
 /// No zone set is active in fabric A; nor in B.
@@ -198,20 +169,15 @@ const WHOLE: &[(Stage, Lines)] = &[
 ];
 
 /// Whether the world has the rows of the lines and no other.
-fn has_rows(alloc: Global, world: &World<Global>, lines: Lines) -> Result<bool, Fail> {
-    let rows = rows_of(alloc, world)?;
-    Ok(are(&rows, lines))
-}
-
-fn is_whole(alloc: Global, stage: Stage, lines: Lines) -> Result<bool, Fail> {
-    let world = world(alloc, stage)?;
-    has_rows(alloc, &world, lines)
+fn is_whole(rt: &(impl Abort + AllocGlobal), stage: Stage, lines: Lines) -> bool {
+    let world = world(rt, stage);
+    let rows = rows_of(rt.alloc(), &world).expect(rt, "rows");
+    are(&rows, lines)
 }
 
 #[test]
-fn rows_are_listed(rt: HostRuntime) -> Result<(), Fail> {
+fn rows_are_listed(rt: HostRuntime) {
     for &(stage, lines) in WHOLE {
-        assert!(rt; is_whole(rt.alloc(), stage, lines)?);
+        assert!(rt; is_whole(&rt, stage, lines));
     }
-    Ok(())
 }

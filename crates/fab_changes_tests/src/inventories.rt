@@ -5,9 +5,9 @@ use crate::stock::{Change, I1, I2, I3, TP1, stock};
 use fab_inventory::HolderKind::{Array, Host};
 use fab_inventory::Inventory;
 use fab_names::Fabric::{A, B};
-use fab_row_lists::{InventoryDifference, InventoryLists, inventory_difference, inventory_rows};
+use fab_row_lists::{InventoryLists, inventory_difference, inventory_rows};
 use std::alloc::Global;
-use std::test::Fail;
+use std::process::Abort;
 
 /// Rows of the three tables.
 #[derive(Clone, Copy)]
@@ -87,44 +87,34 @@ const VOLUME: Lines = Lines {
 };
 
 /// Whether the lists are those of the lines.
-fn are(lists: InventoryLists<Global>, lines: Lines) -> Result<bool, Fail> {
-    if !are_ports(lists.ports.as_slice(), lines.ports)? {
-        return Ok(false);
-    }
-    if !are_holders(lists.holders.as_slice(), lines.holders)? {
-        return Ok(false);
-    }
-    are_volumes(lists.volumes.as_slice(), lines.volumes)
-}
-
-/// The rows of an inventory.
-fn listed(alloc: Global, inventory: &Inventory<Global>) -> Result<InventoryLists<Global>, Fail> {
-    Ok(inventory_rows(alloc, inventory)?)
+fn are(rt: &impl Abort, lists: &InventoryLists<Global>, lines: Lines) -> bool {
+    are_ports(rt, lists.ports.as_slice(), lines.ports)
+        && are_holders(rt, lists.holders.as_slice(), lines.holders)
+        && are_volumes(rt, lists.volumes.as_slice(), lines.volumes)
 }
 
 /// Whether the inventory has the rows of the lines and no other.
-fn has_rows(alloc: Global, inventory: &Inventory<Global>, lines: Lines) -> Result<bool, Fail> {
-    let lists = listed(alloc, inventory)?;
-    are(lists, lines)
+fn has_rows(rt: &(impl Abort + AllocGlobal), inventory: &Inventory<Global>, lines: Lines) -> bool {
+    let lists = inventory_rows(rt.alloc(), inventory).expect(rt, "memory");
+    are(rt, &lists, lines)
 }
 
 /// Whether an inventory that knows nothing has no row.
-fn empty_has_none(alloc: Global) -> Result<bool, Fail> {
-    let inventory = Inventory::new(alloc);
-    has_rows(alloc, &inventory, NONE)
+fn empty_has_none(rt: &(impl Abort + AllocGlobal)) -> bool {
+    let inventory = Inventory::new(rt.alloc());
+    has_rows(rt, &inventory, NONE)
 }
 
 /// Whether the unchanged inventory has all rows.
-fn whole_has_all(alloc: Global) -> Result<bool, Fail> {
-    let inventory = stock(alloc, Change::Nothing)?;
-    has_rows(alloc, &inventory, ALL)
+fn whole_has_all(rt: &(impl Abort + AllocGlobal)) -> bool {
+    let inventory = stock(rt, Change::Nothing);
+    has_rows(rt, &inventory, ALL)
 }
 
 #[test]
-fn rows_are_listed(rt: HostRuntime) -> Result<(), Fail> {
-    assert!(rt; empty_has_none(rt.alloc())?);
-    assert!(rt; whole_has_all(rt.alloc())?);
-    Ok(())
+fn rows_are_listed(rt: HostRuntime) {
+    assert!(rt; empty_has_none(&rt));
+    assert!(rt; whole_has_all(&rt));
 }
 
 /// A change, what it takes away, and what it adds.
@@ -139,89 +129,50 @@ const CASES: &[Case] = &[
     (Change::Dropped, VOLUME, NONE),
 ];
 
-/// Whether the rows of a difference are those of the lines.
-fn is_difference(
-    found: InventoryDifference<Global>,
-    taken: Lines,
-    added: Lines,
-) -> Result<bool, Fail> {
-    let InventoryDifference {
-        taken: gone,
-        added: come,
-    } = found;
-    if !are(gone, taken)? {
-        return Ok(false);
-    }
-    are(come, added)
-}
-
-/// What leads from an inventory to another.
-fn difference(
-    alloc: Global,
-    before: &Inventory<Global>,
-    after: &Inventory<Global>,
-) -> Result<InventoryDifference<Global>, Fail> {
-    Ok(inventory_difference(alloc, before, after)?)
-}
-
 /// Whether one inventory differs from the other as the lines say.
 fn leads_to(
-    alloc: Global,
+    rt: &(impl Abort + AllocGlobal),
     before: &Inventory<Global>,
     after: &Inventory<Global>,
-    lines: (Lines, Lines),
-) -> Result<bool, Fail> {
-    let found = difference(alloc, before, after)?;
-    is_difference(found, lines.0, lines.1)
+    taken: Lines,
+    added: Lines,
+) -> bool {
+    let found = inventory_difference(rt.alloc(), before, after).expect(rt, "memory");
+    are(rt, &found.taken, taken) && are(rt, &found.added, added)
 }
 
 /// Whether the change leads from this inventory to the other as the case says, and back.
 fn is_change_of(
-    alloc: Global,
+    rt: &(impl Abort + AllocGlobal),
     before: &Inventory<Global>,
     after: &Inventory<Global>,
     case: Case,
-) -> Result<bool, Fail> {
-    if !leads_to(alloc, before, after, (case.1, case.2))? {
-        return Ok(false);
-    }
-    leads_to(alloc, after, before, (case.2, case.1))
-}
-
-/// Whether the changed inventory differs from this one as the case says.
-fn differs(alloc: Global, before: &Inventory<Global>, case: Case) -> Result<bool, Fail> {
-    let after = stock(alloc, case.0)?;
-    is_change_of(alloc, before, &after, case)
+) -> bool {
+    leads_to(rt, before, after, case.1, case.2) && leads_to(rt, after, before, case.2, case.1)
 }
 
 /// Whether the inventories differ as the case says.
-fn differ(alloc: Global, case: Case) -> Result<bool, Fail> {
-    let before = stock(alloc, Change::Nothing)?;
-    differs(alloc, &before, case)
+fn differ(rt: &(impl Abort + AllocGlobal), case: Case) -> bool {
+    let before = stock(rt, Change::Nothing);
+    let after = stock(rt, case.0);
+    is_change_of(rt, &before, &after, case)
 }
 
 #[test]
-fn differences_are_rows(rt: HostRuntime) -> Result<(), Fail> {
+fn differences_are_rows(rt: HostRuntime) {
     for &case in CASES {
-        assert!(rt; differ(rt.alloc(), case)?);
+        assert!(rt; differ(&rt, case));
     }
-    Ok(())
-}
-
-/// Whether all rows come where there were none.
-fn whole_comes(alloc: Global, after: &Inventory<Global>) -> Result<bool, Fail> {
-    let before = Inventory::new(alloc);
-    is_change_of(alloc, &before, after, (Change::Nothing, NONE, ALL))
 }
 
 /// Whether an inventory differs by all its rows from one that knows nothing.
-fn all_differ(alloc: Global) -> Result<bool, Fail> {
-    let after = stock(alloc, Change::Nothing)?;
-    whole_comes(alloc, &after)
+fn all_differ(rt: &(impl Abort + AllocGlobal)) -> bool {
+    let before = Inventory::new(rt.alloc());
+    let after = stock(rt, Change::Nothing);
+    is_change_of(rt, &before, &after, (Change::Nothing, NONE, ALL))
 }
 
 #[test]
-fn all_rows_come(rt: HostRuntime) -> Result<(), Fail> {
-    assert!(rt; all_differ(rt.alloc())?);
-    Ok(())
+fn all_rows_come(rt: HostRuntime) {
+    assert!(rt; all_differ(&rt));
 }

@@ -4,7 +4,8 @@ use fab_inventory::{HolderKind, Port};
 use fab_names::{Fabric, Name, Place, Wwn};
 use fab_reach::Path;
 use fab_rows::{HolderRow, PathRow, VolumeRow};
-use std::test::Fail;
+use std::collections::BTreeMap;
+use std::process::Abort;
 
 /// A port of a node of the same number: where it is logged in, and who holds it.
 pub type PortLine = (u64, Option<(Fabric, u8, u16)>, Option<&'static str>);
@@ -19,121 +20,122 @@ pub type VolumeLine = (&'static str, &'static str, u64);
 pub type PathLine = (&'static str, u64, u64, u16);
 
 /// The port of this number.
-pub fn wwn(number: u64) -> Result<Wwn, Fail> {
+pub fn wwn(rt: &impl Abort, number: u64) -> Wwn {
     if number == 0 {
-        return Err(Fail::from("port"));
+        panic!(rt; "port");
     }
-    Ok(Wwn::new(number))
+    Wwn::new(number)
 }
 
 /// The name of this text.
-pub fn name(text: &str) -> Result<Name, Fail> {
-    Ok(Name::read(text)?)
+pub fn name(rt: &impl Abort, text: &str) -> Name {
+    Name::read(text).expect(rt, "a name")
 }
 
 /// The place of this domain and slot.
-pub fn place(domain: u8, slot: u16) -> Result<Place, Fail> {
+pub fn place(rt: &impl Abort, domain: u8, slot: u16) -> Place {
     if domain == 0 || domain > 239 || slot > 4095 {
-        return Err(Fail::from("place"));
+        panic!(rt; "place");
     }
-    Ok(Place::new(domain, slot))
+    Place::new(domain, slot)
 }
 
-fn location(at: Option<(Fabric, u8, u16)>) -> Result<Option<(Fabric, Place)>, Fail> {
+/// Puts a value into a map.
+pub fn put<K: Ord + Drop, V: Drop>(rt: &impl Abort, map: &mut BTreeMap<K, V>, key: K, value: V) {
+    let old: Result<_, _> = map.insert(key, value);
+    old.expect(rt, "memory");
+}
+
+fn location(rt: &impl Abort, at: Option<(Fabric, u8, u16)>) -> Option<(Fabric, Place)> {
     match at {
-        Some((fabric, domain, slot)) => Ok(Some((fabric, place(domain, slot)?))),
-        None => Ok(None),
+        Some((fabric, domain, slot)) => Some((fabric, place(rt, domain, slot))),
+        None => None,
     }
 }
 
-fn holder_of(holder: Option<&'static str>) -> Result<Option<Name>, Fail> {
+fn holder_of(rt: &impl Abort, holder: Option<&'static str>) -> Option<Name> {
     match holder {
-        Some(text) => Ok(Some(name(text)?)),
-        None => Ok(None),
+        Some(text) => Some(name(rt, text)),
+        None => None,
     }
 }
 
-fn port(line: PortLine) -> Result<Port, Fail> {
-    let name = wwn(line.0)?;
-    let at = location(line.1)?;
-    let holder = holder_of(line.2)?;
-    Ok(Port {
+fn port(rt: &impl Abort, line: PortLine) -> Port {
+    let name = wwn(rt, line.0);
+    Port {
         name,
         node: name,
-        at,
-        holder,
-    })
+        at: location(rt, line.1),
+        holder: holder_of(rt, line.2),
+    }
 }
 
-fn holder(line: HolderLine) -> Result<HolderRow, Fail> {
-    let (name, kind, tenant) = (name(line.0)?, line.1, name(line.2)?);
-    Ok(HolderRow { name, kind, tenant })
+fn holder(rt: &impl Abort, line: HolderLine) -> HolderRow {
+    HolderRow {
+        name: name(rt, line.0),
+        kind: line.1,
+        tenant: name(rt, line.2),
+    }
 }
 
-fn volume(line: VolumeLine) -> Result<VolumeRow, Fail> {
-    let (array, bytes) = (name("arr1")?, line.2);
-    let (name, tenant) = (name(line.0)?, name(line.1)?);
-    Ok(VolumeRow {
-        name,
-        array,
-        tenant,
-        bytes,
-    })
-}
-
-fn path(line: PathLine) -> Result<Path, Fail> {
-    let (initiator, target, volume) = (wwn(line.1)?, wwn(line.2)?, name("v1")?);
-    Ok(Path {
-        fabric: Fabric::A,
-        initiator,
-        target,
-        volume,
-        unit: line.3,
-    })
+fn volume(rt: &impl Abort, line: VolumeLine) -> VolumeRow {
+    VolumeRow {
+        name: name(rt, line.0),
+        array: name(rt, "arr1"),
+        tenant: name(rt, line.1),
+        bytes: line.2,
+    }
 }
 
 /// The row of a path.
-pub fn path_row(line: PathLine) -> Result<PathRow, Fail> {
-    let (host, path) = (name(line.0)?, path(line)?);
-    Ok(PathRow { host, path })
+pub fn path_row(rt: &impl Abort, line: PathLine) -> PathRow {
+    let path = Path {
+        fabric: Fabric::A,
+        initiator: wwn(rt, line.1),
+        target: wwn(rt, line.2),
+        volume: name(rt, "v1"),
+        unit: line.3,
+    };
+    let host = name(rt, line.0);
+    PathRow { host, path }
 }
 
 /// Whether the ports are those of the lines, in this order.
-pub fn are_ports(rows: &[Port], lines: &[PortLine]) -> Result<bool, Fail> {
+pub fn are_ports(rt: &impl Abort, rows: &[Port], lines: &[PortLine]) -> bool {
     for (i, line) in lines.iter().enumerate() {
-        if rows.get(i) != Some(&port(*line)?) {
-            return Ok(false);
+        if rows.get(i) != Some(&port(rt, *line)) {
+            return false;
         }
     }
-    Ok(rows.len() == lines.len())
+    rows.len() == lines.len()
 }
 
 /// Whether the holders are those of the lines, in this order.
-pub fn are_holders(rows: &[HolderRow], lines: &[HolderLine]) -> Result<bool, Fail> {
+pub fn are_holders(rt: &impl Abort, rows: &[HolderRow], lines: &[HolderLine]) -> bool {
     for (i, line) in lines.iter().enumerate() {
-        if rows.get(i) != Some(&holder(*line)?) {
-            return Ok(false);
+        if rows.get(i) != Some(&holder(rt, *line)) {
+            return false;
         }
     }
-    Ok(rows.len() == lines.len())
+    rows.len() == lines.len()
 }
 
 /// Whether the volumes are those of the lines, in this order.
-pub fn are_volumes(rows: &[VolumeRow], lines: &[VolumeLine]) -> Result<bool, Fail> {
+pub fn are_volumes(rt: &impl Abort, rows: &[VolumeRow], lines: &[VolumeLine]) -> bool {
     for (i, line) in lines.iter().enumerate() {
-        if rows.get(i) != Some(&volume(*line)?) {
-            return Ok(false);
+        if rows.get(i) != Some(&volume(rt, *line)) {
+            return false;
         }
     }
-    Ok(rows.len() == lines.len())
+    rows.len() == lines.len()
 }
 
 /// Whether the rows of paths are those of the lines, in this order.
-pub fn are_paths(rows: &[PathRow], lines: &[PathLine]) -> Result<bool, Fail> {
+pub fn are_paths(rt: &impl Abort, rows: &[PathRow], lines: &[PathLine]) -> bool {
     for (i, line) in lines.iter().enumerate() {
-        if rows.get(i) != Some(&path_row(*line)?) {
-            return Ok(false);
+        if rows.get(i) != Some(&path_row(rt, *line)) {
+            return false;
         }
     }
-    Ok(rows.len() == lines.len())
+    rows.len() == lines.len()
 }

@@ -5,10 +5,10 @@ use crate::stock::{Change, I1, I2, TP1, stock};
 use crate::worlds::{World, config};
 use fab_inventory::Inventory;
 use fab_reach::{Config, View};
-use fab_row_lists::{PathRowDifference, are_path_rows, path_difference, path_rows};
+use fab_row_lists::{are_path_rows, path_difference, path_rows};
 use fab_rows::PathRow;
 use std::alloc::Global;
-use std::test::Fail;
+use std::process::Abort;
 
 const ALPHA: PathLine = ("alpha", I2, TP1, 0);
 
@@ -26,48 +26,19 @@ const LISTS: &[(World, Change, &'static [PathLine])] = &[
     (World::Both, Change::Gone, &[ZETA]),
 ];
 
-/// The rows of a world's paths.
-fn listed(
-    alloc: Global,
-    inventory: &Inventory<Global>,
-    config: &Config<Global>,
-) -> Result<Vec<PathRow, Global>, Fail> {
-    Ok(path_rows(alloc, inventory, config)?)
-}
-
 /// Whether the world has the rows of the lines and no other.
-fn has_rows(
-    alloc: Global,
-    inventory: &Inventory<Global>,
-    config: &Config<Global>,
-    lines: &[PathLine],
-) -> Result<bool, Fail> {
-    let rows = listed(alloc, inventory, config)?;
-    are_paths(rows.as_slice(), lines)
-}
-
-/// The same beside an inventory.
-fn has_rows_beside(
-    alloc: Global,
-    inventory: &Inventory<Global>,
-    case: (World, Change, &[PathLine]),
-) -> Result<bool, Fail> {
-    let config = config(alloc, case.0)?;
-    has_rows(alloc, inventory, &config, case.2)
-}
-
-/// Whether the case is right.
-fn is_listed(alloc: Global, case: (World, Change, &[PathLine])) -> Result<bool, Fail> {
-    let inventory = stock(alloc, case.1)?;
-    has_rows_beside(alloc, &inventory, case)
+fn is_listed(rt: &(impl Abort + AllocGlobal), case: (World, Change, &[PathLine])) -> bool {
+    let inventory = stock(rt, case.1);
+    let config = config(rt, case.0);
+    let rows = path_rows(rt.alloc(), &inventory, &config).expect(rt, "paths");
+    are_paths(rt, rows.as_slice(), case.2)
 }
 
 #[test]
-fn rows_are_listed(rt: HostRuntime) -> Result<(), Fail> {
+fn rows_are_listed(rt: HostRuntime) {
     for &case in LISTS {
-        assert!(rt; is_listed(rt.alloc(), case)?);
+        assert!(rt; is_listed(&rt, case));
     }
-    Ok(())
 }
 
 /// A world, given rows, and whether they are those of its paths.
@@ -87,58 +58,28 @@ const GIVEN: &[Given] = &[
 ];
 
 /// The rows of the lines.
-fn rows_of(alloc: Global, lines: &[PathLine]) -> Result<Vec<PathRow, Global>, Fail> {
-    let mut rows = Vec::new(alloc);
+fn rows_of(rt: &(impl Abort + AllocGlobal), lines: &[PathLine]) -> Vec<PathRow> {
+    let mut rows = Vec::new(rt.alloc());
     for line in lines {
-        rows.push(path_row(*line)?)?;
+        rows.push(path_row(rt, *line)).expect(rt, "memory");
     }
-    Ok(rows)
-}
-
-/// Whether the rows are those of the world's paths.
-fn are_rows(
-    alloc: Global,
-    inventory: &Inventory<Global>,
-    config: &Config<Global>,
-    rows: &[PathRow],
-) -> Result<bool, Fail> {
-    Ok(are_path_rows(alloc, inventory, config, rows)?)
-}
-
-/// Whether the given rows are those of the world's paths.
-fn are_given(
-    alloc: Global,
-    inventory: &Inventory<Global>,
-    config: &Config<Global>,
-    lines: &[PathLine],
-) -> Result<bool, Fail> {
-    let rows = rows_of(alloc, lines)?;
-    are_rows(alloc, inventory, config, rows.as_slice())
-}
-
-/// The same beside an inventory.
-fn are_given_beside(
-    alloc: Global,
-    inventory: &Inventory<Global>,
-    case: Given,
-) -> Result<bool, Fail> {
-    let config = config(alloc, case.0)?;
-    are_given(alloc, inventory, &config, case.1)
+    rows
 }
 
 /// Whether the given rows are told as the case says.
-fn is_told(alloc: Global, case: Given) -> Result<bool, Fail> {
-    let inventory = stock(alloc, Change::Nothing)?;
-    let are = are_given_beside(alloc, &inventory, case)?;
-    Ok(are == case.2)
+fn is_told(rt: &(impl Abort + AllocGlobal), case: Given) -> bool {
+    let inventory = stock(rt, Change::Nothing);
+    let config = config(rt, case.0);
+    let rows = rows_of(rt, case.1);
+    let are = are_path_rows(rt.alloc(), &inventory, &config, rows.as_slice());
+    are.expect(rt, "paths") == case.2
 }
 
 #[test]
-fn given_rows_are_told(rt: HostRuntime) -> Result<(), Fail> {
+fn given_rows_are_told(rt: HostRuntime) {
     for &case in GIVEN {
-        assert!(rt; is_told(rt.alloc(), case)?);
+        assert!(rt; is_told(&rt, case));
     }
-    Ok(())
 }
 
 /// A world, another, what the second lacks, and what it has beside.
@@ -152,67 +93,30 @@ const CASES: &[Case] = &[
     (World::Hidden, World::Both, &[], &[ALPHA, ZETA]),
 ];
 
-/// Whether the rows of a difference are those of the lines.
-fn is_difference(
-    found: PathRowDifference<Global>,
-    taken: &[PathLine],
-    added: &[PathLine],
-) -> Result<bool, Fail> {
-    if !are_paths(found.taken.as_slice(), taken)? {
-        return Ok(false);
-    }
-    are_paths(found.added.as_slice(), added)
-}
-
-/// What leads from a world to another.
-fn difference(
-    alloc: Global,
-    before: &View<'_, Global>,
-    after: &View<'_, Global>,
-) -> Result<PathRowDifference<Global>, Fail> {
-    Ok(path_difference(alloc, before, after)?)
-}
-
 /// Whether the configurations differ beside an inventory as the case says.
 fn differ(
-    alloc: Global,
+    rt: &(impl Abort + AllocGlobal),
     inventory: &Inventory<Global>,
     before: &Config<Global>,
     after: &Config<Global>,
     case: Case,
-) -> Result<bool, Fail> {
+) -> bool {
     let (before, after) = (View::of(inventory, before), View::of(inventory, after));
-    let found = difference(alloc, &before, &after)?;
-    is_difference(found, case.2, case.3)
-}
-
-/// Whether the second configuration differs from this one.
-fn differs(
-    alloc: Global,
-    inventory: &Inventory<Global>,
-    before: &Config<Global>,
-    case: Case,
-) -> Result<bool, Fail> {
-    let after = config(alloc, case.1)?;
-    differ(alloc, inventory, before, &after, case)
-}
-
-/// Whether the configurations of the case differ so beside an inventory.
-fn differ_beside(alloc: Global, inventory: &Inventory<Global>, case: Case) -> Result<bool, Fail> {
-    let before = config(alloc, case.0)?;
-    differs(alloc, inventory, &before, case)
+    let found = path_difference(rt.alloc(), &before, &after).expect(rt, "paths");
+    are_paths(rt, found.taken.as_slice(), case.2) && are_paths(rt, found.added.as_slice(), case.3)
 }
 
 /// Whether the case is right.
-fn is_right(alloc: Global, case: Case) -> Result<bool, Fail> {
-    let inventory = stock(alloc, Change::Nothing)?;
-    differ_beside(alloc, &inventory, case)
+fn is_right(rt: &(impl Abort + AllocGlobal), case: Case) -> bool {
+    let inventory = stock(rt, Change::Nothing);
+    let before = config(rt, case.0);
+    let after = config(rt, case.1);
+    differ(rt, &inventory, &before, &after, case)
 }
 
 #[test]
-fn differences_are_rows(rt: HostRuntime) -> Result<(), Fail> {
+fn differences_are_rows(rt: HostRuntime) {
     for &case in CASES {
-        assert!(rt; is_right(rt.alloc(), case)?);
+        assert!(rt; is_right(&rt, case));
     }
-    Ok(())
 }

@@ -2,9 +2,9 @@
 
 use crate::lines::{name, place, wwn};
 use fab_inventory::{HolderKind, Inventory, PortRow};
-use fab_names::Fabric;
+use fab_names::{Fabric, Wwn};
 use std::alloc::Global;
-use std::test::Fail;
+use std::process::Abort;
 
 /// Two initiators.
 pub const I1: u64 = 0x1000_0000_0000_0001;
@@ -34,97 +34,124 @@ pub enum Change {
     Dropped,
 }
 
-/// A port in a list, of a node of the same number.
-fn listed(number: u64, slot: u16) -> Result<PortRow, Fail> {
-    let (name, place) = (wwn(number)?, place(1, slot)?);
-    Ok(PortRow {
-        name,
-        node: name,
-        place,
-    })
+/// A port in a list, of a node of the same number: its number, and the slot that it is at.
+type Listed = (u64, u16);
+
+/// The initiators and the target.
+const ALL: &[Listed] = &[(TP1, 2), (I2, 4), (I1, 1)];
+
+/// The first initiator and the target.
+const FEWER: &[Listed] = &[(I1, 1), (TP1, 2)];
+
+/// A port that was not known.
+const NEW: &[Listed] = &[(I3, 3)];
+
+/// A fabric lists these ports.
+fn list(
+    rt: &(impl Abort + AllocGlobal),
+    inventory: &mut Inventory<Global>,
+    fabric: Fabric,
+    ports: &[Listed],
+) {
+    let mut rows = Vec::new(rt.alloc());
+    for &(number, slot) in ports {
+        let (name, place) = (wwn(rt, number), place(rt, 1, slot));
+        let row = PortRow {
+            name,
+            node: name,
+            place,
+        };
+        rows.push(row).expect(rt, "memory");
+    }
+    inventory
+        .import(fabric, rows.as_slice())
+        .expect(rt, "a port list");
 }
 
-/// Fabric A lists the initiators and the target.
-fn list(inventory: &mut Inventory<Global>) -> Result<(), Fail> {
-    let rows = [listed(TP1, 2)?, listed(I2, 4)?, listed(I1, 1)?];
-    Ok(inventory.import(Fabric::A, &rows)?)
-}
-
-/// Fabric A lists the first initiator and the target.
-fn list_fewer(inventory: &mut Inventory<Global>) -> Result<(), Fail> {
-    let rows = [listed(I1, 1)?, listed(TP1, 2)?];
-    Ok(inventory.import(Fabric::A, &rows)?)
-}
-
-/// Fabric B lists a port.
-fn list_new(inventory: &mut Inventory<Global>) -> Result<(), Fail> {
-    let rows = [listed(I3, 3)?];
-    Ok(inventory.import(Fabric::B, &rows)?)
-}
-
-/// A holder of one port.
+/// A holder of these ports.
 fn hold(
+    rt: &impl Abort,
     inventory: &mut Inventory<Global>,
     kind: HolderKind,
-    holder: &str,
-    tenant: &str,
-    port: u64,
-) -> Result<(), Fail> {
-    let (holder, tenant) = (name(holder)?, name(tenant)?);
-    let ports = [wwn(port)?];
-    Ok(inventory.put_holder(holder, kind, tenant, &ports)?)
-}
-
-/// The host `zeta` holds nothing.
-fn free(inventory: &mut Inventory<Global>) -> Result<(), Fail> {
-    let (holder, tenant) = (name("zeta")?, name("blue")?);
-    Ok(inventory.put_holder(holder, HolderKind::Host, tenant, &[])?)
+    holder: (&str, &str),
+    ports: &[Wwn],
+) {
+    let (holder, tenant) = (name(rt, holder.0), name(rt, holder.1));
+    inventory
+        .put_holder(holder, kind, tenant, ports)
+        .expect(rt, "a holder");
 }
 
 /// A volume of the array.
 fn volume(
+    rt: &impl Abort,
     inventory: &mut Inventory<Global>,
     volume: &str,
     tenant: &str,
     bytes: u64,
-) -> Result<(), Fail> {
-    let (volume, tenant) = (name(volume)?, name(tenant)?);
-    let array = name("arr1")?;
-    Ok(inventory.put_volume(volume, array, tenant, bytes)?)
-}
-
-fn drop_volume(inventory: &mut Inventory<Global>) -> Result<(), Fail> {
-    let volume = name("v1")?;
-    Ok(inventory.drop_volume(&volume)?)
+) {
+    let (volume, tenant) = (name(rt, volume), name(rt, tenant));
+    let array = name(rt, "arr1");
+    inventory
+        .put_volume(volume, array, tenant, bytes)
+        .expect(rt, "a volume");
 }
 
 /// The ports, the holders and the volumes.
-fn fill(inventory: &mut Inventory<Global>) -> Result<(), Fail> {
-    list(inventory)?;
-    hold(inventory, HolderKind::Host, "zeta", "blue", I1)?;
-    hold(inventory, HolderKind::Array, "arr1", "store", TP1)?;
-    hold(inventory, HolderKind::Host, "alpha", "green", I2)?;
-    volume(inventory, "v2", "green", 2)?;
-    volume(inventory, "v1", "blue", 1)
+fn fill(rt: &(impl Abort + AllocGlobal), inventory: &mut Inventory<Global>) {
+    list(rt, inventory, Fabric::A, ALL);
+    hold(
+        rt,
+        inventory,
+        HolderKind::Host,
+        ("zeta", "blue"),
+        &[wwn(rt, I1)],
+    );
+    hold(
+        rt,
+        inventory,
+        HolderKind::Array,
+        ("arr1", "store"),
+        &[wwn(rt, TP1)],
+    );
+    hold(
+        rt,
+        inventory,
+        HolderKind::Host,
+        ("alpha", "green"),
+        &[wwn(rt, I2)],
+    );
+    volume(rt, inventory, "v2", "green", 2);
+    volume(rt, inventory, "v1", "blue", 1);
 }
 
 /// Makes a change.
-fn alter(inventory: &mut Inventory<Global>, change: Change) -> Result<(), Fail> {
+fn alter(rt: &(impl Abort + AllocGlobal), inventory: &mut Inventory<Global>, change: Change) {
     match change {
-        Change::Nothing => Ok(()),
-        Change::Tenant => hold(inventory, HolderKind::Host, "zeta", "green", I1),
-        Change::Freed => free(inventory),
-        Change::Gone => list_fewer(inventory),
-        Change::Listed => list_new(inventory),
-        Change::Dropped => drop_volume(inventory),
+        Change::Nothing => {}
+        Change::Tenant => {
+            hold(
+                rt,
+                inventory,
+                HolderKind::Host,
+                ("zeta", "green"),
+                &[wwn(rt, I1)],
+            );
+        }
+        Change::Freed => hold(rt, inventory, HolderKind::Host, ("zeta", "blue"), &[]),
+        Change::Gone => list(rt, inventory, Fabric::A, FEWER),
+        Change::Listed => list(rt, inventory, Fabric::B, NEW),
+        Change::Dropped => inventory
+            .drop_volume(&name(rt, "v1"))
+            .expect(rt, "a volume"),
     }
 }
 
 /// Two initiators and a target of fabric A; the hosts `zeta` and `alpha` hold the first and the
 /// second initiator, `arr1` holds the target and has the volumes `v1` and `v2`; and then a change.
-pub fn stock(alloc: Global, after: Change) -> Result<Inventory<Global>, Fail> {
-    let mut inventory = Inventory::new(alloc);
-    fill(&mut inventory)?;
-    alter(&mut inventory, after)?;
-    Ok(inventory)
+pub fn stock(rt: &(impl Abort + AllocGlobal), after: Change) -> Inventory<Global> {
+    let mut inventory = Inventory::new(rt.alloc());
+    fill(rt, &mut inventory);
+    alter(rt, &mut inventory, after);
+    inventory
 }

@@ -1,14 +1,14 @@
 //! Configurations beside the inventory of the tests.
 
-use crate::lines::{name, wwn};
+use crate::lines::{name, put, wwn};
 use crate::stock::TP1;
 use fab_mapping::{HostGroup, Mapping, StorageGroup};
-use fab_names::{Fabric, Name, Wwn};
+use fab_names::{Fabric, Name};
 use fab_reach::Config;
 use fab_zoning::{DefaultFlag, Zoning};
 use std::alloc::Global;
 use std::collections::{BTreeMap, BTreeSet};
-use std::test::Fail;
+use std::process::Abort;
 
 /// A configuration: the default zone of fabric A permits, and a storage group maps `v1` at its units
 /// to the hosts of one host group, by the target.
@@ -25,85 +25,63 @@ pub enum World {
 }
 
 /// The names of the hosts.
-fn hosts(alloc: Global, world: World) -> Result<BTreeSet<Name, Global>, Fail> {
-    let (zeta, alpha) = (name("zeta")?, name("alpha")?);
-    let mut hosts = BTreeSet::new(alloc);
-    hosts.insert(zeta)?;
+fn hosts(rt: &(impl Abort + AllocGlobal), world: World) -> BTreeSet<Name> {
+    let mut hosts = BTreeSet::new(rt.alloc());
+    hosts.insert(name(rt, "zeta")).expect(rt, "memory");
     if matches!(world, World::Both | World::Hidden) {
-        hosts.insert(alpha)?;
+        hosts.insert(name(rt, "alpha")).expect(rt, "memory");
     }
-    Ok(hosts)
+    hosts
 }
 
 /// The units with their volume.
-fn units(alloc: Global, world: World) -> Result<BTreeMap<u16, Name, Global>, Fail> {
-    let volume = name("v1")?;
-    let mut units = BTreeMap::new(alloc);
-    units.insert(0, volume)?;
+fn units(rt: &(impl Abort + AllocGlobal), world: World) -> BTreeMap<u16, Name> {
+    let volume = name(rt, "v1");
+    let mut units = BTreeMap::new(rt.alloc());
+    put(rt, &mut units, 0, volume);
     if matches!(world, World::Units) {
-        units.insert(5, volume)?;
+        put(rt, &mut units, 5, volume);
     }
-    Ok(units)
+    units
 }
 
-/// The names of one.
-fn names(alloc: Global, one: &str) -> Result<BTreeSet<Name, Global>, Fail> {
-    let one = name(one)?;
-    let mut names = BTreeSet::new(alloc);
-    names.insert(one)?;
-    Ok(names)
+/// A set of one.
+fn only<T: Ord + Drop>(rt: &(impl Abort + AllocGlobal), one: T) -> BTreeSet<T> {
+    let mut set = BTreeSet::new(rt.alloc());
+    set.insert(one).expect(rt, "memory");
+    set
 }
 
-fn targets(alloc: Global) -> Result<BTreeSet<Wwn, Global>, Fail> {
-    let target = wwn(TP1)?;
-    let mut targets = BTreeSet::new(alloc);
-    targets.insert(target)?;
-    Ok(targets)
+fn host_groups(rt: &(impl Abort + AllocGlobal), world: World) -> BTreeMap<Name, HostGroup<Global>> {
+    let mut groups = BTreeMap::new(rt.alloc());
+    let group = HostGroup::from_parts(name(rt, "blue"), hosts(rt, world));
+    put(rt, &mut groups, name(rt, "hosts1"), group);
+    groups
 }
 
-fn host_groups(
-    alloc: Global,
-    world: World,
-) -> Result<BTreeMap<Name, HostGroup<Global>, Global>, Fail> {
-    let mut groups = BTreeMap::new(alloc);
-    let group = HostGroup::from_parts(name("blue")?, hosts(alloc, world)?);
-    groups.insert(name("hosts1")?, group)?;
-    Ok(groups)
-}
-
-fn storage_group(alloc: Global, world: World) -> Result<StorageGroup<Global>, Fail> {
-    let hosts = names(alloc, "hosts1")?;
-    let (targets, units) = (targets(alloc)?, units(alloc, world)?);
+fn storage_group(rt: &(impl Abort + AllocGlobal), world: World) -> StorageGroup<Global> {
+    let hosts = only(rt, name(rt, "hosts1"));
+    let targets = only(rt, wwn(rt, TP1));
+    let units = units(rt, world);
     let exposed = !matches!(world, World::Hidden);
-    Ok(StorageGroup::from_parts(name("blue")?, name("arr1")?, hosts, targets, units, exposed))
+    let (tenant, array) = (name(rt, "blue"), name(rt, "arr1"));
+    StorageGroup::from_parts(tenant, array, hosts, targets, units, exposed)
 }
 
-fn groups(
-    alloc: Global,
-    world: World,
-) -> Result<BTreeMap<Name, StorageGroup<Global>, Global>, Fail> {
-    let mut groups = BTreeMap::new(alloc);
-    groups.insert(name("g1")?, storage_group(alloc, world)?)?;
-    Ok(groups)
-}
-
-fn mapped(alloc: Global, world: World) -> Result<Mapping<Global>, Fail> {
-    let host_groups = host_groups(alloc, world)?;
-    let groups = groups(alloc, world)?;
-    Ok(Mapping::from_maps(alloc, host_groups, groups))
-}
-
-/// A zoning whose default zone permits.
-fn permitting(alloc: Global) -> Zoning<Global> {
-    let mut zoning = Zoning::new(alloc, Fabric::A);
-    zoning.set_default(DefaultFlag::Permit);
-    zoning
+fn groups(rt: &(impl Abort + AllocGlobal), world: World) -> BTreeMap<Name, StorageGroup<Global>> {
+    let mut groups = BTreeMap::new(rt.alloc());
+    let group = storage_group(rt, world);
+    put(rt, &mut groups, name(rt, "g1"), group);
+    groups
 }
 
 /// The configuration of a world.
-pub fn config(alloc: Global, world: World) -> Result<Config<Global>, Fail> {
-    let mapping = mapped(alloc, world)?;
-    let a = permitting(alloc);
-    let b = Zoning::new(alloc, Fabric::B);
-    Ok(Config { a, b, mapping })
+pub fn config(rt: &(impl Abort + AllocGlobal), world: World) -> Config<Global> {
+    let host_groups = host_groups(rt, world);
+    let groups = groups(rt, world);
+    let mapping = Mapping::from_maps(rt.alloc(), host_groups, groups);
+    let mut a = Zoning::new(rt.alloc(), Fabric::A);
+    a.set_default(DefaultFlag::Permit);
+    let b = Zoning::new(rt.alloc(), Fabric::B);
+    Config { a, b, mapping }
 }

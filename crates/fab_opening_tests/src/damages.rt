@@ -15,7 +15,7 @@ use fab_row_lists::{InventoryLists, inventory_rows, path_rows};
 use fab_rows::{PlanState, Sign, TableRows, config_rows};
 use fab_world::{KeptPlan, World};
 use std::alloc::Global;
-use std::test::Fail;
+use std::process::Abort;
 
 /// A change of which rows are the first to have a fault, if any: each table, in their order.
 type Damage = (&'static [Edit], Option<Table>);
@@ -158,164 +158,125 @@ const SEVERAL: &[Damage] = &[
 ];
 
 /// The table that is damaged, if one is.
-fn damaged(alloc: Global, tables: &TableRows<Global>) -> Result<Option<Table>, Fail> {
-    match world_of(alloc, tables) {
-        Ok(_) => Ok(None),
-        Err(LoadFault::Damaged(table)) => Ok(Some(table)),
-        Err(LoadFault::Memory) => Err(Fail::from("memory")),
+fn damaged(rt: &(impl Abort + AllocGlobal), tables: &TableRows<Global>) -> Option<Table> {
+    match world_of(rt.alloc(), tables) {
+        Ok(_) => None,
+        Err(LoadFault::Damaged(table)) => Some(table),
+        Err(LoadFault::Memory) => panic!(rt; "memory"),
     }
 }
 
 /// Whether the changed rows have the damage of the case, or none.
-fn is_told(alloc: Global, case: Damage) -> Result<bool, Fail> {
-    let mut tables = tables(alloc)?;
-    apply_all(alloc, &mut tables, case.0)?;
-    Ok(damaged(alloc, &tables)? == case.1)
+fn is_told(rt: &(impl Abort + AllocGlobal), case: Damage) -> bool {
+    let mut tables = tables(rt);
+    apply_all(rt, &mut tables, case.0);
+    damaged(rt, &tables) == case.1
 }
 
-/// How many cases of a table are told.
-fn told(alloc: Global, cases: &[Damage]) -> Result<usize, Fail> {
-    let mut told = 0usize;
-    for case in cases {
-        if is_told(alloc, *case)? {
-            told = told.saturating_add(1);
-        }
+/// Ends the test where a case of a list is not told.
+fn are_told(rt: &(impl Abort + AllocGlobal), list: &str, cases: &[Damage]) {
+    for (place, case) in cases.iter().enumerate() {
+        assert!(rt; is_told(rt, *case), "{list}: {place}");
     }
-    Ok(told)
 }
 
-/// Whether each damage is told.
-fn are_told(alloc: Global, cases: &[Damage]) -> Result<bool, Fail> {
-    Ok(told(alloc, cases)? == cases.len())
+fn settings_are_told(rt: &(impl Abort + AllocGlobal)) {
+    are_told(rt, "settings", META);
 }
 
-fn settings_are_told(alloc: Global) -> Result<bool, Fail> {
-    are_told(alloc, META)
+fn inventories_are_told(rt: &(impl Abort + AllocGlobal)) {
+    are_told(rt, "inventories", INVENTORY);
 }
 
-fn inventories_are_told(alloc: Global) -> Result<bool, Fail> {
-    are_told(alloc, INVENTORY)
+fn configurations_are_told(rt: &(impl Abort + AllocGlobal)) {
+    are_told(rt, "configurations", CONFIGURATION);
 }
 
-fn configurations_are_told(alloc: Global) -> Result<bool, Fail> {
-    are_told(alloc, CONFIGURATION)
+fn plans_and_paths_are_told(rt: &(impl Abort + AllocGlobal)) {
+    are_told(rt, "plans and paths", RECORDS);
 }
 
-fn plans_and_paths_are_told(alloc: Global) -> Result<bool, Fail> {
-    are_told(alloc, RECORDS)
-}
-
-fn first_of_several_is_told(alloc: Global) -> Result<bool, Fail> {
-    are_told(alloc, SEVERAL)
+fn first_of_several_is_told(rt: &(impl Abort + AllocGlobal)) {
+    are_told(rt, "several", SEVERAL);
 }
 
 #[test]
-fn damage_is_named(rt: HostRuntime) -> Result<(), Fail> {
-    let alloc = rt.alloc();
-    assert!(rt; settings_are_told(alloc)? && inventories_are_told(alloc)?);
-    assert!(rt; configurations_are_told(alloc)? && plans_and_paths_are_told(alloc)?);
-    assert!(rt; first_of_several_is_told(alloc)?);
-    Ok(())
+fn damage_is_named(rt: HostRuntime) {
+    settings_are_told(&rt);
+    inventories_are_told(&rt);
+    configurations_are_told(&rt);
+    plans_and_paths_are_told(&rt);
+    first_of_several_is_told(&rt);
 }
 
-/// Whether the lists are the rows of the inventory.
-fn are_lists(lists: &InventoryLists<Global>, tables: &TableRows<Global>) -> bool {
-    if lists.ports.as_slice() != tables.ports.as_slice() {
-        return false;
-    }
-    if lists.holders.as_slice() != tables.holders.as_slice() {
-        return false;
-    }
-    lists.volumes.as_slice() == tables.volumes.as_slice()
-}
-
+/// Whether the inventory has the rows.
 fn has_inventory(
-    alloc: Global,
+    rt: &(impl Abort + AllocGlobal),
     inventory: &Inventory<Global>,
     tables: &TableRows<Global>,
-) -> Result<bool, Fail> {
-    let lists = inventory_rows(alloc, inventory)?;
-    Ok(are_lists(&lists, tables))
+) -> bool {
+    let lists = inventory_rows(rt.alloc(), inventory).expect(rt, "memory");
+    lists.ports.as_slice() == tables.ports.as_slice()
+        && lists.holders.as_slice() == tables.holders.as_slice()
+        && lists.volumes.as_slice() == tables.volumes.as_slice()
 }
 
-fn has_config(alloc: Global, config: &Config<Global>) -> Result<bool, Fail> {
-    let rows = config_rows(alloc, config)?;
-    are(rows.as_slice(), CONFIG)
+fn has_config(rt: &(impl Abort + AllocGlobal), config: &Config<Global>) -> bool {
+    let rows = config_rows(rt.alloc(), config).expect(rt, "memory");
+    are(rt, rows.as_slice(), CONFIG)
 }
 
 fn has_paths(
-    alloc: Global,
+    rt: &(impl Abort + AllocGlobal),
     world: &World<Global>,
     tables: &TableRows<Global>,
-) -> Result<bool, Fail> {
-    let rows = path_rows(alloc, &world.inventory, &world.config)?;
-    Ok(rows.as_slice() == tables.paths.as_slice())
+) -> bool {
+    let rows = path_rows(rt.alloc(), &world.inventory, &world.config).expect(rt, "paths");
+    rows.as_slice() == tables.paths.as_slice()
 }
 
 /// Whether the plan is ada's, active, of ten steps, with bob's approval, and its activation took one
 /// row away and added thirteen.
-fn is_first(kept: &KeptPlan<Global>) -> Result<bool, Fail> {
+fn is_first(rt: &impl Abort, kept: &KeptPlan<Global>) -> bool {
     let plan = kept.plan();
-    if plan.author != name("ada")? || kept.state() != PlanState::Active {
-        return Ok(false);
+    if plan.author != name(rt, "ada") || kept.state() != PlanState::Active {
+        return false;
     }
-    if plan.steps.len() != 10 || plan.approvals.get(&name("bob")?) != Some(&6) {
-        return Ok(false);
+    if plan.steps.len() != 10 || plan.approvals.get(&name(rt, "bob")) != Some(&6) {
+        return false;
     }
     match kept.undo() {
-        Some(change) => Ok(change.taken.len() == 1 && change.added.len() == 13),
-        None => Ok(false),
+        Some(change) => change.taken.len() == 1 && change.added.len() == 13,
+        None => false,
     }
 }
 
 /// Whether the world has the one plan, which is in force, at revision 7.
-fn has_plan(world: &World<Global>) -> Result<bool, Fail> {
-    let p1 = name("p1")?;
+fn has_plan(rt: &impl Abort, world: &World<Global>) -> bool {
+    let p1 = name(rt, "p1");
     if world.plans.len() != 1 || world.revision != 7 {
-        return Ok(false);
+        return false;
     }
     if world.order.len() != 1 || world.order.get(0) != Some(&p1) {
-        return Ok(false);
+        return false;
     }
     match world.plans.get(&p1) {
-        Some(kept) => is_first(kept),
-        None => Ok(false),
+        Some(kept) => is_first(rt, kept),
+        None => false,
     }
 }
 
-/// Whether the world has the rows.
-fn has_rows(
-    alloc: Global,
-    world: &World<Global>,
-    tables: &TableRows<Global>,
-) -> Result<bool, Fail> {
-    if !has_inventory(alloc, &world.inventory, tables)? {
-        return Ok(false);
-    }
-    if !has_config(alloc, &world.config)? {
-        return Ok(false);
-    }
-    if !has_paths(alloc, world, tables)? {
-        return Ok(false);
-    }
-    has_plan(world)
-}
-
-/// Whether a world comes of the rows that has them.
-fn comes_back(alloc: Global, tables: &TableRows<Global>) -> Result<bool, Fail> {
-    match world_of(alloc, tables) {
-        Ok(world) => has_rows(alloc, &world, tables),
-        Err(_) => Ok(false),
-    }
-}
-
-fn is_restored(alloc: Global) -> Result<bool, Fail> {
-    let tables = tables(alloc)?;
-    comes_back(alloc, &tables)
+/// The world of the rows.
+fn restored(rt: &(impl Abort + AllocGlobal), tables: &TableRows<Global>) -> World<Global> {
+    world_of(rt.alloc(), tables).expect(rt, "a world")
 }
 
 #[test]
-fn rows_come_back(rt: HostRuntime) -> Result<(), Fail> {
-    assert!(rt; is_restored(rt.alloc())?);
-    Ok(())
+fn rows_come_back(rt: HostRuntime) {
+    let tables = tables(&rt);
+    let world = restored(&rt, &tables);
+    assert!(rt; has_inventory(&rt, &world.inventory, &tables));
+    assert!(rt; has_config(&rt, &world.config));
+    assert!(rt; has_paths(&rt, &world, &tables));
+    assert!(rt; has_plan(&rt, &world));
 }

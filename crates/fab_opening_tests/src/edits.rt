@@ -4,9 +4,9 @@ use crate::lines::{Line, name, row};
 use crate::records::undo_row;
 use crate::tables::{put_approval, put_counts, put_path, put_plan};
 use fab_inventory::HolderKind;
-use fab_rows::{HolderRow, PlanState, Sign, TableRows, VolumeRow};
+use fab_rows::{HolderRow, PlanState, Sign, TableRows, UndoRow, VolumeRow};
 use std::alloc::Global;
-use std::test::Fail;
+use std::process::Abort;
 
 /// A change of the rows.
 #[derive(Clone, Copy)]
@@ -36,87 +36,69 @@ pub enum Edit {
 }
 
 /// The first port is held by one that is not there.
-fn lose_holder(tables: &mut TableRows<Global>) -> Result<(), Fail> {
-    let holder = name("db9")?;
+fn lose_holder(rt: &impl Abort, tables: &mut TableRows<Global>) {
     let Some(port) = tables.ports.get_mut(0) else {
-        return Err(Fail::from("no port"));
+        panic!(rt; "no port");
     };
-    port.holder = Some(holder);
-    Ok(())
+    port.holder = Some(name(rt, "db9"));
 }
 
-fn put_holder(tables: &mut TableRows<Global>, holder: &str, kind: HolderKind) -> Result<(), Fail> {
-    let (name, tenant) = (name(holder)?, name("blue")?);
-    Ok(tables.holders.push(HolderRow { name, kind, tenant })?)
+fn put_holder(rt: &impl Abort, tables: &mut TableRows<Global>, holder: &str, kind: HolderKind) {
+    let (name, tenant) = (name(rt, holder), name(rt, "blue"));
+    tables
+        .holders
+        .push(HolderRow { name, kind, tenant })
+        .expect(rt, "memory");
 }
 
-fn put_volume(tables: &mut TableRows<Global>, array: &str) -> Result<(), Fail> {
-    let (name, array, tenant) = (name("v9")?, name(array)?, name("blue")?);
-    Ok(
-        tables.volumes.push(VolumeRow {
-            name,
-            array,
-            tenant,
-            bytes: 1,
-        })?,
-    )
+fn put_volume(rt: &impl Abort, tables: &mut TableRows<Global>, array: &str) {
+    let volume = VolumeRow {
+        name: name(rt, "v9"),
+        array: name(rt, array),
+        tenant: name(rt, "blue"),
+        bytes: 1,
+    };
+    tables.volumes.push(volume).expect(rt, "memory");
 }
 
-fn set_config(tables: &mut TableRows<Global>, place: usize, line: Line) -> Result<(), Fail> {
+fn set_config(rt: &impl Abort, tables: &mut TableRows<Global>, place: usize, line: Line) {
     let Some(there) = tables.config.get_mut(place) else {
-        return Err(Fail::from("no row"));
+        panic!(rt; "no row");
     };
-    *there = row(line)?;
-    Ok(())
+    *there = row(rt, line);
 }
 
-fn set_undo(
-    tables: &mut TableRows<Global>,
-    place: usize,
-    plan: &str,
-    change: (Sign, Line),
-) -> Result<(), Fail> {
-    let plan = name(plan)?;
+fn set_undo(rt: &impl Abort, tables: &mut TableRows<Global>, place: usize, row: UndoRow) {
     let Some(there) = tables.undo.get_mut(place) else {
-        return Err(Fail::from("no row"));
+        panic!(rt; "no row");
     };
-    *there = undo_row(plan, change.0, change.1)?;
-    Ok(())
+    *there = row;
 }
 
 /// Makes a change.
-pub fn apply(alloc: Global, tables: &mut TableRows<Global>, edit: Edit) -> Result<(), Fail> {
+fn apply(rt: &(impl Abort + AllocGlobal), tables: &mut TableRows<Global>, edit: Edit) {
     match edit {
-        Edit::Counts(schema, revision) => put_counts(tables, schema, revision),
-        Edit::NoCounts => {
-            tables.counts.clear();
-            Ok(())
-        }
-        Edit::Port => lose_holder(tables),
-        Edit::Holder(holder, kind) => put_holder(tables, holder, kind),
-        Edit::Volume(array) => put_volume(tables, array),
-        Edit::Config(place, line) => set_config(tables, place, line),
+        Edit::Counts(schema, revision) => put_counts(rt, tables, schema, revision),
+        Edit::NoCounts => tables.counts.clear(),
+        Edit::Port => lose_holder(rt, tables),
+        Edit::Holder(holder, kind) => put_holder(rt, tables, holder, kind),
+        Edit::Volume(array) => put_volume(rt, tables, array),
+        Edit::Config(place, line) => set_config(rt, tables, place, line),
         Edit::Plan(text, position) => {
-            put_plan(alloc, tables, ("p2", PlanState::Staged, position), text)
+            put_plan(rt, tables, ("p2", text, PlanState::Staged, position))
         }
-        Edit::Approval(plan, revision) => put_approval(tables, plan, revision),
-        Edit::Undo(place, plan, sign, line) => set_undo(tables, place, plan, (sign, line)),
-        Edit::Path(host, target) => put_path(tables, host, target),
-        Edit::NoPath => {
-            tables.paths.clear();
-            Ok(())
+        Edit::Approval(plan, revision) => put_approval(rt, tables, (plan, "bob", revision)),
+        Edit::Undo(place, plan, sign, line) => {
+            set_undo(rt, tables, place, undo_row(rt, plan, sign, line))
         }
+        Edit::Path(host, target) => put_path(rt, tables, host, target),
+        Edit::NoPath => tables.paths.clear(),
     }
 }
 
 /// Makes changes, one after the other.
-pub fn apply_all(
-    alloc: Global,
-    tables: &mut TableRows<Global>,
-    edits: &[Edit],
-) -> Result<(), Fail> {
+pub fn apply_all(rt: &(impl Abort + AllocGlobal), tables: &mut TableRows<Global>, edits: &[Edit]) {
     for edit in edits {
-        apply(alloc, tables, *edit)?;
+        apply(rt, tables, *edit);
     }
-    Ok(())
 }

@@ -1,12 +1,9 @@
 //! The order of the activations in force, from the positions of plans.
 
 use crate::plan_lines::{PlanLine, are, plan_rows};
-use fab_names::Name;
-use fab_rows::PlanRow;
 use fab_rows::PlanState::{Active, RolledBack, Staged, Withdrawn};
 use fab_store_base::order_of;
-use std::alloc::Global;
-use std::test::Fail;
+use std::process::Abort;
 
 /// A plan's text.
 const TEXT: &str = "deactivate A\n";
@@ -42,30 +39,21 @@ const CASES: &[Case] = &[
     (&[("p1", TEXT, Withdrawn, 1), ("p2", TEXT, Active, 2)], None),
 ];
 
-/// Whether the names are these, where there are some.
-fn is_found(found: Option<Vec<Name, Global>>, names: Option<&[&str]>) -> Result<bool, Fail> {
-    match (found, names) {
-        (Some(found), Some(names)) => are(found.as_slice(), names),
-        (None, None) => Ok(true),
-        _ => Ok(false),
+/// Whether the rows of the case have its order, or none.
+fn is_told(rt: &(impl Abort + AllocGlobal), case: Case) -> bool {
+    let rows = plan_rows(rt, case.0);
+    match order_of(rt.alloc(), rows.as_slice()).expect(rt, "memory") {
+        Some(found) => match case.1 {
+            Some(names) => are(rt, found.as_slice(), names),
+            None => false,
+        },
+        None => case.1.is_none(),
     }
-}
-
-/// Whether the rows have the order, or none.
-fn have_order(rows: &[PlanRow<Global>], alloc: Global, case: Case) -> Result<bool, Fail> {
-    let found = order_of(alloc, rows)?;
-    is_found(found, case.1)
-}
-
-fn is_told(alloc: Global, case: Case) -> Result<bool, Fail> {
-    let rows = plan_rows(alloc, case.0)?;
-    have_order(rows.as_slice(), alloc, case)
 }
 
 #[test]
-fn orders_are_told(rt: HostRuntime) -> Result<(), Fail> {
+fn orders_are_told(rt: HostRuntime) {
     for &case in CASES {
-        assert!(rt; is_told(rt.alloc(), case)?);
+        assert!(rt; is_told(&rt, case));
     }
-    Ok(())
 }

@@ -1,9 +1,10 @@
 //! Rows of plans, approvals and changes as plain data.
 
+use crate::lines::name;
 use fab_names::{Fabric, Name};
 use fab_rows::{ApprovalRow, ConfigRow, PlanRow, PlanState, SettingRow, Sign, UndoRow};
 use std::alloc::Global;
-use std::test::Fail;
+use std::process::Abort;
 
 /// A plan of ada's: its name, its text, its state and its position.
 pub type PlanLine = (&'static str, &'static str, PlanState, u64);
@@ -15,95 +16,70 @@ pub type ApprovalLine = (&'static str, &'static str, u64);
 /// of fabric A permits, or that it denies.
 pub type UndoLine = (&'static str, Sign, bool);
 
-/// How many changed rows there are at most.
-pub const ROWS: usize = 4;
-
-/// The name of this text.
-pub fn name(text: &str) -> Result<Name, Fail> {
-    Ok(Name::read(text)?)
-}
-
-fn plan_row(alloc: Global, line: PlanLine) -> Result<PlanRow<Global>, Fail> {
-    let (name, author) = (name(line.0)?, name("ada")?);
-    let text = String::from_str(alloc, line.1)?;
-    Ok(PlanRow {
-        name,
-        author,
+/// The row of a plan.
+pub fn plan_row(rt: &(impl Abort + AllocGlobal), line: PlanLine) -> PlanRow<Global> {
+    let text = String::from_str(rt.alloc(), line.1).expect(rt, "memory");
+    PlanRow {
+        name: name(rt, line.0),
+        author: name(rt, "ada"),
         text,
         state: line.2,
         position: line.3,
-    })
+    }
 }
 
-fn approval_row(line: ApprovalLine) -> Result<ApprovalRow, Fail> {
-    let (plan, caller) = (name(line.0)?, name(line.1)?);
-    Ok(ApprovalRow {
-        plan,
-        caller,
+/// The row of an approval.
+pub fn approval_row(rt: &impl Abort, line: ApprovalLine) -> ApprovalRow {
+    ApprovalRow {
+        plan: name(rt, line.0),
+        caller: name(rt, line.1),
         revision: line.2,
-    })
+    }
 }
 
-fn undo_row(line: UndoLine) -> Result<UndoRow, Fail> {
-    let plan = name(line.0)?;
+/// A changed row.
+fn undo_row(rt: &impl Abort, line: UndoLine) -> UndoRow {
     let setting = SettingRow::DefaultZone(Fabric::A, line.2);
-    Ok(UndoRow {
-        plan,
+    UndoRow {
+        plan: name(rt, line.0),
         sign: line.1,
         row: ConfigRow::Setting(setting),
-    })
+    }
 }
 
 /// The rows of these plans.
-pub fn plan_rows(alloc: Global, lines: &[PlanLine]) -> Result<Vec<PlanRow<Global>, Global>, Fail> {
-    let mut rows = Vec::new(alloc);
+pub fn plan_rows(rt: &(impl Abort + AllocGlobal), lines: &[PlanLine]) -> Vec<PlanRow<Global>> {
+    let mut rows = Vec::new(rt.alloc());
     for line in lines {
-        rows.push(plan_row(alloc, *line)?)?;
+        rows.push(plan_row(rt, *line)).expect(rt, "memory");
     }
-    Ok(rows)
+    rows
 }
 
 /// The rows of these approvals.
-pub fn approval_rows(
-    alloc: Global,
-    lines: &[ApprovalLine],
-) -> Result<Vec<ApprovalRow, Global>, Fail> {
-    let mut rows = Vec::new(alloc);
+pub fn approval_rows(rt: &(impl Abort + AllocGlobal), lines: &[ApprovalLine]) -> Vec<ApprovalRow> {
+    let mut rows = Vec::new(rt.alloc());
     for line in lines {
-        rows.push(approval_row(*line)?)?;
+        rows.push(approval_row(rt, *line)).expect(rt, "memory");
     }
-    Ok(rows)
+    rows
 }
 
-/// Puts changed rows at the beginning.
-fn put(rows: &mut [UndoRow], lines: &[UndoLine]) -> Result<(), Fail> {
-    for (place, line) in rows.iter_mut().zip(lines) {
-        *place = undo_row(*line)?;
+/// These changed rows.
+pub fn undo_rows(rt: &(impl Abort + AllocGlobal), lines: &[UndoLine]) -> Vec<UndoRow> {
+    let mut rows = Vec::new(rt.alloc());
+    for line in lines {
+        rows.push(undo_row(rt, *line)).expect(rt, "memory");
     }
-    Ok(())
-}
-
-/// Room for changed rows, with these at the beginning.
-pub fn undo_rows(lines: &[UndoLine]) -> Result<[UndoRow; ROWS], Fail> {
-    let mut rows = [undo_row(("none", Sign::Taken, false))?; ROWS];
-    put(&mut rows, lines)?;
-    Ok(rows)
-}
-
-/// The first so many changed rows.
-pub fn first(rows: &[UndoRow; ROWS], count: usize) -> Result<&[UndoRow], Fail> {
-    if count > ROWS {
-        return Err(Fail::from("more rows than there is room for"));
-    }
-    Ok(&rows[..count])
+    rows
 }
 
 /// Whether the names are those of these texts, in this order.
-pub fn are(names: &[Name], texts: &[&str]) -> Result<bool, Fail> {
+pub fn are(rt: &impl Abort, names: &[Name], texts: &[&str]) -> bool {
     for (place, text) in texts.iter().enumerate() {
-        if names.get(place) != Some(&name(text)?) {
-            return Ok(false);
+        if names.get(place) != Some(&name(rt, text)) {
+            return false;
         }
     }
-    Ok(names.len() == texts.len())
+    names.len() == texts.len()
 }

@@ -1,17 +1,18 @@
 //! Plans from their rows, their approvals and their changes.
 
+use crate::lines::name;
 use crate::plan_lines::{
-    ApprovalLine, PlanLine, UndoLine, approval_rows, are, first, name, plan_rows, undo_rows,
+    ApprovalLine, PlanLine, UndoLine, approval_rows, are, plan_rows, undo_rows,
 };
 use fab_load::{LoadFault, Table};
 use fab_names::Name;
 use fab_rows::PlanState::{self, Active, RolledBack, Staged, Withdrawn};
-use fab_rows::{ApprovalRow, PlanRow, Sign, UndoRow};
+use fab_rows::Sign;
 use fab_store_base::{Plans, plans_of};
 use fab_world::KeptPlan;
 use std::alloc::Global;
 use std::collections::BTreeMap;
-use std::test::Fail;
+use std::process::Abort;
 
 /// A plan's text.
 const TEXT: &str = "deactivate A\n";
@@ -191,117 +192,92 @@ const BESIDE: &[Damage] = &[
     ),
 ];
 
-/// What comes of the rows.
-fn found(
-    alloc: Global,
-    plans: &[PlanRow<Global>],
-    approvals: &[ApprovalRow],
-    undo: &[UndoRow],
-) -> Result<Plans<Global>, LoadFault> {
-    plans_of(alloc, plans, approvals, undo)
-}
-
-/// What comes of the rows of a case, beside those of its plans.
-fn found_beside(
-    alloc: Global,
-    plans: &[PlanRow<Global>],
-    rows: Rows,
-) -> Result<Result<Plans<Global>, LoadFault>, Fail> {
-    let approvals = approval_rows(alloc, rows.1)?;
-    let undo = undo_rows(rows.2)?;
-    let undo = first(&undo, rows.2.len())?;
-    Ok(found(alloc, plans, approvals.as_slice(), undo))
-}
-
 /// What comes of the rows of a case.
-fn found_of(alloc: Global, rows: Rows) -> Result<Result<Plans<Global>, LoadFault>, Fail> {
-    let plans = plan_rows(alloc, rows.0)?;
-    found_beside(alloc, plans.as_slice(), rows)
+fn found_of(rt: &(impl Abort + AllocGlobal), rows: Rows) -> Result<Plans<Global>, LoadFault> {
+    let plans = plan_rows(rt, rows.0);
+    let approvals = approval_rows(rt, rows.1);
+    let undo = undo_rows(rt, rows.2);
+    plans_of(
+        rt.alloc(),
+        plans.as_slice(),
+        approvals.as_slice(),
+        undo.as_slice(),
+    )
 }
 
 /// Whether a plan is ada's, and as the line says.
-fn is_as(kept: &KeptPlan<Global>, made: Made) -> Result<bool, Fail> {
+fn is_as(rt: &impl Abort, kept: &KeptPlan<Global>, made: Made) -> bool {
     let plan = kept.plan();
-    if plan.author != name("ada")? || kept.state() != made.1 {
-        return Ok(false);
+    if plan.author != name(rt, "ada") || kept.state() != made.1 {
+        return false;
     }
     if plan.steps.len() != made.2 || plan.approvals.len() != made.3 {
-        return Ok(false);
+        return false;
     }
     match kept.undo() {
-        Some(change) => Ok(made.4 == Some((change.taken.len(), change.added.len()))),
-        None => Ok(made.4.is_none()),
-    }
-}
-
-/// Whether there is a plan as the line says.
-fn has(plans: &BTreeMap<Name, KeptPlan<Global>, Global>, made: Made) -> Result<bool, Fail> {
-    match plans.get(&name(made.0)?) {
-        Some(kept) => is_as(kept, made),
-        None => Ok(false),
+        Some(change) => made.4 == Some((change.taken.len(), change.added.len())),
+        None => made.4.is_none(),
     }
 }
 
 /// Whether the plans are those of the lines, and no other.
-fn has_all(plans: &BTreeMap<Name, KeptPlan<Global>, Global>, lines: &[Made]) -> Result<bool, Fail> {
+fn has_all(
+    rt: &impl Abort,
+    plans: &BTreeMap<Name, KeptPlan<Global>, Global>,
+    lines: &[Made],
+) -> bool {
     for made in lines {
-        if !has(plans, *made)? {
-            return Ok(false);
+        let kept = plans.get(&name(rt, made.0)).expect(rt, "a plan");
+        if !is_as(rt, kept, *made) {
+            return false;
         }
     }
-    Ok(plans.len() == lines.len())
+    plans.len() == lines.len()
 }
 
 /// Whether the plans, and their order, are those of the case.
-fn is_whole(alloc: Global, case: Whole) -> Result<bool, Fail> {
-    match found_of(alloc, case.0)? {
-        Ok(found) => { Ok(has_all(&found.plans, case.1)? && are(found.order.as_slice(), case.2)?) }
-        Err(_) => Ok(false),
-    }
+fn is_whole(rt: &(impl Abort + AllocGlobal), case: Whole) -> bool {
+    let found = found_of(rt, case.0).expect(rt, "plans");
+    has_all(rt, &found.plans, case.1) && are(rt, found.order.as_slice(), case.2)
 }
 
 #[test]
-fn plans_are_made(rt: HostRuntime) -> Result<(), Fail> {
+fn plans_are_made(rt: HostRuntime) {
     for &case in WHOLE {
-        assert!(rt; is_whole(rt.alloc(), case)?);
+        assert!(rt; is_whole(&rt, case));
     }
-    Ok(())
 }
 
 /// Whether the table is damaged.
-fn is_damaged(alloc: Global, case: Damage) -> Result<bool, Fail> {
-    match found_of(alloc, case.0)? {
-        Ok(_) => Ok(false),
-        Err(fault) => Ok(fault == LoadFault::Damaged(case.1)),
+fn is_damaged(rt: &(impl Abort + AllocGlobal), case: Damage) -> bool {
+    match found_of(rt, case.0) {
+        Ok(_) => false,
+        Err(fault) => fault == LoadFault::Damaged(case.1),
     }
 }
 
-/// Whether each table of a list is damaged.
-fn are_damaged(alloc: Global, cases: &[Damage]) -> Result<bool, Fail> {
-    for case in cases {
-        if !is_damaged(alloc, *case)? {
-            return Ok(false);
-        }
+/// Ends the test where the table of a case of a list is not damaged.
+fn are_damaged(rt: &(impl Abort + AllocGlobal), list: &str, cases: &[Damage]) {
+    for (place, case) in cases.iter().enumerate() {
+        assert!(rt; is_damaged(rt, *case), "{list}: {place}");
     }
-    Ok(true)
 }
 
-fn texts_are_damaged(alloc: Global) -> Result<bool, Fail> {
-    are_damaged(alloc, TEXTS)
+fn texts_are_damaged(rt: &(impl Abort + AllocGlobal)) {
+    are_damaged(rt, "texts", TEXTS);
 }
 
-fn rows_are_damaged(alloc: Global) -> Result<bool, Fail> {
-    are_damaged(alloc, ROWS)
+fn rows_are_damaged(rt: &(impl Abort + AllocGlobal)) {
+    are_damaged(rt, "rows", ROWS);
 }
 
-fn rows_beside_are_damaged(alloc: Global) -> Result<bool, Fail> {
-    are_damaged(alloc, BESIDE)
+fn rows_beside_are_damaged(rt: &(impl Abort + AllocGlobal)) {
+    are_damaged(rt, "rows beside", BESIDE);
 }
 
 #[test]
-fn damage_is_named(rt: HostRuntime) -> Result<(), Fail> {
-    let alloc = rt.alloc();
-    assert!(rt; texts_are_damaged(alloc)? && rows_are_damaged(alloc)?);
-    assert!(rt; rows_beside_are_damaged(alloc)?);
-    Ok(())
+fn damage_is_named(rt: HostRuntime) {
+    texts_are_damaged(&rt);
+    rows_are_damaged(&rt);
+    rows_beside_are_damaged(&rt);
 }

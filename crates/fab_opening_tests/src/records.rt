@@ -3,14 +3,15 @@
 use crate::lines::{Line, name, row};
 use crate::stock::{FIRST_INITIATOR, FIRST_TARGET};
 use fab_names::Fabric::{A, B};
-use fab_names::Name;
 use fab_rows::{ConfigRow, Sign, UndoRow};
-use std::alloc::Global;
-use std::test::Fail;
+use std::process::Abort;
 
 /// How many rows of a configuration there are, and how many changed ones: behind those of the lines
 /// there are some that equal the last.
 const ROWS: usize = 20;
+
+/// The last of the lines.
+const LAST: Line = Line::Unit("g1", 0, "v1");
 
 /// The rows of the configuration, in their order.
 pub const CONFIG: &[Line] = &[
@@ -50,44 +51,29 @@ const CHANGES: &[(Sign, Line)] = &[
     (Sign::Added, Line::Unit("g1", 0, "v1")),
 ];
 
-/// Puts the rows of the lines at the beginning.
-fn put(rows: &mut [ConfigRow], lines: &[Line]) -> Result<(), Fail> {
-    for (place, line) in rows.iter_mut().zip(lines) {
-        *place = row(*line)?;
-    }
-    Ok(())
-}
-
 /// The rows of the configuration.
-pub fn config_rows(alloc: Global) -> Result<Vec<ConfigRow, Global>, Fail> {
-    let last = row(Line::Unit("g1", 0, "v1"))?;
-    let mut rows = [last; ROWS];
-    put(&mut rows, CONFIG)?;
-    Ok(rows.to_vec(alloc)?)
+pub fn config_rows(rt: &(impl Abort + AllocGlobal)) -> Vec<ConfigRow> {
+    let mut rows = Vec::new(rt.alloc());
+    for place in 0..ROWS {
+        let line = CONFIG.get(place).copied().unwrap_or(LAST);
+        rows.push(row(rt, line)).expect(rt, "memory");
+    }
+    rows
 }
 
 /// A changed row of a plan.
-pub fn undo_row(plan: Name, sign: Sign, line: Line) -> Result<UndoRow, Fail> {
-    Ok(UndoRow {
-        plan,
-        sign,
-        row: row(line)?,
-    })
-}
-
-/// Puts the changed rows at the beginning.
-fn put_changes(rows: &mut [UndoRow], plan: Name) -> Result<(), Fail> {
-    for (place, change) in rows.iter_mut().zip(CHANGES) {
-        *place = undo_row(plan, change.0, change.1)?;
-    }
-    Ok(())
+pub fn undo_row(rt: &impl Abort, plan: &str, sign: Sign, line: Line) -> UndoRow {
+    let (plan, row) = (name(rt, plan), row(rt, line));
+    UndoRow { plan, sign, row }
 }
 
 /// The changed rows.
-pub fn undo_rows(alloc: Global) -> Result<Vec<UndoRow, Global>, Fail> {
-    let plan = name("p1")?;
-    let last = undo_row(plan, Sign::Added, Line::Unit("g1", 0, "v1"))?;
-    let mut rows = [last; ROWS];
-    put_changes(&mut rows, plan)?;
-    Ok(rows.to_vec(alloc)?)
+pub fn undo_rows(rt: &(impl Abort + AllocGlobal)) -> Vec<UndoRow> {
+    let mut rows = Vec::new(rt.alloc());
+    for place in 0..ROWS {
+        let (sign, line) = CHANGES.get(place).copied().unwrap_or((Sign::Added, LAST));
+        rows.push(undo_row(rt, "p1", sign, line))
+            .expect(rt, "memory");
+    }
+    rows
 }

@@ -4,7 +4,7 @@ use crate::lines::{name, port};
 use fab_inventory::{HolderKind, Inventory, PortRow};
 use fab_names::{Fabric, Place};
 use std::alloc::Global;
-use std::test::Fail;
+use std::process::Abort;
 
 /// The port of the first host.
 pub const FIRST_INITIATOR: u64 = 0x1000_0000_0000_0001;
@@ -33,89 +33,84 @@ const PORTS: &[Row] = &[
     (SECOND_TARGET, 0x5000_0000_0000_0000, 1, 3),
 ];
 
-/// Volumes: name, array, tenant.
-const VOLUMES: &[(&str, &str, &str)] = &[("v1", "arr1", "blue"), ("v2", "arr1", "green")];
-
-fn place(domain: u8, slot: u16) -> Result<Place, Fail> {
+fn place(rt: &impl Abort, domain: u8, slot: u16) -> Place {
     if domain == 0 || domain > 239 || slot > 4095 {
-        return Err(Fail::from("place"));
+        panic!(rt; "place");
     }
-    Ok(Place::new(domain, slot))
+    Place::new(domain, slot)
 }
 
 /// A record of a port list.
-fn listed(row: Row) -> Result<PortRow, Fail> {
-    let name = port(row.0)?;
-    let node = port(row.1)?;
-    let place = place(row.2, row.3)?;
-    Ok(PortRow { name, node, place })
+fn listed(rt: &impl Abort, row: Row) -> PortRow {
+    PortRow {
+        name: port(rt, row.0),
+        node: port(rt, row.1),
+        place: place(rt, row.2, row.3),
+    }
 }
 
 /// The port list.
-fn port_list(alloc: Global) -> Result<Vec<PortRow, Global>, Fail> {
-    let mut rows = Vec::new(alloc);
+fn port_list(rt: &(impl Abort + AllocGlobal)) -> Vec<PortRow> {
+    let mut rows = Vec::new(rt.alloc());
     for &row in PORTS {
-        rows.push(listed(row)?)?;
+        rows.push(listed(rt, row)).expect(rt, "memory");
     }
-    Ok(rows)
-}
-
-fn import(alloc: Global, inventory: &mut Inventory<Global>) -> Result<(), Fail> {
-    let rows = port_list(alloc)?;
-    Ok(inventory.import(Fabric::A, rows.as_slice())?)
+    rows
 }
 
 /// A host, or an array, of two ports (of one, where they are equal).
 fn hold(
+    rt: &impl Abort,
     inventory: &mut Inventory<Global>,
     kind: HolderKind,
     holder: (&str, &str),
     ports: (u64, u64),
-) -> Result<(), Fail> {
-    let (holder, tenant) = (name(holder.0)?, name(holder.1)?);
-    let ports = [port(ports.0)?, port(ports.1)?];
-    Ok(inventory.put_holder(holder, kind, tenant, &ports)?)
+) {
+    let (holder, tenant) = (name(rt, holder.0), name(rt, holder.1));
+    let ports = [port(rt, ports.0), port(rt, ports.1)];
+    inventory
+        .put_holder(holder, kind, tenant, &ports)
+        .expect(rt, "a holder");
 }
 
-fn hold_all(inventory: &mut Inventory<Global>) -> Result<(), Fail> {
-    hold(
-        inventory,
-        HolderKind::Host,
-        ("db1", "blue"),
-        (FIRST_INITIATOR, FIRST_INITIATOR),
-    )?;
-    hold(
-        inventory,
-        HolderKind::Host,
-        ("db2", "green"),
-        (SECOND_INITIATOR, THIRD_INITIATOR),
-    )?;
-    hold(
-        inventory,
-        HolderKind::Array,
-        ("arr1", "store"),
-        (FIRST_TARGET, SECOND_TARGET),
-    )
-}
-
-fn volume(inventory: &mut Inventory<Global>, row: (&str, &str, &str)) -> Result<(), Fail> {
-    let (volume, array, tenant) = (name(row.0)?, name(row.1)?, name(row.2)?);
-    Ok(inventory.put_volume(volume, array, tenant, 1_073_741_824)?)
-}
-
-fn volumes(inventory: &mut Inventory<Global>) -> Result<(), Fail> {
-    for &row in VOLUMES {
-        volume(inventory, row)?;
-    }
-    Ok(())
+/// A volume of the array.
+fn volume(rt: &impl Abort, inventory: &mut Inventory<Global>, volume: &str, tenant: &str) {
+    let (volume, tenant) = (name(rt, volume), name(rt, tenant));
+    inventory
+        .put_volume(volume, name(rt, "arr1"), tenant, 1_073_741_824)
+        .expect(rt, "a volume");
 }
 
 /// Fabric A lists all ports; the host `db1` has the first initiator and `db2` the others; the array
 /// `arr1` has the targets and two volumes.
-pub fn stock(alloc: Global) -> Result<Inventory<Global>, Fail> {
-    let mut inventory = Inventory::new(alloc);
-    import(alloc, &mut inventory)?;
-    hold_all(&mut inventory)?;
-    volumes(&mut inventory)?;
-    Ok(inventory)
+pub fn stock(rt: &(impl Abort + AllocGlobal)) -> Inventory<Global> {
+    let mut inventory = Inventory::new(rt.alloc());
+    let rows = port_list(rt);
+    inventory
+        .import(Fabric::A, rows.as_slice())
+        .expect(rt, "a port list");
+    hold(
+        rt,
+        &mut inventory,
+        HolderKind::Host,
+        ("db1", "blue"),
+        (FIRST_INITIATOR, FIRST_INITIATOR),
+    );
+    hold(
+        rt,
+        &mut inventory,
+        HolderKind::Host,
+        ("db2", "green"),
+        (SECOND_INITIATOR, THIRD_INITIATOR),
+    );
+    hold(
+        rt,
+        &mut inventory,
+        HolderKind::Array,
+        ("arr1", "store"),
+        (FIRST_TARGET, SECOND_TARGET),
+    );
+    volume(rt, &mut inventory, "v1", "blue");
+    volume(rt, &mut inventory, "v2", "green");
+    inventory
 }

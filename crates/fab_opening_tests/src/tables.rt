@@ -1,15 +1,15 @@
 //! The rows of the twelve tables after the first worked plan.
 
 use crate::lines::{name, port};
+use crate::plan_lines::{ApprovalLine, PlanLine, approval_row, plan_row};
 use crate::records::{config_rows, undo_rows};
 use crate::stock::{FIRST_INITIATOR, FIRST_TARGET, stock};
-use fab_inventory::Inventory;
 use fab_names::Fabric;
 use fab_reach::Path;
 use fab_row_lists::{InventoryLists, inventory_rows};
-use fab_rows::{ApprovalRow, CountRow, PathRow, PlanRow, PlanState, SCHEMA, TableRows};
+use fab_rows::{CountRow, PathRow, PlanState, SCHEMA, TableRows};
 use std::alloc::Global;
-use std::test::Fail;
+use std::process::Abort;
 
 /// The printed form of the plan.
 pub const TEXT: &str = "alias.put A disk wwpn=50:00:00:00:00:00:00:01
@@ -24,85 +24,35 @@ sg.map g1 0 v1
 sg.expose g1
 ";
 
-/// No rows.
-fn no_rows(alloc: Global) -> TableRows<Global> {
-    TableRows {
-        counts: Vec::new(alloc),
-        ports: Vec::new(alloc),
-        holders: Vec::new(alloc),
-        volumes: Vec::new(alloc),
-        config: Vec::new(alloc),
-        plans: Vec::new(alloc),
-        approvals: Vec::new(alloc),
-        undo: Vec::new(alloc),
-        paths: Vec::new(alloc),
-    }
-}
-
 /// The schema, and the revision.
-pub fn put_counts(tables: &mut TableRows<Global>, schema: u64, revision: u64) -> Result<(), Fail> {
+pub fn put_counts(rt: &impl Abort, tables: &mut TableRows<Global>, schema: u64, revision: u64) {
     tables.counts.clear();
-    tables.counts.push(CountRow::Schema(schema))?;
-    Ok(tables.counts.push(CountRow::Revision(revision))?)
+    tables
+        .counts
+        .push(CountRow::Schema(schema))
+        .expect(rt, "memory");
+    tables
+        .counts
+        .push(CountRow::Revision(revision))
+        .expect(rt, "memory");
 }
 
-fn put_inventory(
-    alloc: Global,
-    tables: &mut TableRows<Global>,
-    inventory: &Inventory<Global>,
-) -> Result<(), Fail> {
-    let InventoryLists {
-        ports,
-        holders,
-        volumes,
-    } = inventory_rows(alloc, inventory)?;
-    tables.ports = ports;
-    tables.holders = holders;
-    tables.volumes = volumes;
-    Ok(())
+/// A plan of ada's.
+pub fn put_plan(rt: &(impl Abort + AllocGlobal), tables: &mut TableRows<Global>, line: PlanLine) {
+    let plan = plan_row(rt, line);
+    tables.plans.push(plan).expect(rt, "memory");
 }
 
-fn put_stock(alloc: Global, tables: &mut TableRows<Global>) -> Result<(), Fail> {
-    let inventory = stock(alloc)?;
-    put_inventory(alloc, tables, &inventory)
-}
-
-/// A plan of ada's, of this text.
-pub fn put_plan(
-    alloc: Global,
-    tables: &mut TableRows<Global>,
-    plan: (&str, PlanState, u64),
-    text: &str,
-) -> Result<(), Fail> {
-    let (name, author) = (name(plan.0)?, name("ada")?);
-    let text = String::from_str(alloc, text)?;
-    Ok(
-        tables.plans.push(PlanRow {
-            name,
-            author,
-            text,
-            state: plan.1,
-            position: plan.2,
-        })?,
-    )
-}
-
-/// An approval of bob's.
-pub fn put_approval(tables: &mut TableRows<Global>, plan: &str, revision: u64) -> Result<(), Fail> {
-    let (plan, caller) = (name(plan)?, name("bob")?);
-    Ok(
-        tables.approvals.push(ApprovalRow {
-            plan,
-            caller,
-            revision,
-        })?,
-    )
+/// An approval.
+pub fn put_approval(rt: &impl Abort, tables: &mut TableRows<Global>, line: ApprovalLine) {
+    let approval = approval_row(rt, line);
+    tables.approvals.push(approval).expect(rt, "memory");
 }
 
 /// A path of the first host to the first volume.
-pub fn put_path(tables: &mut TableRows<Global>, host: &str, target: u64) -> Result<(), Fail> {
-    let (host, volume) = (name(host)?, name("v1")?);
-    let (initiator, target) = (port(FIRST_INITIATOR)?, port(target)?);
+pub fn put_path(rt: &impl Abort, tables: &mut TableRows<Global>, host: &str, target: u64) {
+    let (host, volume) = (name(rt, host), name(rt, "v1"));
+    let (initiator, target) = (port(rt, FIRST_INITIATOR), port(rt, target));
     let path = Path {
         fabric: Fabric::A,
         initiator,
@@ -110,33 +60,44 @@ pub fn put_path(tables: &mut TableRows<Global>, host: &str, target: u64) -> Resu
         volume,
         unit: 0,
     };
-    Ok(tables.paths.push(PathRow { host, path })?)
+    tables
+        .paths
+        .push(PathRow { host, path })
+        .expect(rt, "memory");
 }
 
-fn put_config(alloc: Global, tables: &mut TableRows<Global>) -> Result<(), Fail> {
-    tables.config = config_rows(alloc)?;
-    Ok(())
+/// The rows of the inventory.
+fn stock_rows(rt: &(impl Abort + AllocGlobal)) -> InventoryLists<Global> {
+    let inventory = stock(rt);
+    inventory_rows(rt.alloc(), &inventory).expect(rt, "memory")
 }
 
-fn put_undo(alloc: Global, tables: &mut TableRows<Global>) -> Result<(), Fail> {
-    tables.undo = undo_rows(alloc)?;
-    Ok(())
-}
-
-/// The rows of the plan, its approval, its changes, and the path.
-fn put_records(alloc: Global, tables: &mut TableRows<Global>) -> Result<(), Fail> {
-    put_plan(alloc, tables, ("p1", PlanState::Active, 1), TEXT)?;
-    put_approval(tables, "p1", 6)?;
-    put_undo(alloc, tables)?;
-    put_path(tables, "db1", FIRST_TARGET)
+/// The rows of the inventory and the configuration, and the changed rows.
+fn some_rows(rt: &(impl Abort + AllocGlobal)) -> TableRows<Global> {
+    let InventoryLists {
+        ports,
+        holders,
+        volumes,
+    } = stock_rows(rt);
+    TableRows {
+        counts: Vec::new(rt.alloc()),
+        ports,
+        holders,
+        volumes,
+        config: config_rows(rt),
+        plans: Vec::new(rt.alloc()),
+        approvals: Vec::new(rt.alloc()),
+        undo: undo_rows(rt),
+        paths: Vec::new(rt.alloc()),
+    }
 }
 
 /// The rows after the first worked plan.
-pub fn tables(alloc: Global) -> Result<TableRows<Global>, Fail> {
-    let mut tables = no_rows(alloc);
-    put_counts(&mut tables, SCHEMA, 7)?;
-    put_stock(alloc, &mut tables)?;
-    put_config(alloc, &mut tables)?;
-    put_records(alloc, &mut tables)?;
-    Ok(tables)
+pub fn tables(rt: &(impl Abort + AllocGlobal)) -> TableRows<Global> {
+    let mut tables = some_rows(rt);
+    put_counts(rt, &mut tables, SCHEMA, 7);
+    put_plan(rt, &mut tables, ("p1", TEXT, PlanState::Active, 1));
+    put_approval(rt, &mut tables, ("p1", "bob", 6));
+    put_path(rt, &mut tables, "db1", FIRST_TARGET);
+    tables
 }
