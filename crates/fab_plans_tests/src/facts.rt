@@ -2,12 +2,12 @@
 //! much of each kind there is.
 
 use crate::worlds::{name, port};
-use fab_inventory::{Inventory, Port};
+use fab_inventory::Inventory;
 use fab_names::Fabric;
 use fab_reach::{Config, Path, plain_paths};
-use fab_zoning::{Why, Zoning};
+use fab_zoning::Why;
 use std::alloc::Global;
-use std::test::Fail;
+use std::process::Abort;
 
 /// A path in fabric A: initiator, target, volume, unit.
 pub type Way = (u64, u64, &'static str, u16);
@@ -21,72 +21,53 @@ pub enum Link {
 }
 
 /// The path.
-fn path(way: Way) -> Result<Path, Fail> {
-    Ok(Path {
+fn path(rt: &impl Abort, way: Way) -> Path {
+    Path {
         fabric: Fabric::A,
-        initiator: port(way.0)?,
-        target: port(way.1)?,
-        volume: name(way.2)?,
+        initiator: port(rt, way.0),
+        target: port(rt, way.1),
+        volume: name(rt, way.2),
         unit: way.3,
-    })
+    }
 }
 
 /// Whether the paths are these, in this order.
-fn are(paths: &[Path], ways: &[Way]) -> Result<bool, Fail> {
+fn are(rt: &impl Abort, paths: &[Path], ways: &[Way]) -> bool {
     for (number, way) in ways.iter().enumerate() {
-        if paths.get(number) != Some(&path(*way)?) {
-            return Ok(false);
+        if paths.get(number) != Some(&path(rt, *way)) {
+            return false;
         }
     }
-    Ok(paths.len() == ways.len())
+    paths.len() == ways.len()
 }
 
 /// Whether the configuration has these paths, and no other.
 pub fn has_paths(
-    alloc: Global,
+    rt: &(impl Abort + AllocGlobal),
     inventory: &Inventory<Global>,
     config: &Config<Global>,
     ways: &[Way],
-) -> Result<bool, Fail> {
-    let paths = plain_paths(alloc, inventory, config)?;
-    are(paths.as_slice(), ways)
-}
-
-/// Whether this is why two ports may communicate.
-fn is_why(zoning: &Zoning<Global>, p: &Port, q: &Port, link: Link) -> Result<bool, Fail> {
-    let found = zoning.joined(p, q);
-    match link {
-        Link::Apart => Ok(found.is_none()),
-        Link::Default => Ok(found == Some(Why::Default)),
-        Link::Zone(zone) => Ok(found == Some(Why::Zone(&name(zone)?))),
-    }
-}
-
-/// Whether this is why a port may communicate with another in fabric A.
-fn is_linked_to(
-    inventory: &Inventory<Global>,
-    config: &Config<Global>,
-    p: &Port,
-    other: u64,
-    link: Link,
-) -> Result<bool, Fail> {
-    let Some(q) = inventory.port(&port(other)?) else {
-        return Err(Fail::from("port"));
-    };
-    is_why(config.zoning(Fabric::A), p, &q, link)
+) -> bool {
+    let paths = plain_paths(rt.alloc(), inventory, config).expect(rt, "memory");
+    are(rt, paths.as_slice(), ways)
 }
 
 /// Whether this is why two ports may communicate in fabric A.
 pub fn is_linked(
+    rt: &impl Abort,
     inventory: &Inventory<Global>,
     config: &Config<Global>,
     ports: (u64, u64),
     link: Link,
-) -> Result<bool, Fail> {
-    let Some(p) = inventory.port(&port(ports.0)?) else {
-        return Err(Fail::from("port"));
-    };
-    is_linked_to(inventory, config, &p, ports.1, link)
+) -> bool {
+    let p = inventory.port(&port(rt, ports.0)).expect(rt, "a port");
+    let q = inventory.port(&port(rt, ports.1)).expect(rt, "a port");
+    let found = config.zoning(Fabric::A).joined(&p, &q);
+    match link {
+        Link::Apart => found.is_none(),
+        Link::Default => found == Some(Why::Default),
+        Link::Zone(zone) => found == Some(Why::Zone(&name(rt, zone))),
+    }
 }
 
 /// How many aliases, zones and zone sets fabric A has, and how many host groups and storage groups

@@ -8,10 +8,9 @@ use crate::worlds::{
 use fab_inventory::Inventory;
 use fab_mapping::Nexus;
 use fab_plans::{Item, Refusal, StepLimit, TrialFault, trial};
-use fab_plans_base::Step;
 use fab_reach::Config;
-use std::alloc::{AllocError, Global};
-use std::test::Fail;
+use std::alloc::Global;
+use std::process::Abort;
 
 /// A refusal as plain data.
 #[derive(Clone, Copy)]
@@ -86,69 +85,61 @@ const ON_FIRST: &[Case] = &[
 ];
 
 /// The refusal.
-fn refusal(why: Why) -> Result<Refusal, Fail> {
+fn refusal(rt: &impl Abort, why: Why) -> Refusal {
     match why {
-        Why::Exists(text) => Ok(Refusal::Exists(name(text)?)),
-        Why::Unknown(text) => Ok(Refusal::Unknown(Item::Name(name(text)?))),
-        Why::UnknownPort(number) => Ok(Refusal::Unknown(Item::Port(port(number)?))),
-        Why::UnknownUnit(unit) => Ok(Refusal::Unknown(Item::Unit(unit))),
-        Why::WrongPort(number) => Ok(Refusal::WrongArray(Item::Port(port(number)?))),
-        Why::WrongVolume(text) => Ok(Refusal::WrongArray(Item::Name(name(text)?))),
-        Why::UnitTaken(text, unit) => unit_taken(text, unit),
-        Why::InUse(text, user) => in_use(text, user),
-        Why::Clash(host, target, unit) => clash(host, target, unit),
+        Why::Exists(text) => Refusal::Exists(name(rt, text)),
+        Why::Unknown(text) => Refusal::Unknown(Item::Name(name(rt, text))),
+        Why::UnknownPort(number) => Refusal::Unknown(Item::Port(port(rt, number))),
+        Why::UnknownUnit(unit) => Refusal::Unknown(Item::Unit(unit)),
+        Why::WrongPort(number) => Refusal::WrongArray(Item::Port(port(rt, number))),
+        Why::WrongVolume(text) => Refusal::WrongArray(Item::Name(name(rt, text))),
+        Why::UnitTaken(text, unit) => Refusal::UnitTaken {
+            group: name(rt, text),
+            unit,
+        },
+        Why::InUse(text, user) => Refusal::InUse {
+            name: name(rt, text),
+            by: name(rt, user),
+        },
+        Why::Clash(host, target, unit) => Refusal::Clash(Nexus {
+            host: name(rt, host),
+            target: port(rt, target),
+            unit,
+        }),
     }
-}
-
-fn unit_taken(group: &str, unit: u16) -> Result<Refusal, Fail> {
-    let group = name(group)?;
-    Ok(Refusal::UnitTaken { group, unit })
-}
-
-fn in_use(text: &str, user: &str) -> Result<Refusal, Fail> {
-    let (name, by) = (name(text)?, name(user)?);
-    Ok(Refusal::InUse { name, by })
-}
-
-fn clash(host: &str, target: u64, unit: u16) -> Result<Refusal, Fail> {
-    let (host, target) = (name(host)?, port(target)?);
-    Ok(Refusal::Clash(Nexus { host, target, unit }))
 }
 
 /// Whether the plan of a text is refused at this step, for this.
 fn is_refused(
-    alloc: Global,
+    rt: &(impl Abort + AllocGlobal),
     inventory: &Inventory<Global>,
     config: &Config<Global>,
     case: Case,
-) -> Result<bool, Fail> {
-    let refusal = refusal(case.2)?;
-    let steps = steps(alloc, case.0)?;
+) -> bool {
+    let steps = steps(rt, case.0);
+    let wanted = TrialFault::Refused {
+        step: case.1,
+        refusal: refusal(rt, case.2),
+    };
     match trial(config, inventory, steps.as_slice()) {
-        Ok(_) => Ok(false),
-        Err(fault) => Ok(
-            fault
-                == TrialFault::Refused {
-                    step: case.1,
-                    refusal,
-                },
-        ),
+        Ok(_) => false,
+        Err(fault) => fault == wanted,
     }
 }
 
-/// Whether each plan of a table is refused as it says.
-fn are_refused(
-    alloc: Global,
+/// The first plan of a table that is not refused as it says, if one is not.
+fn first_wrong(
+    rt: &(impl Abort + AllocGlobal),
     inventory: &Inventory<Global>,
     config: &Config<Global>,
-    cases: &[Case],
-) -> Result<bool, Fail> {
+    cases: &'static [Case],
+) -> Option<&'static str> {
     for case in cases {
-        if !is_refused(alloc, inventory, config, *case)? {
-            return Ok(false);
+        if !is_refused(rt, inventory, config, *case) {
+            return Some(case.0);
         }
     }
-    Ok(true)
+    None
 }
 
 /// Refused plans, and the configuration that they leave: its paths, why the first initiator and the
@@ -165,48 +156,34 @@ const AFTER_FIRST: Table = (
     [1, 1, 1, 1, 1],
 );
 
-/// Whether the plans are refused, and the configuration is left as it was.
-fn leave(
-    alloc: Global,
+/// Asserts that the plans are refused, and that the configuration is left as it was.
+fn assert_left(
+    rt: &(impl Abort + AllocGlobal),
     inventory: &Inventory<Global>,
     config: &Config<Global>,
     table: Table,
-) -> Result<bool, Fail> {
-    if !are_refused(alloc, inventory, config, table.0)? {
-        return Ok(false);
-    }
-    if !has_paths(alloc, inventory, config, table.1)? {
-        return Ok(false);
-    }
-    if sizes(config) != table.3 {
-        return Ok(false);
-    }
-    is_linked(inventory, config, (FIRST_INITIATOR, FIRST_TARGET), table.2)
-}
-
-fn leave_new(alloc: Global, inventory: &Inventory<Global>) -> Result<bool, Fail> {
-    let config = new_config(alloc);
-    leave(alloc, inventory, &config, NEW)
-}
-
-fn leave_first(alloc: Global, inventory: &Inventory<Global>) -> Result<bool, Fail> {
-    let mut config = new_config(alloc);
-    take(alloc, inventory, &mut config, FIRST)?;
-    leave(alloc, inventory, &config, AFTER_FIRST)
-}
-
-fn are_left(alloc: Global) -> Result<bool, Fail> {
-    let inventory = stock(alloc)?;
-    if !leave_new(alloc, &inventory)? {
-        return Ok(false);
-    }
-    leave_first(alloc, &inventory)
+) {
+    assert_eq!(rt; first_wrong(rt, inventory, config, table.0), None);
+    assert!(rt; has_paths(rt, inventory, config, table.1));
+    assert!(rt;
+        is_linked(
+            rt,
+            inventory,
+            config,
+            (FIRST_INITIATOR, FIRST_TARGET),
+            table.2
+        )
+    );
+    assert!(rt; sizes(config) == table.3);
 }
 
 #[test]
-fn refused_plans_leave_nothing(rt: HostRuntime) -> Result<(), Fail> {
-    assert!(rt; are_left(rt.alloc())?);
-    Ok(())
+fn refused_plans_leave_nothing(rt: HostRuntime) {
+    let inventory = stock(&rt);
+    let mut config = new_config(rt.alloc());
+    assert_left(&rt, &inventory, &config, NEW);
+    take(&rt, &inventory, &mut config, FIRST);
+    assert_left(&rt, &inventory, &config, AFTER_FIRST);
 }
 
 /// The first lines of a plan; what stands before a number, between it and the same number again,
@@ -242,64 +219,40 @@ const LONG: &[Long] = &[
 ];
 
 /// The text of a plan.
-fn long_text(alloc: Global, case: Long) -> Result<String, AllocError> {
-    let mut text = String::from_str(alloc, case.0)?;
+fn long_text(rt: &(impl Abort + AllocGlobal), case: Long) -> String {
+    let mut text = String::from_str(rt.alloc(), case.0).expect(rt, "memory");
     let (before, between, behind) = case.1;
     for number in 0..case.2 {
-        write!(text, "{before}{number}{between}{number}{behind}")?;
+        write!(text, "{before}{number}{between}{number}{behind}").expect(rt, "memory");
     }
-    Ok(text)
+    text
 }
 
-/// The step at which a limit refuses the steps, and the limit.
-fn limit_of(
-    inventory: &Inventory<Global>,
-    config: &Config<Global>,
-    steps: &[Step<Global>],
-) -> Result<Option<(usize, StepLimit)>, Fail> {
-    match trial(config, inventory, steps) {
-        Ok(_) => Ok(None),
+/// The step at which a limit refuses a plan on a new configuration, and the limit.
+fn limit_of(rt: &(impl Abort + AllocGlobal), text: &str) -> Option<(usize, StepLimit)> {
+    let inventory = stock(rt);
+    let config = new_config(rt.alloc());
+    let steps = steps(rt, text);
+    match trial(&config, &inventory, steps.as_slice()) {
+        Ok(_) => None,
         Err(
             TrialFault::Refused {
                 step,
                 refusal: Refusal::Limit(limit),
             },
-        ) => Ok(Some((step, limit))),
-        Err(_) => Err(Fail::from("another refusal")),
+        ) => Some((step, limit)),
+        Err(_) => panic!(rt; "another refusal"),
     }
 }
 
-/// The same of the steps of a text.
-fn limit_of_text(
-    alloc: Global,
-    inventory: &Inventory<Global>,
-    config: &Config<Global>,
-    text: &str,
-) -> Result<Option<(usize, StepLimit)>, Fail> {
-    let steps = steps(alloc, text)?;
-    limit_of(inventory, config, steps.as_slice())
-}
-
-/// The same on a new configuration.
-fn limit(
-    alloc: Global,
-    inventory: &Inventory<Global>,
-    text: &str,
-) -> Result<Option<(usize, StepLimit)>, Fail> {
-    let config = new_config(alloc);
-    limit_of_text(alloc, inventory, &config, text)
-}
-
-fn is_limited(alloc: Global, case: Long) -> Result<bool, Fail> {
-    let inventory = stock(alloc)?;
-    let text = long_text(alloc, case)?;
-    Ok(limit(alloc, &inventory, text.as_str())? == case.3)
+fn is_limited(rt: &(impl Abort + AllocGlobal), case: Long) -> bool {
+    let text = long_text(rt, case);
+    limit_of(rt, text.as_str()) == case.3
 }
 
 #[test]
-fn limits(rt: HostRuntime) -> Result<(), Fail> {
+fn limits(rt: HostRuntime) {
     for &case in LONG {
-        assert!(rt; is_limited(rt.alloc(), case)?);
+        assert!(rt; is_limited(&rt, case));
     }
-    Ok(())
 }

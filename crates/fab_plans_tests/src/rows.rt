@@ -11,7 +11,7 @@ use crate::worlds::{
 use fab_inventory::Inventory;
 use fab_reach::Config;
 use std::alloc::Global;
-use std::test::Fail;
+use std::process::Abort;
 
 /// A plan, the paths that there are after it, and why two ports may communicate then.
 type Line = (&'static str, &'static [Way], (u64, u64), Link);
@@ -118,83 +118,53 @@ const ROW_14: &[Line] = &[
     ),
 ];
 
-/// Whether a configuration is as the line says, after its plan.
-fn is_right(
-    alloc: Global,
+/// Asserts that a configuration is as the line says, after its plan.
+fn assert_line(
+    rt: &(impl Abort + AllocGlobal),
     inventory: &Inventory<Global>,
     config: &mut Config<Global>,
     line: Line,
-) -> Result<bool, Fail> {
-    take(alloc, inventory, config, line.0)?;
-    if !has_paths(alloc, inventory, config, line.1)? {
-        return Ok(false);
-    }
-    is_linked(inventory, config, line.2, line.3)
+) {
+    take(rt, inventory, config, line.0);
+    assert!(rt; has_paths(rt, inventory, config, line.1));
+    assert!(rt; is_linked(rt, inventory, config, line.2, line.3));
 }
 
-/// Whether the lines of a table are right, one after the other.
-fn are_right_from(
-    alloc: Global,
-    inventory: &Inventory<Global>,
-    config: &mut Config<Global>,
-    lines: &[Line],
-) -> Result<bool, Fail> {
+/// Asserts that the lines of a table are right, one after the other, from a new configuration on.
+fn assert_right(rt: &(impl Abort + AllocGlobal), lines: &[Line]) {
+    let inventory = stock(rt);
+    let mut config = new_config(rt.alloc());
     for line in lines {
-        if !is_right(alloc, inventory, config, *line)? {
-            return Ok(false);
-        }
+        assert_line(rt, &inventory, &mut config, *line);
     }
-    Ok(true)
-}
-
-/// Whether the lines of a table are right beside an inventory, from a new configuration on.
-fn are_right_beside(
-    alloc: Global,
-    inventory: &Inventory<Global>,
-    lines: &[Line],
-) -> Result<bool, Fail> {
-    let mut config = new_config(alloc);
-    are_right_from(alloc, inventory, &mut config, lines)
-}
-
-/// Whether the lines of a table are right.
-fn are_right(alloc: Global, lines: &[Line]) -> Result<bool, Fail> {
-    let inventory = stock(alloc)?;
-    are_right_beside(alloc, &inventory, lines)
 }
 
 #[test]
-fn row_5(rt: HostRuntime) -> Result<(), Fail> {
-    assert!(rt; are_right(rt.alloc(), ROW_5)?);
-    Ok(())
+fn row_5(rt: HostRuntime) {
+    assert_right(&rt, ROW_5);
 }
 
 #[test]
-fn row_6(rt: HostRuntime) -> Result<(), Fail> {
-    assert!(rt; are_right(rt.alloc(), ROW_6)?);
-    Ok(())
+fn row_6(rt: HostRuntime) {
+    assert_right(&rt, ROW_6);
 }
 
 #[test]
-fn row_7(rt: HostRuntime) -> Result<(), Fail> {
-    assert!(rt; are_right(rt.alloc(), ROW_7)?);
-    Ok(())
+fn row_7(rt: HostRuntime) {
+    assert_right(&rt, ROW_7);
 }
 
 #[test]
-fn row_8(rt: HostRuntime) -> Result<(), Fail> {
-    assert!(rt; are_right(rt.alloc(), ROW_8)?);
-    Ok(())
+fn row_8(rt: HostRuntime) {
+    assert_right(&rt, ROW_8);
 }
 
 #[test]
-fn row_9(rt: HostRuntime) -> Result<(), Fail> {
-    assert!(rt; are_right(rt.alloc(), ROW_9)?);
-    Ok(())
+fn row_9(rt: HostRuntime) {
+    assert_right(&rt, ROW_9);
 }
 
 #[test]
-fn row_14(rt: HostRuntime) -> Result<(), Fail> {
-    assert!(rt; are_right(rt.alloc(), ROW_14)?);
-    Ok(())
+fn row_14(rt: HostRuntime) {
+    assert_right(&rt, ROW_14);
 }

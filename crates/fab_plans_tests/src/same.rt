@@ -3,7 +3,7 @@
 use fab_plans_base::{Step, read_plan};
 use fab_same_steps::are_same;
 use std::alloc::Global;
-use std::test::Fail;
+use std::process::Abort;
 
 /// Steps of each kind, no two of which are the same: most differ from the one before in one part.
 const DIFFERENT: &[&str] = &[
@@ -78,50 +78,53 @@ const EQUAL: &[(&str, &str)] = &[
 ];
 
 /// Whether the steps are the same as those of the text, either way round.
-fn are_like(alloc: Global, steps: &[Step<Global>], text: &str) -> Result<bool, Fail> {
-    let others = read_plan(alloc, text)?;
+fn are_like(rt: &(impl Abort + AllocGlobal), steps: &[Step<Global>], text: &str) -> bool {
+    let others = read_plan(rt.alloc(), text).expect(rt, "a plan");
     let others = others.as_slice();
     let same = are_same(steps, others);
     if same != are_same(others, steps) {
-        return Err(Fail::from("one way round alone"));
+        panic!(rt; "one way round alone");
     }
-    Ok(same)
+    same
 }
 
-/// Whether these steps are the same as those of the text at the place, and of no other.
-fn are_like_alone(alloc: Global, steps: &[Step<Global>], at: usize) -> Result<bool, Fail> {
+/// The first text of which it is not so that these steps are the same as those of the text at the
+/// place, and of no other.
+fn first_wrong(
+    rt: &(impl Abort + AllocGlobal),
+    steps: &[Step<Global>],
+    at: usize,
+) -> Option<&'static str> {
     for (place, text) in DIFFERENT.iter().enumerate() {
-        if are_like(alloc, steps, text)? != (place == at) {
-            return Ok(false);
+        if are_like(rt, steps, text) != (place == at) {
+            return Some(*text);
         }
     }
-    Ok(true)
+    None
 }
 
-/// Whether the steps of the text at the place are the same as themselves alone.
-fn is_different(alloc: Global, at: usize, text: &str) -> Result<bool, Fail> {
-    let steps = read_plan(alloc, text)?;
-    are_like_alone(alloc, steps.as_slice(), at)
+/// The same of the steps of the text at the place.
+fn first_wrong_of(rt: &(impl Abort + AllocGlobal), at: usize, text: &str) -> Option<&'static str> {
+    let steps = read_plan(rt.alloc(), text).expect(rt, "a plan");
+    first_wrong(rt, steps.as_slice(), at)
 }
 
 /// Whether two texts are of the same steps.
-fn are_equal(alloc: Global, texts: (&str, &str)) -> Result<bool, Fail> {
-    let steps = read_plan(alloc, texts.0)?;
-    are_like(alloc, steps.as_slice(), texts.1)
+fn are_equal(rt: &(impl Abort + AllocGlobal), texts: (&str, &str)) -> bool {
+    let steps = read_plan(rt.alloc(), texts.0).expect(rt, "a plan");
+    are_like(rt, steps.as_slice(), texts.1)
 }
 
 #[test]
-fn each_step_is_the_same_as_itself_alone(rt: HostRuntime) -> Result<(), Fail> {
+fn each_step_is_the_same_as_itself_alone(rt: HostRuntime) {
     for (at, text) in DIFFERENT.iter().enumerate() {
-        assert!(rt; is_different(rt.alloc(), at, text)?);
+        assert_eq!(rt; first_wrong_of(&rt, at, text), None);
     }
-    Ok(())
 }
 
 #[test]
-fn spelling_makes_no_difference(rt: HostRuntime) -> Result<(), Fail> {
+fn spelling_makes_no_difference(rt: HostRuntime) {
     for texts in EQUAL {
-        assert!(rt; are_equal(rt.alloc(), *texts)?);
+        assert!(rt; are_equal(&rt, *texts));
     }
-    Ok(())
 }

@@ -2,13 +2,11 @@
 
 use crate::texts::NO_ZONE;
 use crate::worlds::{name, new_config, steps, stock};
-use fab_inventory::Inventory;
 use fab_names::Name;
 use fab_plans::{ApprovalFault, Plan, Staged, TrialFault};
-use fab_reach::Config;
 use std::alloc::Global;
 use std::collections::BTreeMap;
-use std::test::Fail;
+use std::process::Abort;
 
 /// Who approves at which revision, whether that is accepted, and the approvals then.
 type Line = (&'static str, u64, bool, &'static [(&'static str, u64)]);
@@ -27,79 +25,56 @@ const APPROVALS: &[Line] = &[
 const LAST: &[(&str, u64)] = &[("bob", 8), ("dan", 7)];
 
 /// Whether a caller has an approval at a revision.
-fn has(approvals: &BTreeMap<Name, u64, Global>, line: (&str, u64)) -> Result<bool, Fail> {
-    let caller = name(line.0)?;
-    Ok(approvals.get(&caller) == Some(&line.1))
+fn has(rt: &impl Abort, approvals: &BTreeMap<Name, u64, Global>, line: (&str, u64)) -> bool {
+    approvals.get(&name(rt, line.0)) == Some(&line.1)
 }
 
 /// Whether the approvals are these and no others.
-fn are(approvals: &BTreeMap<Name, u64, Global>, lines: &[(&str, u64)]) -> Result<bool, Fail> {
+fn are(rt: &impl Abort, approvals: &BTreeMap<Name, u64, Global>, lines: &[(&str, u64)]) -> bool {
     for line in lines {
-        if !has(approvals, *line)? {
-            return Ok(false);
+        if !has(rt, approvals, *line) {
+            return false;
         }
     }
-    Ok(approvals.len() == lines.len())
+    approvals.len() == lines.len()
 }
 
 /// Whether a plan is ada's, of three steps, and has these approvals.
-fn is_as(plan: &Plan<Global>, lines: &[(&str, u64)]) -> Result<bool, Fail> {
-    if plan.author != name("ada")? {
-        return Ok(false);
-    }
-    if plan.steps.len() != 3 {
-        return Ok(false);
-    }
-    are(&plan.approvals, lines)
+fn is_as(rt: &impl Abort, plan: &Plan<Global>, lines: &[(&str, u64)]) -> bool {
+    plan.author == name(rt, "ada") && plan.steps.len() == 3 && are(rt, &plan.approvals, lines)
 }
 
 /// A plan of ada's, of three steps, of which the last names a zone that is not there.
-fn staged(alloc: Global) -> Result<Staged<Global>, Fail> {
-    let author = name("ada")?;
-    let steps = steps(alloc, NO_ZONE)?;
-    Ok(Staged::new(alloc, author, steps))
+fn staged(rt: &(impl Abort + AllocGlobal)) -> Staged<Global> {
+    Staged::new(rt.alloc(), name(rt, "ada"), steps(rt, NO_ZONE))
 }
 
 /// Approves a plan: whether that is accepted.
-fn approve(staged: &mut Staged<Global>, line: Line) -> Result<bool, Fail> {
-    match staged.approve(name(line.0)?, line.1) {
-        Ok(()) => Ok(true),
-        Err(ApprovalFault::OwnPlan) => Ok(false),
-        Err(ApprovalFault::Memory) => Err(Fail::from("memory")),
+fn approve(rt: &impl Abort, staged: &mut Staged<Global>, line: Line) -> bool {
+    match staged.approve(name(rt, line.0), line.1) {
+        Ok(()) => true,
+        Err(ApprovalFault::OwnPlan) => false,
+        Err(ApprovalFault::Memory) => panic!(rt; "memory"),
     }
 }
 
 /// Whether an approval is answered as the line says, and leaves the plan as it says.
-fn is_answered(staged: &mut Staged<Global>, line: Line) -> Result<bool, Fail> {
-    if approve(staged, line)? != line.2 {
-        return Ok(false);
-    }
-    is_as(&staged.plan, line.3)
+fn is_answered(rt: &impl Abort, staged: &mut Staged<Global>, line: Line) -> bool {
+    approve(rt, staged, line) == line.2 && is_as(rt, &staged.plan, line.3)
 }
 
-/// Whether each approval is answered as the table says.
-fn are_answered(staged: &mut Staged<Global>) -> Result<bool, Fail> {
+/// The plan with the approvals of the table, each of which is answered as it says.
+fn approved(rt: &(impl Abort + AllocGlobal)) -> Staged<Global> {
+    let mut staged = staged(rt);
     for &line in APPROVALS {
-        if !is_answered(staged, line)? {
-            return Ok(false);
-        }
+        assert!(rt; is_answered(rt, &mut staged, line));
     }
-    Ok(true)
-}
-
-/// The approvals of the table.
-fn approved(alloc: Global) -> Result<Staged<Global>, Fail> {
-    let mut staged = staged(alloc)?;
-    if !are_answered(&mut staged)? {
-        return Err(Fail::from("another answer"));
-    }
-    Ok(staged)
+    staged
 }
 
 #[test]
-fn approvals_are_kept(rt: HostRuntime) -> Result<(), Fail> {
-    assert!(rt; is_as(&approved(rt.alloc())?.plan, LAST)?);
-    Ok(())
+fn approvals_are_kept(rt: HostRuntime) {
+    assert!(rt; is_as(&rt, &approved(&rt).plan, LAST));
 }
 
 /// What leads on from a staged plan.
@@ -113,65 +88,44 @@ enum Way {
 /// What undoes the activation of the plan.
 const UNDO: u64 = 7;
 
-fn is_withdrawn(staged: Staged<Global>) -> Result<bool, Fail> {
-    is_as(&staged.withdrawn().plan, LAST)
+fn is_withdrawn(rt: &impl Abort, staged: Staged<Global>) -> bool {
+    is_as(rt, &staged.withdrawn().plan, LAST)
 }
 
-fn is_active(staged: Staged<Global>) -> Result<bool, Fail> {
+fn is_active(rt: &impl Abort, staged: Staged<Global>) -> bool {
     let active = staged.activated(UNDO);
-    Ok(active.undo == UNDO && is_as(&active.plan, LAST)?)
+    active.undo == UNDO && is_as(rt, &active.plan, LAST)
 }
 
-fn is_rolled_back(staged: Staged<Global>) -> Result<bool, Fail> {
+fn is_rolled_back(rt: &impl Abort, staged: Staged<Global>) -> bool {
     let (rolled_back, undo) = staged.activated(UNDO).rolled_back();
-    Ok(undo == UNDO && is_as(&rolled_back.plan, LAST)?)
+    undo == UNDO && is_as(rt, &rolled_back.plan, LAST)
 }
 
-/// Whether the trial of a plan on a configuration is refused at its third step.
-fn is_refused_on(
-    inventory: &Inventory<Global>,
-    config: &Config<Global>,
-    staged: &Staged<Global>,
-) -> bool {
-    match staged.outcome(config, inventory) {
+/// Whether the trial of a plan on a new configuration is refused at its third step.
+fn is_refused(rt: &(impl Abort + AllocGlobal), staged: &Staged<Global>) -> bool {
+    let inventory = stock(rt);
+    let config = new_config(rt.alloc());
+    match staged.outcome(&config, &inventory) {
         Err(TrialFault::Refused { step: 3, .. }) => true,
         _ => false,
     }
 }
 
-/// The same on a new configuration.
-fn is_refused_beside(
-    alloc: Global,
-    inventory: &Inventory<Global>,
-    staged: &Staged<Global>,
-) -> bool {
-    let config = new_config(alloc);
-    is_refused_on(inventory, &config, staged)
-}
-
-/// The same beside the inventory.
-fn is_refused(alloc: Global, staged: &Staged<Global>) -> Result<bool, Fail> {
-    let inventory = stock(alloc)?;
-    Ok(is_refused_beside(alloc, &inventory, staged))
-}
-
 /// Whether a plan whose trial was refused leads on with all that it had.
-fn leads_on(alloc: Global, way: Way) -> Result<bool, Fail> {
-    let staged = approved(alloc)?;
-    if !is_refused(alloc, &staged)? {
-        return Ok(false);
-    }
+fn leads_on(rt: &(impl Abort + AllocGlobal), way: Way) -> bool {
+    let staged = approved(rt);
+    assert!(rt; is_refused(rt, &staged));
     match way {
-        Way::Withdrawn => is_withdrawn(staged),
-        Way::Active => is_active(staged),
-        Way::RolledBack => is_rolled_back(staged),
+        Way::Withdrawn => is_withdrawn(rt, staged),
+        Way::Active => is_active(rt, staged),
+        Way::RolledBack => is_rolled_back(rt, staged),
     }
 }
 
 #[test]
-fn plans_lead_on(rt: HostRuntime) -> Result<(), Fail> {
+fn plans_lead_on(rt: HostRuntime) {
     for way in [Way::Withdrawn, Way::Active, Way::RolledBack] {
-        assert!(rt; leads_on(rt.alloc(), way)?);
+        assert!(rt; leads_on(&rt, way));
     }
-    Ok(())
 }

@@ -8,7 +8,7 @@ use fab_plans_base::{Step, read_plan};
 use fab_reach::Config;
 use fab_zoning::Zoning;
 use std::alloc::Global;
-use std::test::Fail;
+use std::process::Abort;
 
 /// The port of the first host.
 pub const FIRST_INITIATOR: u64 = 0x1000_0000_0000_0001;
@@ -45,102 +45,104 @@ const VOLUMES: &[(&str, &str, &str)] = &[
 ];
 
 /// The name of this text.
-pub fn name(text: &str) -> Result<Name, Fail> {
-    Ok(Name::read(text)?)
+pub fn name(rt: &impl Abort, text: &str) -> Name {
+    Name::read(text).expect(rt, "a name")
 }
 
 /// The port of this number.
-pub fn port(number: u64) -> Result<Wwn, Fail> {
+pub fn port(rt: &impl Abort, number: u64) -> Wwn {
     if number == 0 {
-        return Err(Fail::from("port"));
+        panic!(rt; "a port");
     }
-    Ok(Wwn::new(number))
+    Wwn::new(number)
 }
 
-fn place(domain: u8, slot: u16) -> Result<Place, Fail> {
+fn place(rt: &impl Abort, domain: u8, slot: u16) -> Place {
     if domain == 0 || domain > 239 || slot > 4095 {
-        return Err(Fail::from("place"));
+        panic!(rt; "a place");
     }
-    Ok(Place::new(domain, slot))
+    Place::new(domain, slot)
 }
 
 /// A record of a port list.
-fn listed(row: Row) -> Result<PortRow, Fail> {
-    let name = port(row.0)?;
-    let node = port(row.1)?;
-    let place = place(row.2, row.3)?;
-    Ok(PortRow { name, node, place })
-}
-
-/// The port list.
-fn port_list(alloc: Global) -> Result<Vec<PortRow, Global>, Fail> {
-    let mut rows = Vec::new(alloc);
-    for &row in PORTS {
-        rows.push(listed(row)?)?;
+fn listed(rt: &impl Abort, row: Row) -> PortRow {
+    PortRow {
+        name: port(rt, row.0),
+        node: port(rt, row.1),
+        place: place(rt, row.2, row.3),
     }
-    Ok(rows)
 }
 
-fn import(alloc: Global, inventory: &mut Inventory<Global>) -> Result<(), Fail> {
-    let rows = port_list(alloc)?;
-    Ok(inventory.import(Fabric::A, rows.as_slice())?)
+fn import(rt: &(impl Abort + AllocGlobal), inventory: &mut Inventory<Global>) {
+    let mut rows = Vec::new(rt.alloc());
+    for &row in PORTS {
+        rows.push(listed(rt, row)).expect(rt, "memory");
+    }
+    inventory
+        .import(Fabric::A, rows.as_slice())
+        .expect(rt, "a port list");
 }
 
 /// A host, or an array, of two ports (of one, where they are equal).
 fn hold(
+    rt: &impl Abort,
     inventory: &mut Inventory<Global>,
     kind: HolderKind,
     holder: (&str, &str),
     ports: (u64, u64),
-) -> Result<(), Fail> {
-    let (holder, tenant) = (name(holder.0)?, name(holder.1)?);
-    let ports = [port(ports.0)?, port(ports.1)?];
-    Ok(inventory.put_holder(holder, kind, tenant, &ports)?)
+) {
+    let (holder, tenant) = (name(rt, holder.0), name(rt, holder.1));
+    let ports = [port(rt, ports.0), port(rt, ports.1)];
+    inventory
+        .put_holder(holder, kind, tenant, &ports)
+        .expect(rt, "a holder");
 }
 
-fn hold_all(inventory: &mut Inventory<Global>) -> Result<(), Fail> {
+fn hold_all(rt: &impl Abort, inventory: &mut Inventory<Global>) {
     hold(
+        rt,
         inventory,
         HolderKind::Host,
         ("db1", "blue"),
         (FIRST_INITIATOR, FIRST_INITIATOR),
-    )?;
+    );
     hold(
+        rt,
         inventory,
         HolderKind::Host,
         ("db2", "green"),
         (SECOND_INITIATOR, THIRD_INITIATOR),
-    )?;
+    );
     hold(
+        rt,
         inventory,
         HolderKind::Array,
         ("arr1", "store"),
         (FIRST_TARGET, SECOND_TARGET),
-    )?;
-    let arr2 = name("arr2")?;
-    Ok(inventory.put_holder(arr2, HolderKind::Array, arr2, &[])?)
+    );
+    let arr2 = name(rt, "arr2");
+    inventory
+        .put_holder(arr2, HolderKind::Array, arr2, &[])
+        .expect(rt, "an array");
 }
 
-fn volume(inventory: &mut Inventory<Global>, row: (&str, &str, &str)) -> Result<(), Fail> {
-    let (volume, array, tenant) = (name(row.0)?, name(row.1)?, name(row.2)?);
-    Ok(inventory.put_volume(volume, array, tenant, 1_073_741_824)?)
-}
-
-fn volumes(inventory: &mut Inventory<Global>) -> Result<(), Fail> {
-    for &row in VOLUMES {
-        volume(inventory, row)?;
-    }
-    Ok(())
+fn volume(rt: &impl Abort, inventory: &mut Inventory<Global>, row: (&str, &str, &str)) {
+    let (volume, array, tenant) = (name(rt, row.0), name(rt, row.1), name(rt, row.2));
+    inventory
+        .put_volume(volume, array, tenant, 1_073_741_824)
+        .expect(rt, "a volume");
 }
 
 /// Fabric A lists all ports; the host `db1` has the first initiator and `db2` the others; the array
 /// `arr1` has the targets and two volumes, and `arr2` has no port and one volume.
-pub fn stock(alloc: Global) -> Result<Inventory<Global>, Fail> {
-    let mut inventory = Inventory::new(alloc);
-    import(alloc, &mut inventory)?;
-    hold_all(&mut inventory)?;
-    volumes(&mut inventory)?;
-    Ok(inventory)
+pub fn stock(rt: &(impl Abort + AllocGlobal)) -> Inventory<Global> {
+    let mut inventory = Inventory::new(rt.alloc());
+    import(rt, &mut inventory);
+    hold_all(rt, &mut inventory);
+    for &row in VOLUMES {
+        volume(rt, &mut inventory, row);
+    }
+    inventory
 }
 
 /// No zone, and no group.
@@ -153,18 +155,17 @@ pub fn new_config(alloc: Global) -> Config<Global> {
 }
 
 /// The steps that a text spells.
-pub fn steps(alloc: Global, text: &str) -> Result<Vec<Step<Global>, Global>, Fail> {
-    Ok(read_plan(alloc, text)?)
+pub fn steps(rt: &(impl Abort + AllocGlobal), text: &str) -> Vec<Step<Global>, Global> {
+    read_plan(rt.alloc(), text).expect(rt, "a plan")
 }
 
 /// Makes of a configuration what the plan of a text makes of it.
 pub fn take(
-    alloc: Global,
+    rt: &(impl Abort + AllocGlobal),
     inventory: &Inventory<Global>,
     config: &mut Config<Global>,
     text: &str,
-) -> Result<(), Fail> {
-    let steps = steps(alloc, text)?;
-    *config = trial(config, inventory, steps.as_slice())?;
-    Ok(())
+) {
+    let steps = steps(rt, text);
+    *config = trial(config, inventory, steps.as_slice()).expect(rt, "a configuration");
 }

@@ -1,7 +1,7 @@
 //! The policy that the repository gives to start from, `examples/policy.toml`.
+use crate::told::policy;
 use fab_names::Name;
-use fab_policy_base::Policy;
-use std::test::Fail;
+use std::process::Abort;
 
 /// The text of the file.
 const EXAMPLE: &str =
@@ -123,22 +123,19 @@ fresh = true
 "#;
 
 /// A name of the test.
-fn name(text: &str) -> Result<Name, Fail> {
-    Name::read(text).map_err(|_| Fail::from("name"))
+fn name(rt: &impl Abort, text: &str) -> Name {
+    Name::read(text).expect(rt, "a name")
 }
 
 #[test]
-fn example_is_read(rt: HostRuntime) -> Result<(), Fail> {
-    let Ok(p) = Policy::read(rt.alloc(), EXAMPLE) else {
-        return Err(Fail::from("the example"));
-    };
+fn example_is_read(rt: HostRuntime) {
+    let p = policy(&rt, EXAMPLE);
     assert!(rt; (p.callers().len(), p.windows().len(), p.rules().len()) == (5, 1, 6));
     let cyd = p
         .caller("replace-this-by-a-long-random-text-4")
-        .ok_or("cyd")?;
-    assert!(rt; p.name_of(cyd) == Some(name("cyd")?));
-    assert!(rt; p.has_tenant(cyd, &name("blue")?));
-    assert!(rt; !p.has_tenant(cyd, &name("green")?));
+        .expect(&rt, "cyd");
+    assert!(rt; p.name_of(cyd) == Some(name(&rt, "cyd")));
+    assert!(rt; p.has_tenant(cyd, &name(&rt, "blue")));
+    assert!(rt; !p.has_tenant(cyd, &name(&rt, "green")));
     assert!(rt; p.caller("replace-this-by-a-long-random-text-6").is_none());
-    Ok(())
 }

@@ -1,6 +1,6 @@
 //! Each fault of a policy's text, by a text that has it alone.
 use crate::told::assert_fault;
-use std::test::Fail;
+use std::process::Abort;
 
 /// Texts that are no TOML.
 const NO_TOML: &[(&str, &str)] = &[
@@ -274,12 +274,18 @@ const REPEATED: &[(&str, &str)] = &[
     ),
 ];
 
-#[test]
-fn each_fault(rt: HostRuntime) -> Result<(), Fail> {
-    for table in [NO_TOML, MISSING, WRONG_TYPE, UNKNOWN, REPEATED] {
-        for (text, fault) in table {
-            assert_fault(&rt, rt.alloc(), text, fault)?;
-        }
+/// Asserts the fault of each text of a table.
+fn assert_faults(rt: &(impl Abort + AllocGlobal), table: &[(&str, &str)]) {
+    for (text, fault) in table {
+        assert_fault(rt, text, fault);
     }
-    Ok(())
+}
+
+#[test]
+fn each_fault(rt: HostRuntime) {
+    assert_faults(&rt, NO_TOML);
+    assert_faults(&rt, MISSING);
+    assert_faults(&rt, WRONG_TYPE);
+    assert_faults(&rt, UNKNOWN);
+    assert_faults(&rt, REPEATED);
 }

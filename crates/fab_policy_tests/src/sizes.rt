@@ -1,9 +1,7 @@
 //! Policies of each size, up to each limit, and one past it.
 use crate::told::assert_fault;
 use fab_policy_base::Policy;
-use std::alloc::{AllocError, Global};
 use std::process::Abort;
-use std::test::Fail;
 
 /// Texts that grow by one item at a time.
 #[derive(Clone, Copy)]
@@ -103,102 +101,97 @@ const LISTS: &[Growing] = &[
 ];
 
 /// Puts an item behind the text, with its number.
-fn put(alloc: Global, text: &mut String, item: &str, number: u64) -> Result<(), AllocError> {
-    let number = number.to_string(alloc)?;
-    let item = item.replace(alloc, "#", number.as_str())?;
-    text.push_str(item.as_str())
+fn put(rt: &(impl Abort + AllocGlobal), text: &mut String, item: &str, number: u64) {
+    let number = number.to_string(rt.alloc()).expect(rt, "memory");
+    let item = item
+        .replace(rt.alloc(), "#", number.as_str())
+        .expect(rt, "memory");
+    text.push_str(item.as_str()).expect(rt, "memory");
 }
 
 /// Puts a piece and so many items behind the text.
-fn put_all(
-    alloc: Global,
-    text: &mut String,
-    head: &str,
-    item: &str,
-    count: u64,
-) -> Result<(), AllocError> {
-    text.push_str(head)?;
+fn put_all(rt: &(impl Abort + AllocGlobal), text: &mut String, head: &str, item: &str, count: u64) {
+    text.push_str(head).expect(rt, "memory");
     for number in 0..count {
-        put(alloc, text, item, number)?;
+        put(rt, text, item, number);
     }
-    Ok(())
 }
 
 /// Whether the text is read with what comes behind it.
-fn is_read(alloc: Global, text: &str, tail: &str) -> Result<bool, AllocError> {
-    let mut whole = String::from_str(alloc, text)?;
-    whole.push_str(tail)?;
-    Ok(Policy::read(alloc, whole.as_str()).is_ok())
+fn is_read(rt: &(impl Abort + AllocGlobal), text: &str, tail: &str) -> bool {
+    let mut whole = String::from_str(rt.alloc(), text).expect(rt, "memory");
+    whole.push_str(tail).expect(rt, "memory");
+    Policy::read(rt.alloc(), whole.as_str()).is_ok()
 }
 
 /// Asserts that each number of items is read up to the limit, and the fault of one more.
-fn assert_sizes(rt: &impl Abort, alloc: Global, growing: &Growing) -> Result<(), Fail> {
-    let mut text = String::new(alloc);
-    put_all(alloc, &mut text, growing.head, growing.item, growing.least)?;
-    for count in growing.least..growing.most {
-        assert!(rt; is_read(alloc, text.as_str(), growing.tail)?);
-        put(alloc, &mut text, growing.item, count)?;
+fn assert_sizes(rt: &(impl Abort + AllocGlobal), growing: &Growing) {
+    let mut text = String::new(rt.alloc());
+    put_all(rt, &mut text, growing.head, growing.item, growing.least);
+    for count in growing.least..=growing.most {
+        assert!(rt; is_read(rt, text.as_str(), growing.tail));
+        put(rt, &mut text, growing.item, count);
     }
-    assert!(rt; is_read(alloc, text.as_str(), growing.tail)?);
-    put(alloc, &mut text, growing.item, growing.most)?;
-    text.push_str(growing.tail)?;
-    assert_fault(rt, alloc, text.as_str(), growing.fault)
+    text.push_str(growing.tail).expect(rt, "memory");
+    assert_fault(rt, text.as_str(), growing.fault);
 }
 
 #[test]
-fn tables(rt: HostRuntime) -> Result<(), Fail> {
+fn tables(rt: HostRuntime) {
     for growing in TABLES {
-        assert_sizes(&rt, rt.alloc(), growing)?;
+        assert_sizes(&rt, growing);
     }
-    Ok(())
 }
 
 #[test]
-fn lists(rt: HostRuntime) -> Result<(), Fail> {
+fn lists(rt: HostRuntime) {
     for growing in LISTS {
-        assert_sizes(&rt, rt.alloc(), growing)?;
+        assert_sizes(&rt, growing);
     }
-    Ok(())
 }
 
 /// A caller with as many roles and tenants as there may be.
-fn caller(alloc: Global) -> Result<String, AllocError> {
-    let mut text = String::new(alloc);
+fn caller(rt: &(impl Abort + AllocGlobal)) -> String {
+    let mut text = String::new(rt.alloc());
     let head = "[[callers]]\nname = \"c#\"\ntoken = \"t#\"\nroles = [";
-    put_all(alloc, &mut text, head, "\"r#\",", 16)?;
-    put_all(alloc, &mut text, "]\ntenants = [", "\"t#\",", 64)?;
-    text.push_str("]\n")?;
-    Ok(text)
+    put_all(rt, &mut text, head, "\"r#\",", 16);
+    put_all(rt, &mut text, "]\ntenants = [", "\"t#\",", 64);
+    text.push_str("]\n").expect(rt, "memory");
+    text
 }
 
 /// A window with as many parts of the week and freezes as there may be.
-fn window(alloc: Global) -> Result<String, AllocError> {
-    let mut text = String::new(alloc);
+fn window(rt: &(impl Abort + AllocGlobal)) -> String {
+    let mut text = String::new(rt.alloc());
     let head = "[[windows]]\nname = \"w#\"\nweekly = [";
-    put_all(alloc, &mut text, head, "[#, 10080],", 64)?;
+    put_all(rt, &mut text, head, "[#, 10080],", 64);
     put_all(
-        alloc,
+        rt,
         &mut text,
         "]\nfreeze = [",
         "[#, 9223372036854775807],",
         256,
-    )?;
-    text.push_str("]\n")?;
-    Ok(text)
+    );
+    text.push_str("]\n").expect(rt, "memory");
+    text
 }
 
 /// A rule that asks for all that a rule can ask for.
 const RULE: &str =
     "[[rules]]\nname = \"r#\"\nactions = [\"activate\"]\nfabric = \"A\"\nrole = \"r\"\nscope = \"own\"\nwindow = \"w0\"\napprovals = 16\napprover = \"r\"\nfresh = true\n";
 
+/// The text of a policy at every limit.
+fn at_limits(rt: &(impl Abort + AllocGlobal)) -> String {
+    let (caller, window) = (caller(rt), window(rt));
+    let mut text = String::new(rt.alloc());
+    put_all(rt, &mut text, "", caller.as_str(), 256);
+    put_all(rt, &mut text, "", window.as_str(), 64);
+    put_all(rt, &mut text, "", RULE, 64);
+    text
+}
+
 /// Every limit at once.
 #[test]
-fn largest(rt: HostRuntime) -> Result<(), Fail> {
-    let alloc = rt.alloc();
-    let mut text = String::new(alloc);
-    put_all(alloc, &mut text, "", caller(alloc)?.as_str(), 256)?;
-    put_all(alloc, &mut text, "", window(alloc)?.as_str(), 64)?;
-    put_all(alloc, &mut text, "", RULE, 64)?;
-    assert!(rt; is_read(alloc, text.as_str(), "")?);
-    Ok(())
+fn largest(rt: HostRuntime) {
+    assert!(rt; is_read(&rt, at_limits(&rt).as_str(), ""));
 }

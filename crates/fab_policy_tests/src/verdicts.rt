@@ -1,7 +1,8 @@
 //! What no clause says: that the worked verdicts come out.
+use crate::told::policy;
 use fab_names::{Fabric, Name};
 use fab_policy::{Act, Action, Approval, Need, PlanApprovals, Policy, Verdict, decide};
-use std::test::Fail;
+use std::process::Abort;
 
 /// The policy of the worked verdicts.
 const P: &str =
@@ -12,8 +13,8 @@ const Q: &str =
     "[[callers]]\nname = \"ada\"\ntoken = \"t-ada\"\nroles = [\"operator\", \"approver\"]\ntenants = \"*\"\n[[callers]]\nname = \"bob\"\ntoken = \"t-bob\"\nroles = [\"approver\"]\ntenants = \"*\"\n[[callers]]\nname = \"cyd\"\ntoken = \"t-cyd\"\nroles = [\"operator\"]\ntenants = [\"blue\"]\n[[callers]]\nname = \"dan\"\ntoken = \"t-dan\"\nroles = [\"approver\"]\ntenants = \"*\"\n[[callers]]\nname = \"eve\"\ntoken = \"t-eve\"\nroles = []\ntenants = [\"green\"]\n[[windows]]\nname = \"early\"\nweekly = [[60, 120]]\nfreeze = [[350000, 351000]]\n[[rules]]\nname = \"ops\"\nactions = [\"import\", \"inventory\", \"stage\", \"withdraw\", \"dryrun\", \"activate\", \"rollback\"]\nrole = \"operator\"\n[[rules]]\nname = \"signers\"\nactions = [\"approve\"]\n[[rules]]\nname = \"two-eyes\"\nactions = [\"activate\"]\nfabric = \"B\"\napprovals = 2\napprover = \"approver\"\nfresh = true\n[[rules]]\nname = \"quiet\"\nactions = [\"activate\"]\nfabric = \"B\"\nwindow = \"early\"\n[[rules]]\nname = \"own\"\nactions = [\"import\", \"inventory\", \"activate\", \"rollback\"]\nscope = \"own\"\n";
 
 /// A name of the test.
-fn name(text: &str) -> Result<Name, Fail> {
-    Name::read(text).map_err(|_| Fail::from("name"))
+fn name(rt: &impl Abort, text: &str) -> Name {
+    Name::read(text).expect(rt, "a name")
 }
 
 /// What denies an act: the rule's number and name, and the need. An allowed act has no name here.
@@ -53,38 +54,31 @@ struct Activation {
     denied: Denial,
 }
 
-/// The verdict on an activation.
-fn verdict_on_activation(
-    policy: &Policy,
-    moment: u64,
-    first: (&str, u64),
-    second: (&str, u64),
-) -> Result<Verdict, Fail> {
-    let caller = policy.caller("t-ada").ok_or("ada")?;
-    let author = name("ada")?;
+/// Whether the verdict on an activation is the one that is wanted.
+fn is_judged(rt: &impl Abort, policy: &Policy, case: &Activation) -> bool {
     let approvals = [
         Approval {
-            caller: name(first.0)?,
-            revision: first.1,
+            caller: name(rt, case.first.0),
+            revision: case.first.1,
         },
         Approval {
-            caller: name(second.0)?,
-            revision: second.1,
+            caller: name(rt, case.second.0),
+            revision: case.second.1,
         },
     ];
     let act = Act {
-        caller,
+        caller: policy.caller("t-ada").expect(rt, "ada"),
         action: Action::Activate,
         fabrics: &[Fabric::B],
         touched: &[],
-        moment,
+        moment: case.moment,
         plan: Some(PlanApprovals {
-            author,
+            author: name(rt, "ada"),
             approvals: &approvals,
         }),
         revision: 6,
     };
-    Ok(decide(policy, &act))
+    is_verdict(decide(policy, &act), case.denied)
 }
 
 /// The worked verdicts, and the minutes and seconds at which the window opens and closes.
@@ -182,13 +176,11 @@ const ACTIVATIONS: &[Activation] = &[
 ];
 
 #[test]
-fn worked_verdicts(rt: HostRuntime) -> Result<(), Fail> {
-    let p = Policy::read(rt.alloc(), P).map_err(|_| Fail::from("policy"))?;
+fn worked_verdicts(rt: HostRuntime) {
+    let p = policy(&rt, P);
     for case in ACTIVATIONS {
-        let verdict = verdict_on_activation(&p, case.moment, case.first, case.second)?;
-        assert!(rt; is_verdict(verdict, case.denied));
+        assert!(rt; is_judged(&rt, &p, case));
     }
-    Ok(())
 }
 
 /// The author's own approval, and one caller's twice, where ada is an approver too.
@@ -222,13 +214,11 @@ const OWN: &[Activation] = &[
 ];
 
 #[test]
-fn author_is_no_approver(rt: HostRuntime) -> Result<(), Fail> {
-    let p = Policy::read(rt.alloc(), Q).map_err(|_| Fail::from("policy"))?;
+fn author_is_no_approver(rt: HostRuntime) {
+    let p = policy(&rt, Q);
     for case in OWN {
-        let verdict = verdict_on_activation(&p, case.moment, case.first, case.second)?;
-        assert!(rt; is_verdict(verdict, case.denied));
+        assert!(rt; is_judged(&rt, &p, case));
     }
-    Ok(())
 }
 
 /// A command without a plan.
@@ -309,33 +299,37 @@ const PLAIN: &[Plain] = &[
 
 /// The verdict on a command without a plan.
 fn verdict_without_plan<'a>(
+    rt: &impl Abort,
     policy: &Policy,
-    token: &str,
-    action: Action,
+    case: &Plain,
     fabrics: &'a [Fabric],
     touched: &'a [Name],
-) -> Result<Verdict, Fail> {
+) -> Verdict {
     let act = Act {
-        caller: policy.caller(token).ok_or("caller")?,
-        action,
+        caller: policy.caller(case.token).expect(rt, "a caller"),
+        action: case.action,
         fabrics,
         touched,
         moment: 349200,
         plan: None,
         revision: 0,
     };
-    Ok(decide(policy, &act))
+    decide(policy, &act)
+}
+
+/// Whether it is the one that is wanted.
+fn is_judged_alone(rt: &impl Abort, policy: &Policy, case: &Plain) -> bool {
+    let touched = [name(rt, case.touched)];
+    let verdict = verdict_without_plan(rt, policy, case, case.fabrics, &touched);
+    is_verdict(verdict, case.denied)
 }
 
 #[test]
-fn without_a_plan(rt: HostRuntime) -> Result<(), Fail> {
-    let p = Policy::read(rt.alloc(), P).map_err(|_| Fail::from("policy"))?;
+fn without_a_plan(rt: HostRuntime) {
+    let p = policy(&rt, P);
     for case in PLAIN {
-        let touched = [name(case.touched)?];
-        let verdict = verdict_without_plan(&p, case.token, case.action, case.fabrics, &touched)?;
-        assert!(rt; is_verdict(verdict, case.denied));
+        assert!(rt; is_judged_alone(&rt, &p, case));
     }
-    Ok(())
 }
 
 /// A policy with one rule.
@@ -365,12 +359,9 @@ const BARE: &[Plain] = &[
 ];
 
 #[test]
-fn action_without_a_rule(rt: HostRuntime) -> Result<(), Fail> {
-    let p = Policy::read(rt.alloc(), ONE).map_err(|_| Fail::from("policy"))?;
+fn action_without_a_rule(rt: HostRuntime) {
+    let p = policy(&rt, ONE);
     for case in BARE {
-        let touched = [name(case.touched)?];
-        let verdict = verdict_without_plan(&p, case.token, case.action, case.fabrics, &touched)?;
-        assert!(rt; is_verdict(verdict, case.denied));
+        assert!(rt; is_judged_alone(&rt, &p, case));
     }
-    Ok(())
 }

@@ -2,7 +2,7 @@
 use fab_names::{Fabric, Member, Name, NameFault, Place, Wwn, read_number};
 use std::alloc::Global;
 use std::fmt;
-use std::test::Fail;
+use std::process::Abort;
 
 /// What a text is read as.
 #[derive(Clone, Copy)]
@@ -95,11 +95,10 @@ fn fault_of(kind: Kind, text: &str) -> Option<NameFault> {
 }
 
 #[test]
-fn faults(rt: HostRuntime) -> Result<(), Fail> {
+fn faults(rt: HostRuntime) {
     for &(kind, text, fault) in FAULTS {
         assert!(rt; fault_of(kind, text) == fault);
     }
-    Ok(())
 }
 
 /// Texts and their printed forms.
@@ -165,37 +164,42 @@ fn is_text(printed: String<Global>, text: &str) -> bool {
 }
 
 /// Whether the value of the text is printed and displayed so.
-fn is_shown(alloc: Global, kind: Kind, text: &str, printed: &'static str) -> Result<bool, Fail> {
+fn is_shown(
+    rt: &(impl Abort + AllocGlobal),
+    kind: Kind,
+    text: &str,
+    printed: &'static str,
+) -> bool {
+    let alloc = rt.alloc();
     match kind {
         Kind::AsName => {
-            let name = Name::read(text)?;
-            Ok(shows(&name, printed) && is_text(name.print(alloc)?, printed))
+            let name = Name::read(text).expect(rt, "a name");
+            shows(&name, printed) && is_text(name.print(alloc).expect(rt, "memory"), printed)
         }
         Kind::AsWwn => {
-            let name = Wwn::read(text)?;
-            Ok(shows(&name, printed) && is_text(name.print(alloc)?, printed))
+            let name = Wwn::read(text).expect(rt, "a port's name");
+            shows(&name, printed) && is_text(name.print(alloc).expect(rt, "memory"), printed)
         }
         Kind::AsFabric => {
-            let fabric = Fabric::read(text)?;
-            Ok(shows(&fabric, printed) && is_text(fabric.print(alloc)?, printed))
+            let fabric = Fabric::read(text).expect(rt, "a fabric");
+            shows(&fabric, printed) && is_text(fabric.print(alloc).expect(rt, "memory"), printed)
         }
         Kind::AsPlace => {
-            let place = Place::read(text)?;
-            Ok(shows(&place, printed) && is_text(place.print(alloc)?, printed))
+            let place = Place::read(text).expect(rt, "a place");
+            shows(&place, printed) && is_text(place.print(alloc).expect(rt, "memory"), printed)
         }
         Kind::AsMember => {
-            let member = Member::read(text)?;
-            Ok(shows(&member, printed) && is_text(member.print(alloc)?, printed))
+            let member = Member::read(text).expect(rt, "a member");
+            shows(&member, printed) && is_text(member.print(alloc).expect(rt, "memory"), printed)
         }
     }
 }
 
 #[test]
-fn printed(rt: HostRuntime) -> Result<(), Fail> {
+fn printed(rt: HostRuntime) {
     for &(kind, text, printed) in PRINTED {
-        assert!(rt; is_shown(rt.alloc(), kind, text, printed)?);
+        assert!(rt; is_shown(&rt, kind, text, printed));
     }
-    Ok(())
 }
 
 /// Texts, and whether they are the printed form of what they spell.
@@ -226,11 +230,10 @@ fn is_exact(kind: Kind, text: &str) -> bool {
 }
 
 #[test]
-fn printed_forms_alone(rt: HostRuntime) -> Result<(), Fail> {
+fn printed_forms_alone(rt: HostRuntime) {
     for &(kind, text, exact) in EXACT {
         assert!(rt; is_exact(kind, text) == exact);
     }
-    Ok(())
 }
 
 /// Texts, and the number of which they are the plain digits.
@@ -253,11 +256,10 @@ fn plain_number(text: &str) -> Option<u64> {
 }
 
 #[test]
-fn plain_digits(rt: HostRuntime) -> Result<(), Fail> {
+fn plain_digits(rt: HostRuntime) {
     for &(text, number) in PLAIN {
         assert!(rt; plain_number(text) == number);
     }
-    Ok(())
 }
 
 /// Number texts and others.
@@ -275,11 +277,10 @@ fn number(text: &str) -> Option<u128> {
 }
 
 #[test]
-fn numbers(rt: HostRuntime) -> Result<(), Fail> {
+fn numbers(rt: HostRuntime) {
     for &(text, value) in NUMBERS {
         assert!(rt; number(text) == value);
     }
-    Ok(())
 }
 
 /// Pairs of texts, of which the first comes before the second.
@@ -308,21 +309,31 @@ const IN_ORDER: &[(Kind, &str, &str)] = &[
 ];
 
 /// Whether the first comes before the second.
-fn is_before(kind: Kind, first: &str, second: &str) -> Result<bool, Fail> {
+fn is_before(rt: &impl Abort, kind: Kind, first: &str, second: &str) -> bool {
     match kind {
-        Kind::AsName => Ok(Name::read(first)? < Name::read(second)?),
-        Kind::AsWwn => Ok(Wwn::read(first)? < Wwn::read(second)?),
-        Kind::AsFabric => Ok(Fabric::read(first)? < Fabric::read(second)?),
-        Kind::AsPlace => Ok(Place::read(first)? < Place::read(second)?),
-        Kind::AsMember => Ok(Member::read(first)? < Member::read(second)?),
+        Kind::AsName => {
+            Name::read(first).expect(rt, "a name") < Name::read(second).expect(rt, "a name")
+        }
+        Kind::AsWwn => {
+            Wwn::read(first).expect(rt, "a port's name")
+                < Wwn::read(second).expect(rt, "a port's name")
+        }
+        Kind::AsFabric => {
+            Fabric::read(first).expect(rt, "a fabric") < Fabric::read(second).expect(rt, "a fabric")
+        }
+        Kind::AsPlace => {
+            Place::read(first).expect(rt, "a place") < Place::read(second).expect(rt, "a place")
+        }
+        Kind::AsMember => {
+            Member::read(first).expect(rt, "a member") < Member::read(second).expect(rt, "a member")
+        }
     }
 }
 
 #[test]
-fn orders(rt: HostRuntime) -> Result<(), Fail> {
+fn orders(rt: HostRuntime) {
     for &(kind, first, second) in IN_ORDER {
-        assert!(rt; is_before(kind, first, second)?);
-        assert!(rt; !is_before(kind, second, first)?);
+        assert!(rt; is_before(&rt, kind, first, second));
+        assert!(rt; !is_before(&rt, kind, second, first));
     }
-    Ok(())
 }

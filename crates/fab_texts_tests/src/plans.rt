@@ -1,7 +1,7 @@
 //! The table of faults, texts that grow, and what is printed of plans.
 use fab_plans_base::{PlanFault, PlanFaultKind, print_plan, read_plan};
-use std::alloc::{AllocError, Global};
-use std::test::Fail;
+use std::alloc::Global;
+use std::process::Abort;
 
 /// What is printed of the plan that a text spells.
 fn printed_of(alloc: Global, text: &str) -> Result<String, PlanFault> {
@@ -19,35 +19,35 @@ fn is_answered(alloc: Global, text: &str, fault: Option<(usize, PlanFaultKind)>)
 }
 
 /// How often one more piece can be put behind a text so that it is read and printed again.
-fn growth_of(alloc: Global, front: &str, piece: &str) -> Result<usize, AllocError> {
-    let mut text = String::from_str(alloc, front)?;
+fn growth_of(rt: &(impl Abort + AllocGlobal), front: &str, piece: &str) -> usize {
+    let mut text = String::from_str(rt.alloc(), front).expect(rt, "memory");
     for times in 0..300 {
-        text.push_str(piece)?;
-        match printed_of(alloc, text.as_str()) {
+        text.push_str(piece).expect(rt, "memory");
+        match printed_of(rt.alloc(), text.as_str()) {
             Ok(printed) if printed.as_str().starts_with(text.as_str()) => {}
-            _ => return Ok(times),
+            _ => return times,
         }
     }
-    Ok(300)
+    300
 }
 
 /// A text of so many lines, each of a front and so many pieces.
 fn lines_of(
-    alloc: Global,
+    rt: &(impl Abort + AllocGlobal),
     front: &str,
     piece: &str,
     pieces: usize,
     lines: usize,
-) -> Result<String, AllocError> {
-    let mut text = String::new(alloc);
+) -> String {
+    let mut text = String::new(rt.alloc());
     for _ in 0..lines {
-        text.push_str(front)?;
+        text.push_str(front).expect(rt, "memory");
         for _ in 0..pieces {
-            text.push_str(piece)?;
+            text.push_str(piece).expect(rt, "memory");
         }
-        text.push_str("\n")?;
+        text.push_str("\n").expect(rt, "memory");
     }
-    Ok(text)
+    text
 }
 
 /// Texts with a fault, its line and its kind.
@@ -101,11 +101,10 @@ const FAULTS: &[(&str, usize, PlanFaultKind)] = &[
 
 /// The table of faults.
 #[test]
-fn faults(rt: HostRuntime) -> Result<(), Fail> {
+fn faults(rt: HostRuntime) {
     for &(text, line, kind) in FAULTS {
         assert!(rt; is_answered(rt.alloc(), text, Some((line, kind))));
     }
-    Ok(())
 }
 
 /// Fronts and pieces, and how many pieces there may be.
@@ -119,11 +118,10 @@ const GROWTHS: &[(&str, &str, usize)] = &[
 
 /// With memory enough, plans of each length and lists of each length are read and printed.
 #[test]
-fn growths(rt: HostRuntime) -> Result<(), Fail> {
+fn growths(rt: HostRuntime) {
     for &(front, piece, most) in GROWTHS {
-        assert!(rt; growth_of(rt.alloc(), front, piece)? == most);
+        assert!(rt; growth_of(&rt, front, piece) == most);
     }
-    Ok(())
 }
 
 /// Fronts, pieces, how many of them and how many lines, how many bytes that are, and the fault.
@@ -175,19 +173,18 @@ const LONG: &[Long] = &[
 ];
 
 /// Whether a long text has so many bytes and is read or refused as it should be.
-fn is_long(alloc: Global, case: &Long) -> Result<bool, Fail> {
+fn is_long(rt: &(impl Abort + AllocGlobal), case: &Long) -> bool {
     let (front, piece, pieces, lines, bytes, fault) = *case;
-    let text = lines_of(alloc, front, piece, pieces, lines)?;
-    Ok(text.len() == bytes && is_answered(alloc, text.as_str(), fault))
+    let text = lines_of(rt, front, piece, pieces, lines);
+    text.len() == bytes && is_answered(rt.alloc(), text.as_str(), fault)
 }
 
 /// Texts with as many lines, words and bytes as there may be, and with more.
 #[test]
-fn long_texts(rt: HostRuntime) -> Result<(), Fail> {
+fn long_texts(rt: HostRuntime) {
     for case in LONG {
-        assert!(rt; is_long(rt.alloc(), case)?);
+        assert!(rt; is_long(&rt, case));
     }
-    Ok(())
 }
 
 /// A plan of each line, of which some words are not in their printed form.
@@ -240,15 +237,14 @@ sg.hide g2
 ";
 
 /// Whether the text is read, and its printed form is that of the plan.
-fn is_printed(alloc: Global, text: &str) -> Result<bool, Fail> {
-    let printed = printed_of(alloc, text)?;
-    Ok(printed.as_str() == PRINTED)
+fn is_printed(rt: &(impl Abort + AllocGlobal), text: &str) -> bool {
+    let printed = printed_of(rt.alloc(), text).expect(rt, "a plan");
+    printed.as_str() == PRINTED
 }
 
 /// Each line is read and printed, and the printed form is read again.
 #[test]
-fn lines(rt: HostRuntime) -> Result<(), Fail> {
-    assert!(rt; is_printed(rt.alloc(), PLAN)?);
-    assert!(rt; is_printed(rt.alloc(), PRINTED)?);
-    Ok(())
+fn lines(rt: HostRuntime) {
+    assert!(rt; is_printed(&rt, PLAN));
+    assert!(rt; is_printed(&rt, PRINTED));
 }

@@ -1,8 +1,7 @@
 //! Command lines, and what they ask for.
 use clap::error::ErrorKind;
-use fab_words::{SUBCOMMANDS, Subcommand, WordsFault, read_words};
-use std::alloc::{AllocError, Global};
-use std::test::Fail;
+use fab_words::{SUBCOMMANDS, Subcommand, Words, WordsFault, read_words};
+use std::process::Abort;
 
 /// What words come to.
 #[derive(Clone, Copy)]
@@ -175,16 +174,21 @@ const CASES: &[Case] = &[
     ("dryrun -h", Outcome::Refused(ErrorKind::DisplayHelp)),
 ];
 
+/// A text of the test's own.
+fn text_of(rt: &(impl Abort + AllocGlobal), text: &str) -> String {
+    String::from_str(rt.alloc(), text).expect(rt, "memory")
+}
+
 /// The words of a line, behind the program's name.
-fn words_of(alloc: Global, line: &str) -> Result<Vec<String>, AllocError> {
-    let mut words = Vec::new(alloc);
-    words.push(String::from_str(alloc, "sandesk")?)?;
+fn words_of(rt: &(impl Abort + AllocGlobal), line: &str) -> Vec<String> {
+    let mut words = Vec::new(rt.alloc());
+    words.push(text_of(rt, "sandesk")).expect(rt, "memory");
     for word in line.split(' ') {
         if !word.is_empty() {
-            words.push(String::from_str(alloc, word)?)?;
+            words.push(text_of(rt, word)).expect(rt, "memory");
         }
     }
-    Ok(words)
+    words
 }
 
 /// Whether words are refused for this.
@@ -195,113 +199,119 @@ fn is_refused(fault: &WordsFault, kind: ErrorKind) -> bool {
     }
 }
 
+/// Whether what is asked for is told so.
+fn is_told(rt: &(impl Abort + AllocGlobal), words: &Words, text: &str) -> bool {
+    let told = format!(in rt.alloc(); "{words:?}").expect(rt, "memory");
+    told.as_str() == text
+}
+
 /// Whether the words come to this.
-fn is_outcome(alloc: Global, words: &[String], outcome: Outcome) -> Result<bool, AllocError> {
-    match (read_words(alloc, words), outcome) {
-        (Ok(words), Outcome::Asks(text)) => Ok(format!(in alloc; "{words:?}")?.as_str() == text),
-        (Err(WordsFault::BadText), Outcome::BadText) => Ok(true),
-        (Err(fault), Outcome::Refused(kind)) => Ok(is_refused(&fault, kind)),
-        _ => Ok(false),
+fn is_outcome(rt: &(impl Abort + AllocGlobal), words: &[String], outcome: Outcome) -> bool {
+    match (read_words(rt.alloc(), words), outcome) {
+        (Ok(words), Outcome::Asks(text)) => is_told(rt, &words, text),
+        (Err(WordsFault::BadText), Outcome::BadText) => true,
+        (Err(fault), Outcome::Refused(kind)) => is_refused(&fault, kind),
+        _ => false,
     }
 }
 
 /// Whether the line comes to what it should.
-fn is_right(alloc: Global, case: &Case) -> Result<bool, AllocError> {
-    let words = words_of(alloc, case.0)?;
-    is_outcome(alloc, &words, case.1)
+fn is_right(rt: &(impl Abort + AllocGlobal), case: &Case) -> bool {
+    let words = words_of(rt, case.0);
+    is_outcome(rt, &words, case.1)
 }
 
 /// Whether the help that the words ask for has all of these texts.
-fn tells(alloc: Global, words: &[String], texts: &[&str]) -> Result<bool, AllocError> {
-    let Err(WordsFault::Refused(error)) = read_words(alloc, words) else {
-        return Ok(false);
+fn tells(rt: &(impl Abort + AllocGlobal), words: &[String], texts: &[&str]) -> bool {
+    let Err(WordsFault::Refused(error)) = read_words(rt.alloc(), words) else {
+        return false;
     };
-    let help = format!(in alloc; "{error}")?;
-    Ok(texts.iter().all(|text| help.contains(*text)))
+    let help = format!(in rt.alloc(); "{error}").expect(rt, "memory");
+    texts.iter().all(|text| help.contains(*text))
 }
 
 /// The words that ask for a subcommand's help.
-fn help_of(alloc: Global, subcommand: Subcommand) -> Result<Vec<String>, AllocError> {
-    let mut words = words_of(alloc, subcommand.name())?;
-    words.push(String::from_str(alloc, "--help")?)?;
-    Ok(words)
+fn help_of(rt: &(impl Abort + AllocGlobal), subcommand: Subcommand) -> Vec<String> {
+    let mut words = words_of(rt, subcommand.name());
+    words.push(text_of(rt, "--help")).expect(rt, "memory");
+    words
 }
 
 /// What a subcommand's help has to tell: what it is for, an example, and its options.
-fn taught(alloc: Global, subcommand: Subcommand) -> Result<Vec<&'static str>, AllocError> {
-    let mut texts = Vec::new(alloc);
-    texts.push(subcommand.about())?;
-    texts.push(subcommand.example())?;
+fn taught(rt: &(impl Abort + AllocGlobal), subcommand: Subcommand) -> Vec<&'static str> {
+    let mut texts = Vec::new(rt.alloc());
+    texts.push(subcommand.about()).expect(rt, "memory");
+    texts.push(subcommand.example()).expect(rt, "memory");
     for option in subcommand.required() {
-        texts.push(option.help())?;
+        texts.push(option.help()).expect(rt, "memory");
     }
     for option in subcommand.optional() {
-        texts.push(option.help())?;
+        texts.push(option.help()).expect(rt, "memory");
     }
-    Ok(texts)
+    texts
 }
 
 /// Whether a subcommand's help has its example and its options.
-fn teaches(alloc: Global, subcommand: Subcommand) -> Result<bool, AllocError> {
-    let texts = taught(alloc, subcommand)?;
-    tells(alloc, &help_of(alloc, subcommand)?, &texts)
+fn teaches(rt: &(impl Abort + AllocGlobal), subcommand: Subcommand) -> bool {
+    let texts = taught(rt, subcommand);
+    let words = help_of(rt, subcommand);
+    tells(rt, &words, &texts)
 }
 
 /// Whether the program's help has each subcommand.
-fn lists_all(alloc: Global) -> Result<bool, AllocError> {
-    let words = words_of(alloc, "help")?;
-    let mut texts = Vec::new(alloc);
+fn lists_all(rt: &(impl Abort + AllocGlobal)) -> bool {
+    let words = words_of(rt, "help");
+    let mut texts = Vec::new(rt.alloc());
     for subcommand in &SUBCOMMANDS {
-        texts.push(subcommand.name())?;
-        texts.push(subcommand.about())?;
+        texts.push(subcommand.name()).expect(rt, "memory");
+        texts.push(subcommand.about()).expect(rt, "memory");
     }
-    tells(alloc, &words, &texts)
+    tells(rt, &words, &texts)
 }
 
 #[test]
-fn lines_ask(rt: HostRuntime) -> Result<(), Fail> {
+fn lines_ask(rt: HostRuntime) {
     for case in CASES {
-        assert!(rt; is_right(rt.alloc(), case)?);
+        assert!(rt; is_right(&rt, case));
     }
-    Ok(())
 }
 
 #[test]
-fn help_teaches(rt: HostRuntime) -> Result<(), Fail> {
+fn help_teaches(rt: HostRuntime) {
     for subcommand in &SUBCOMMANDS {
-        assert!(rt; teaches(rt.alloc(), *subcommand)?);
+        assert!(rt; teaches(&rt, *subcommand));
     }
-    assert!(rt; lists_all(rt.alloc())?);
-    Ok(())
+    assert!(rt; lists_all(&rt));
 }
 
 /// The words before a token.
 const BEFORE: &str = "export --db d --policy p --fabric A --token";
 
 /// The words of an export whose token has 128 characters, and these behind them.
-fn export_by(alloc: Global, more: &str) -> Result<Vec<String>, AllocError> {
-    let mut token = "0123456789abcdef".repeat(alloc, 8)?;
-    token.push_str(more)?;
-    let mut words = words_of(alloc, BEFORE)?;
-    words.push(token)?;
-    Ok(words)
+fn export_by(rt: &(impl Abort + AllocGlobal), more: &str) -> Vec<String> {
+    let mut token = "0123456789abcdef"
+        .repeat(rt.alloc(), 8)
+        .expect(rt, "memory");
+    token.push_str(more).expect(rt, "memory");
+    let mut words = words_of(rt, BEFORE);
+    words.push(token).expect(rt, "memory");
+    words
 }
 
 /// Whether a token of 128 characters is one.
-fn is_token(alloc: Global) -> Result<bool, AllocError> {
-    let words = export_by(alloc, "")?;
-    Ok(read_words(alloc, &words).is_ok())
+fn is_token(rt: &(impl Abort + AllocGlobal)) -> bool {
+    let words = export_by(rt, "");
+    read_words(rt.alloc(), &words).is_ok()
 }
 
 /// Whether one of 129 is none.
-fn is_no_token(alloc: Global) -> Result<bool, AllocError> {
-    let words = export_by(alloc, "0")?;
-    is_outcome(alloc, &words, Outcome::BadText)
+fn is_no_token(rt: &(impl Abort + AllocGlobal)) -> bool {
+    let words = export_by(rt, "0");
+    is_outcome(rt, &words, Outcome::BadText)
 }
 
 #[test]
-fn tokens_end(rt: HostRuntime) -> Result<(), Fail> {
-    assert!(rt; is_token(rt.alloc())?);
-    assert!(rt; is_no_token(rt.alloc())?);
-    Ok(())
+fn tokens_end(rt: HostRuntime) {
+    assert!(rt; is_token(&rt));
+    assert!(rt; is_no_token(&rt));
 }
