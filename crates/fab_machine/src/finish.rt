@@ -1,5 +1,5 @@
 //! What a command comes to that was tried.
-ghost use Rattle.std.specs.Prelude.{◌≡◌, ◌⊎◌, ℕ, None, IsSome};
+ghost use Rattle.std.specs.Prelude.{◌≡◌, ◌⊎◌, ℕ, None, IsSome, IfOk, MatchOption};
 ghost use Rattle.fab_policy.specs.declared.act.Verdict.TheVariants.{Allowed};
 ghost use Rattle.fab_policy_base.specs.Policies.{PolicyRows};
 ghost use Rattle.fab_reach.specs.Books.{IsDelta};
@@ -8,7 +8,7 @@ ghost use Rattle.fab_reach.specs.declared.book.Delta.{Delta};
 ghost use Rattle.fab_world.specs.Soundness.{IsSound};
 ghost use Rattle.fab_next.specs.Nexts.{next_world, Suits};
 ghost use Rattle.fab_desk_base.specs.Acts.{IsJudged};
-ghost use Rattle.fab_desk_base.specs.Answers.{IsCarriedOut, IsThere};
+ghost use Rattle.fab_desk_base.specs.Answers.{IsCarriedOut, IsDeniedWith, IsThere};
 ghost use Rattle.fab_desk_base.specs.Commands.{action_of, tried};
 ghost use Rattle.fab_desk_base.specs.Refusals.{IsFirstFault};
 ghost use Rattle.fab_desk_base.specs.declared.reply.Reply.TheVariants as reply;
@@ -27,7 +27,7 @@ use fab_next::{Next, staged_next};
 use fab_policy_base::Policy;
 use fab_reach::PathBook;
 use fab_world::World;
-use std::alloc::Allocator;
+use std::alloc::{AllocError, Allocator};
 use std::collections::BTreeSet;
 
 /// What a refused command comes to: the policy's denial, or the refusal.
@@ -158,6 +158,32 @@ fn allowed<A: Allocator + Copy, B: PathBook<A>>(
     }
 }
 
+/// The policy's denial of a command that has this effect, if it denies it.
+///
+/// # Errors
+/// `AllocError` where there is no memory.
+fn denied<A: Allocator + Copy, B: PathBook<A>>(
+    alloc: A,
+    world: &World<A>,
+    book: &B,
+    policy: &Policy,
+    sender: &Sender,
+    command: &Command<A>,
+    prepared: &Prepared<A, B::Ready>,
+) -> Result<Option<DeskFault>, AllocError>
+    requires prepared { IsPrepared (B.leads book.now) world.now sender.now.name command.now prepared.now }
+    requires there { (p : PolicyRows) (i : ℕ) → IsThere p world.now i command.now }
+    requires change { IsSome (action_of command.now) }
+    ensures { IfOk result (λ denied. MatchOption denied
+        (IsJudged policy.now world.now sender.now.id sender.now.name sender.now.moment command.now Allowed)
+        (IsDeniedWith policy.now world.now sender.now.id sender.now.name sender.now.moment command.now)) }
+{
+    let Ok(moved) = moved_by(alloc, world, book, &sender.name, command, prepared) else {
+        return Err(AllocError);
+    };
+    denial(alloc, policy, world, sender, command, &moved)
+}
+
 /// What a command comes to that has this effect: the policy's denial, what its dry run is answered,
 /// or its change.
 pub fn carry_out<A: Allocator + Copy, B: PathBook<A>>(
@@ -175,10 +201,7 @@ pub fn carry_out<A: Allocator + Copy, B: PathBook<A>>(
     requires change { IsSome (action_of command) }
     ensures { IsProposalFor (B.leads book.now) (IsEnd policy.now world.now sender.now.id sender.now.name sender.now.moment command) world.now result }
 {
-    let Ok(moved) = moved_by(alloc, world, book, &sender.name, &command, &prepared) else {
-        return Proposal::Answer(Reply::Refused(DeskFault::Memory));
-    };
-    match denial(alloc, policy, world, sender, &command, &moved) {
+    match denied(alloc, world, book, policy, sender, &command, &prepared) {
         Ok(None) => allowed(alloc, world, book, sender, command, prepared),
         Ok(Some(denied)) => Proposal::Answer(Reply::Refused(denied)),
         Err(_) => Proposal::Answer(Reply::Refused(DeskFault::Memory)),
