@@ -2,8 +2,8 @@
 """Times library calls by the program `fab_bench`, and prints a table of ratios.
 
 Each case runs at a quarter, half and whole of its size; the ratio is the time there over the time
-at half of that size. Run it by hand from the top, after `(cd crates/fab_bench && rt run -- activate
-1024 1)` has built the program.
+at half of that size. Run it by hand from the top, after `(cd crates/fab_bench && rt run -- each /tmp/new.db 2)` has
+built the program.
 """
 import pathlib
 import subprocess
@@ -32,7 +32,7 @@ CASES = [
 def timed(case, size, turns):
     least = None
     for _ in range(5):
-        run = subprocess.run([PROGRAM, case, str(size), str(turns)], capture_output=True, text=True)
+        run = subprocess.run([PROGRAM, "calls", case, str(size), str(turns)], capture_output=True, text=True)
         if run.returncode != 0 or run.stdout != f"{case} {size}: {turns}\n":
             sys.exit(f"{case} {size}: {run.stdout!r} {run.stderr!r}")
         nanos = int(run.stderr)
@@ -42,7 +42,7 @@ def timed(case, size, turns):
 
 def main():
     if not PROGRAM.exists():
-        sys.exit("build the program first: (cd crates/fab_bench && rt run -- activate 1024 1)")
+        sys.exit("build the program first: (cd crates/fab_bench && rt run -- each /tmp/new.db 2)")
     print(f"{'case':<12}{'size':>8}{'microseconds':>14}{'to half':>9}")
     for case, whole, turns, meaning in CASES:
         print(f"# {meaning}")

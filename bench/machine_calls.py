@@ -1,17 +1,17 @@
 #!/usr/bin/env python3
-"""Times commands of the machine, and parts of an activation, by the program `fab_machine_bench`.
+"""Times commands of the machine, and parts of an activation, by the program `fab_bench`.
 
 Prints a table in milliseconds: the least of some runs in worlds of 1,024, 8,192 and 65,536 paths. The
 dry run, the activation (of a plan of one step that changes one pair) and the read of a host's paths
 are commands; the other lines are parts of an activation, each timed apart on the same world. Run it
-by hand from the top, after `(cd crates/fab_machine_bench && rt run -- 1024 1)` has built the program.
+by hand from the top, after `(cd crates/fab_bench && rt run -- each /tmp/new.db 2)` has built the program.
 """
 import pathlib
 import subprocess
 import sys
 
 TOP = pathlib.Path(__file__).resolve().parent.parent
-PROGRAM = TOP / "crates" / "fab_machine_bench" / "out" / "fab_machine_bench"
+PROGRAM = TOP / "crates" / "fab_bench" / "out" / "fab_bench"
 SIZES = [(1024, 20), (8192, 10), (65536, 5)]
 RUNS = 3
 CASES = [
@@ -27,7 +27,7 @@ CASES = [
 
 
 def timed(paths, turns):
-    run = subprocess.run([PROGRAM, str(paths), str(turns)], capture_output=True, text=True)
+    run = subprocess.run([PROGRAM, "machine", str(paths), str(turns)], capture_output=True, text=True)
     lines = [line.split(": ") for line in run.stdout.splitlines()]
     if run.returncode != 0 or not lines or any(count != str(turns) for _, count in lines):
         sys.exit(f"{paths}: {run.stdout!r} {run.stderr!r}")
@@ -41,7 +41,7 @@ def least(paths, turns):
 
 def main():
     if not PROGRAM.exists():
-        sys.exit("build the program first: (cd crates/fab_machine_bench && rt run -- 1024 1)")
+        sys.exit("build the program first: (cd crates/fab_bench && rt run -- each /tmp/new.db 2)")
     tables = [least(paths, turns) for paths, turns in SIZES]
     print(f"{'milliseconds at':<42}" + "".join(f"{paths:>10}" for paths, _ in SIZES))
     for name, meaning in CASES:

@@ -1,5 +1,5 @@
 #!/usr/bin/env python3
-"""Times the desk over a file by the program `fab_store_bench`, beside a program in C that runs the same
+"""Times the desk over a file by the program `fab_bench`, beside a program in C that runs the same
 statements on the system's SQLite, and prints tables of milliseconds and ratios.
 
 A world of 256 hosts with 256 paths each is written into a file, and each program works on a copy of it:
@@ -9,7 +9,7 @@ the statements are those of `crates/fab_sql/src/texts.rt`. After each run both f
 rows. Between two commits C waits as long as the desk works between its own: a commit that comes after a
 pause is slower, for the processor's caches and the disk have been at other work.
 
-Run it by hand from the top, after `(cd crates/fab_store_bench && rt run -- all /tmp/new.db 2)` has built
+Run it by hand from the top, after `(cd crates/fab_bench && rt run -- each /tmp/new.db 2)` has built
 the program. The C program needs gcc and Debian's `libsqlite3-dev`. Files lie in the directory that is
 given, or in the system's for temporary files: a commit waits for its disk.
 """
@@ -22,7 +22,7 @@ import sys
 import tempfile
 
 TOP = pathlib.Path(__file__).resolve().parent.parent
-PROGRAM = TOP / "crates" / "fab_store_bench" / "out" / "fab_store_bench"
+PROGRAM = TOP / "crates" / "fab_bench" / "out" / "fab_bench"
 TEXTS = TOP / "crates" / "fab_sql" / "src" / "texts.rt"
 SOURCE = TOP / "bench" / "same_statements.c"
 TABLES = "meta ports holders volumes zoning active groups group_parts plans approvals undo paths".split()
@@ -222,7 +222,7 @@ def rows_in(file):
 
 def by_desk(room, file, word, turns, count):
     """Milliseconds of the parts that the desk's program tells."""
-    run = ran([PROGRAM, word, file, turns], room)
+    run = ran([PROGRAM, "store", word, file, turns], room)
     if run.stdout != f"{word}: {count}\n":
         sys.exit(f"{word}: {run.stdout!r} {run.stderr!r}")
     return {name: float(time) for name, time in map(str.split, run.stderr.splitlines())}
@@ -311,7 +311,7 @@ def built(room):
 
 def main():
     if not PROGRAM.exists():
-        sys.exit("build the program first: (cd crates/fab_store_bench && rt run -- all /tmp/new.db 2)")
+        sys.exit("build the program first: (cd crates/fab_bench && rt run -- each /tmp/new.db 2)")
     with tempfile.TemporaryDirectory(dir=sys.argv[1] if len(sys.argv) > 1 else None) as name:
         room = pathlib.Path(name)
         program = built(room)

@@ -1,66 +1,50 @@
-//! Times library calls of the desk: `fab_bench CASE SIZE TURNS`.
+//! Times what the desk is made of:
 //!
-//! The case and what it came to go to standard output; the nanoseconds that a turn took, to
-//! standard error. The scripts in `bench/` make tables of them. It decides nothing in the gate.
+//! - `fab_bench calls CASE SIZE TURNS`: library calls;
+//! - `fab_bench machine PATHS TURNS`: commands of the machine, and parts of an activation;
+//! - `fab_bench store WORD FILE TURNS`: the desk over a file;
+//! - `fab_bench each FILE TURNS`: something small of each, as the gate does to see that all of it runs.
+//!
+//! The scripts in `bench/` make tables of what it tells. It decides nothing in the gate.
 #![tactic(auto)]
 
-mod clashes;
-mod holders;
-mod names;
-mod openings;
-mod paths;
-mod plans;
-mod policies;
-mod sites;
-mod timing;
-mod trials;
-mod zonings;
-
 use anyhow::{Context, Result, bail};
+use fab_bench_calls::time_case;
+use fab_bench_machine::time_machine;
+use fab_bench_store::time_store;
 use std::env;
-use std::rt::Clock;
-use timing::{Timed, Turn, run_turns};
 
-/// Takes so many turns of a case, where it could be made.
-fn timed<R: Clock, T: Turn + Drop>(rt: &R, turns: u64, made: Result<T>) -> Result<Timed> {
-    let mut case = made?;
-    run_turns(rt, turns, &mut case)
+/// What a word says as a number.
+fn number(word: &str) -> Result<u64> {
+    let number = word.parse::<u64>().context("a number")?;
+    Ok(number)
 }
 
-/// Runs a case on the large: makes what it is timed on, and then takes the turns.
-fn run<R: Clock + AllocGlobal>(rt: &R, case: &str, size: u64, turns: u64) -> Result<Timed> {
-    let alloc = rt.alloc();
-    match case {
-        "activate" => timed(rt, turns, zonings::ready_zoning(alloc, size)),
-        "joined" => timed(rt, turns, zonings::two_hubs(alloc, size)),
-        "plan" => timed(rt, turns, plans::plan_text(alloc, size)),
-        "decide" => timed(rt, turns, policies::policy_and_act(alloc, size)),
-        "policy" => timed(rt, turns, policies::policy_text(alloc, size)),
-        "clash" => timed(rt, turns, clashes::small_groups(alloc, size)),
-        "clash-wide" => timed(rt, turns, clashes::wide_groups(alloc, size)),
-        "clash-many" => timed(rt, turns, clashes::many_groups(alloc, size)),
-        "paths" => timed(rt, turns, paths::world_of_paths(alloc, size)),
-        "world-of" => timed(rt, turns, openings::rows_of_world(alloc, size)),
-        "trial" => timed(rt, turns, trials::plan_on_groups(alloc, size)),
-        "trial-paths" => timed(rt, turns, trials::plan_on_paths(alloc, size)),
-        "host" => timed(rt, turns, holders::host_put(alloc, size)),
-        "volume" => timed(rt, turns, holders::volume_put(alloc, size)),
-        _ => bail!("no such case"),
+/// Times something small of each, over a new file.
+fn time_each(rt: &HostRuntime, file: &str, turns: u64) -> Result<()> {
+    time_case(rt, "activate", 1024, turns)?;
+    time_machine(rt, 1024, turns)?;
+    time_store(rt, "all", file, turns)
+}
+
+/// Does what the words ask for.
+fn run(rt: &HostRuntime, words: &[&str]) -> Result<()> {
+    match words {
+        ["calls", case, size, turns] => time_case(rt, case, number(size)?, number(turns)?),
+        ["machine", paths, turns] => time_machine(rt, number(paths)?, number(turns)?),
+        ["store", word, file, turns] => time_store(rt, word, file, number(turns)?),
+        ["each", file, turns] => time_each(rt, file, number(turns)?),
+        _ => bail!(
+            "calls CASE SIZE TURNS, machine PATHS TURNS, store WORD FILE TURNS or each FILE TURNS"
+        ),
     }
 }
 
 fn main(rt: HostRuntime) -> Result<()> {
     let words: Vec<String> = env::args(&rt)?.collect(rt.alloc())?;
-    let [_, case, size, turns] = words.as_slice() else {
-        bail!("fab_bench CASE SIZE TURNS");
-    };
-    let (case, size, turns) = (case.as_str(), size.as_str(), turns.as_str());
-    let size = size.parse::<u64>().context("the size")?;
-    let turns = turns.parse::<u64>().context("the turns")?;
-    let timed = run(&rt, case, size, turns)?;
-    let came_to = timed.came_to;
-    println!(rt; "{case} {size}: {came_to}")?;
-    let each = timed.nanos / u128::from(turns.max(1));
-    eprintln!(rt; "{each}")?;
-    Ok(())
+    let mut texts = Vec::new(rt.alloc());
+    for word in words.iter().skip(1) {
+        texts.push(word.as_str())?;
+    }
+    run(&rt, texts.as_slice())
 }
