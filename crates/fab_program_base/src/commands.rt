@@ -1,7 +1,7 @@
 //! The commands of one caller at a database: `import`, `paths`, `report`, `export` and `dryrun`.
 
 use crate::contents::{bytes_of, policy_of};
-use crate::database::tables_in;
+use crate::database::Databases;
 use crate::faults::Fault;
 use crate::tasks::{Call, Task, do_over};
 use fab_desk_base::Query;
@@ -14,23 +14,32 @@ use std::io::Write;
 ///
 /// # Errors
 /// As for the database, the moment and the stream, in this order.
-fn do_in<W: Write + Drop>(
+fn do_in<D: Databases, W: Write + Drop>(
     rt: &HostRuntime,
+    databases: &D,
     db: &str,
     policy: Policy,
     call: &Call<'_>,
     task: &Task<'_>,
     writer: W,
 ) -> Result<End, Fault> {
-    do_over(rt.alloc(), tables_in(rt, db), policy, call, task, writer)
+    do_over(
+        rt.alloc(),
+        databases.tables_in(rt, db),
+        policy,
+        call,
+        task,
+        writer,
+    )
 }
 
 /// Does a task at a database at a moment, and prints the reply.
 ///
 /// # Errors
 /// As for the policy, the database, the moment and the stream, in this order.
-fn do_by<W: Write + Drop>(
+fn do_by<D: Databases, W: Write + Drop>(
     rt: &HostRuntime,
+    databases: &D,
     access: &Access<'_>,
     moment: Result<u64, Fault>,
     task: &Task<'_>,
@@ -41,7 +50,7 @@ fn do_by<W: Write + Drop>(
         moment,
     };
     match policy_of(rt, access.policy) {
-        Ok(policy) => do_in(rt, access.db, policy, &call, task, writer),
+        Ok(policy) => do_in(rt, databases, access.db, policy, &call, task, writer),
         Err(fault) => Err(fault),
     }
 }
@@ -50,21 +59,23 @@ fn do_by<W: Write + Drop>(
 ///
 /// # Errors
 /// As for the policy, the file, the database, the moment and the stream, in this order.
-pub fn import<W: Write + Drop>(
+pub fn import<D: Databases, W: Write + Drop>(
     rt: &HostRuntime,
+    databases: &D,
     asked: &Import<'_>,
     moment: Result<u64, Fault>,
     writer: W,
 ) -> Result<End, Fault> {
     match policy_of(rt, asked.access.policy) {
-        Ok(policy) => import_under(rt, asked, policy, moment, writer),
+        Ok(policy) => import_under(rt, databases, asked, policy, moment, writer),
         Err(fault) => Err(fault),
     }
 }
 
 /// Imports a port list under a policy.
-fn import_under<W: Write + Drop>(
+fn import_under<D: Databases, W: Write + Drop>(
     rt: &HostRuntime,
+    databases: &D,
     asked: &Import<'_>,
     policy: Policy,
     moment: Result<u64, Fault>,
@@ -80,7 +91,7 @@ fn import_under<W: Write + Drop>(
                 fabric: asked.fabric,
                 bytes: bytes.as_slice(),
             };
-            do_in(rt, asked.access.db, policy, &call, &task, writer)
+            do_in(rt, databases, asked.access.db, policy, &call, &task, writer)
         }
         Err(fault) => Err(fault),
     }
@@ -90,64 +101,76 @@ fn import_under<W: Write + Drop>(
 ///
 /// # Errors
 /// As for the policy, the database, the moment and the stream, in this order.
-pub fn dry_run<W: Write + Drop>(
+pub fn dry_run<D: Databases, W: Write + Drop>(
     rt: &HostRuntime,
+    databases: &D,
     asked: &DryRun<'_>,
     moment: Result<u64, Fault>,
     writer: W,
 ) -> Result<End, Fault> {
     let task = Task::DryRun { plan: asked.plan };
-    do_by(rt, &asked.access, moment, &task, writer)
+    do_by(rt, databases, &asked.access, moment, &task, writer)
 }
 
 /// Prints what a read shows, in a form.
-fn show<W: Write + Drop>(
+fn show<D: Databases, W: Write + Drop>(
     rt: &HostRuntime,
+    databases: &D,
     access: &Access<'_>,
     query: Query,
     form: Form,
     writer: W,
 ) -> Result<End, Fault> {
-    do_by(rt, access, Ok(0), &Task::Show { query, form }, writer)
+    do_by(
+        rt,
+        databases,
+        access,
+        Ok(0),
+        &Task::Show { query, form },
+        writer,
+    )
 }
 
 /// Prints the paths of a host as CSV.
 ///
 /// # Errors
 /// As for the policy, the database and the stream, in this order.
-pub fn paths<W: Write + Drop>(
+pub fn paths<D: Databases, W: Write + Drop>(
     rt: &HostRuntime,
+    databases: &D,
     asked: &Paths<'_>,
     writer: W,
 ) -> Result<End, Fault> {
     let query = Query::Paths { host: asked.host };
-    show(rt, &asked.access, query, Form::Paths, writer)
+    show(rt, databases, &asked.access, query, Form::Paths, writer)
 }
 
 /// Prints the report on the volumes of a host.
 ///
 /// # Errors
 /// As for the policy, the database and the stream, in this order.
-pub fn report<W: Write + Drop>(
+pub fn report<D: Databases, W: Write + Drop>(
     rt: &HostRuntime,
+    databases: &D,
     asked: &Paths<'_>,
     writer: W,
 ) -> Result<End, Fault> {
     let query = Query::Paths { host: asked.host };
-    show(rt, &asked.access, query, Form::Report, writer)
+    show(rt, databases, &asked.access, query, Form::Report, writer)
 }
 
 /// Prints the active set of a fabric.
 ///
 /// # Errors
 /// As for the policy, the database and the stream, in this order.
-pub fn export<W: Write + Drop>(
+pub fn export<D: Databases, W: Write + Drop>(
     rt: &HostRuntime,
+    databases: &D,
     asked: &Export<'_>,
     writer: W,
 ) -> Result<End, Fault> {
     let query = Query::Active {
         fabric: asked.fabric,
     };
-    show(rt, &asked.access, query, Form::Active, writer)
+    show(rt, databases, &asked.access, query, Form::Active, writer)
 }

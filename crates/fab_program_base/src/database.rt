@@ -19,25 +19,45 @@ pub type MemoryTables = SqlStore<MemStore>;
 /// The desk of the program over a store.
 pub type ProgramDesk<S> = Desk<Global, S, PortBook<Global>>;
 
-/// The tables in a file, which has to be there.
-///
-/// # Errors
-/// `File` where it is not there, or cannot be opened; `Store` where it is no database, or another
-/// process has it open; `Memory`.
-pub fn tables_in(rt: &HostRuntime, path: &str) -> Result<FileTables, Fault> {
-    match File::open(rt, path) {
-        Ok(file) => drop(file),
-        Err(_) => return Err(Fault::File),
-    }
-    connected(rt, path)
+/// Where the tables of desks are found by a path.
+pub trait Databases {
+    /// The tables of a desk.
+    type Tables: Store<Global>;
+
+    /// The tables at a path, which have to be there.
+    ///
+    /// # Errors
+    /// `File` where nothing is there, or it cannot be opened; `Store` where it is no database, or
+    /// another process has it open; `Memory`.
+    fn tables_in(&self, rt: &HostRuntime, path: &str) -> Result<Self::Tables, Fault>;
 }
 
-/// The tables in a file, for a desk that is opened again.
+/// The files of this machine.
+#[derive(Clone, Copy, Debug)]
+pub struct Files;
+
+impl Databases for Files {
+    type Tables = FileTables;
+
+    fn tables_in(&self, rt: &HostRuntime, path: &str) -> Result<FileTables, Fault> {
+        match File::open(rt, path) {
+            Ok(file) => drop(file),
+            Err(_) => return Err(Fault::File),
+        }
+        connected(rt, path)
+    }
+}
+
+/// The tables at a path, for a desk that is opened again.
 ///
 /// # Errors
 /// `Memory` where there was none, and else `Store`.
-pub fn tables_again(rt: &HostRuntime, path: &str) -> Result<FileTables, OpenFault> {
-    match tables_in(rt, path) {
+pub fn tables_again<D: Databases>(
+    rt: &HostRuntime,
+    databases: &D,
+    path: &str,
+) -> Result<D::Tables, OpenFault> {
+    match databases.tables_in(rt, path) {
         Ok(tables) => Ok(tables),
         Err(Fault::Memory) => Err(OpenFault::Memory),
         Err(_) => Err(OpenFault::Store),
@@ -47,7 +67,7 @@ pub fn tables_again(rt: &HostRuntime, path: &str) -> Result<FileTables, OpenFaul
 /// A store over a file.
 ///
 /// # Errors
-/// As for `tables_in`.
+/// As for `Databases::tables_in`.
 fn connected(rt: &HostRuntime, path: &str) -> Result<FileTables, Fault> {
     match Connection::open(rt, path) {
         Ok(conn) => Ok(SqlStore::new(conn, rt.alloc())),

@@ -3,7 +3,7 @@ ghost use Rattle.std.specs.Prelude.{◌≡◌};
 ghost use Rattle.fab_program_base.specs.Exits.{ended};
 
 use crate::contents::{policy_in, policy_of};
-use crate::database::{ProgramDesk, desk_over, new_tables, tables_in};
+use crate::database::{Databases, ProgramDesk, desk_over, new_tables};
 use crate::faults::Fault;
 use fab_json::counted::Counted;
 use fab_policy_base::{Policy, TRIAL_POLICY};
@@ -19,8 +19,9 @@ use std::io::{Read, Write};
 ///
 /// # Errors
 /// As for the policy, the database, the moment and the streams, in this order.
-pub fn once<R: Read + Drop, W: Write + Drop>(
+pub fn once<D: Databases, R: Read + Drop, W: Write + Drop>(
     rt: &HostRuntime,
+    databases: &D,
     asked: &Once<'_>,
     moment: Result<u64, Fault>,
     reader: R,
@@ -37,7 +38,7 @@ pub fn once<R: Read + Drop, W: Write + Drop>(
         }
         Over::Database { policy, db } => {
             let policy = policy_of(rt, policy);
-            once_in_file(rt, db, policy, moment, reader, writer)
+            once_in_file(rt, databases, db, policy, moment, reader, writer)
         }
     }
 }
@@ -57,8 +58,9 @@ fn once_in_memory<R: Read + Drop, W: Write + Drop>(
 }
 
 /// Answers one request over the desk of a database's file, if there is a policy.
-fn once_in_file<R: Read + Drop, W: Write + Drop>(
+fn once_in_file<D: Databases, R: Read + Drop, W: Write + Drop>(
     rt: &HostRuntime,
+    databases: &D,
     db: &str,
     policy: Result<Policy, Fault>,
     moment: Result<u64, Fault>,
@@ -68,7 +70,7 @@ fn once_in_file<R: Read + Drop, W: Write + Drop>(
     match policy {
         Ok(policy) => once_over(
             rt.alloc(),
-            tables_in(rt, db),
+            databases.tables_in(rt, db),
             policy,
             moment,
             reader,

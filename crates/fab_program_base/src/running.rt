@@ -6,7 +6,7 @@ ghost use Rattle.fab_program_base.specs.Exits.{IsExitStatus, args_status, status
 
 use crate::args::ArgsFault;
 use crate::commands::{dry_run, export, import, paths, report};
-use crate::database::make;
+use crate::database::{Databases, Files, make};
 use crate::faults::Fault;
 use crate::once::once;
 use crate::serving::serve;
@@ -48,15 +48,19 @@ pub fn run<N: FnMut() -> Option<u64>, R: Read + Drop, W: Write + Drop, E: Write>
     match read_words(rt.alloc(), words) {
         Ok(asked) => {
             let mut now = now;
-            exit_of(errors, carry_out(rt, &asked, &mut now, reader, writer))
+            exit_of(
+                errors,
+                carry_out(rt, &Files, &asked, &mut now, reader, writer),
+            )
         }
         Err(fault) => refuse_words(errors, fault),
     }
 }
 
 /// Does what the words ask for.
-fn carry_out<N: FnMut() -> Option<u64>, R: Read + Drop, W: Write + Drop>(
+fn carry_out<D: Databases, N: FnMut() -> Option<u64>, R: Read + Drop, W: Write + Drop>(
     rt: &HostRuntime,
+    databases: &D,
     asked: &Words<'_>,
     now: &mut N,
     reader: R,
@@ -69,13 +73,20 @@ fn carry_out<N: FnMut() -> Option<u64>, R: Read + Drop, W: Write + Drop>(
             Ok(()) => Ok(End::Done),
             Err(fault) => Err(fault),
         },
-        Words::Serve(asked) => serve(rt, asked, now, writer),
-        Words::Once(asked) => once(rt, asked, moment_of(asked.now, now), reader, writer),
-        Words::Import(asked) => import(rt, asked, moment_of(asked.now, now), writer),
-        Words::Paths(asked) => paths(rt, asked, writer),
-        Words::Report(asked) => report(rt, asked, writer),
-        Words::Export(asked) => export(rt, asked, writer),
-        Words::DryRun(asked) => dry_run(rt, asked, moment_of(asked.now, now), writer),
+        Words::Serve(asked) => serve(rt, databases, asked, now, writer),
+        Words::Once(asked) => once(
+            rt,
+            databases,
+            asked,
+            moment_of(asked.now, now),
+            reader,
+            writer,
+        ),
+        Words::Import(asked) => import(rt, databases, asked, moment_of(asked.now, now), writer),
+        Words::Paths(asked) => paths(rt, databases, asked, writer),
+        Words::Report(asked) => report(rt, databases, asked, writer),
+        Words::Export(asked) => export(rt, databases, asked, writer),
+        Words::DryRun(asked) => dry_run(rt, databases, asked, moment_of(asked.now, now), writer),
     }
 }
 

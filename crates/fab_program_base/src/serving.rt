@@ -1,7 +1,7 @@
 //! Connections served over a database.
 
 use crate::contents::policy_of;
-use crate::database::{ProgramDesk, desk_over, tables_again, tables_in};
+use crate::database::{Databases, ProgramDesk, desk_over, tables_again};
 use crate::faults::Fault;
 use crate::front::Front;
 use fab_policy_base::Policy;
@@ -19,8 +19,9 @@ use std::net::TcpListener;
 ///
 /// # Errors
 /// As for the policy, the database, the listener and the clock, in this order.
-pub fn serve<N: FnMut() -> Option<u64>, W: Write + Drop>(
+pub fn serve<D: Databases, N: FnMut() -> Option<u64>, W: Write + Drop>(
     rt: &HostRuntime,
+    databases: &D,
     asked: &Serve<'_>,
     now: &mut N,
     log: W,
@@ -30,8 +31,9 @@ pub fn serve<N: FnMut() -> Option<u64>, W: Write + Drop>(
     let db = asked.db;
     match policy_of(rt, asked.policy) {
         Ok(policy) => {
-            let mut again = || tables_again(rt, db);
-            serve_over(rt, asked, tables_in(rt, db), policy, now, log, &mut again)
+            let mut again = || tables_again(rt, databases, db);
+            let store = databases.tables_in(rt, db);
+            serve_over(rt, asked, store, policy, now, log, &mut again)
         }
         Err(fault) => Err(fault),
     }
