@@ -5,12 +5,12 @@ use crate::stock::{
     DB2, DISK, FIRST_INITIATOR, FIRST_TARGET, G1, G2, G3, HOSTS1, HOSTS2, S1, S2, SECOND_TARGET,
     V1, V2, Z1, Z2, list, list_one, stock,
 };
-use crate::ways::{Ways, are};
+use crate::ways::{Ways, assert_ways};
 use fab_inventory::Inventory;
 use fab_names::Fabric;
 use fab_reach::{Config, few_paths, plain_paths};
 use std::alloc::Global;
-use std::test::Fail;
+use std::process::Abort;
 
 /// A line of a table: a step, and the paths that there are then.
 type Line = (Act, Ways);
@@ -101,115 +101,83 @@ const APART: &[Line] = &[
     (Act::Expose(G2), Ways::One),
 ];
 
-/// Whether the paths are these, by both calls.
-fn has_paths(
-    alloc: Global,
+/// The paths are these, by the call without a limit.
+fn assert_paths(
+    rt: &(impl Abort + AllocGlobal),
     inventory: &Inventory<Global>,
     config: &Config<Global>,
     ways: Ways,
-) -> Result<bool, Fail> {
-    let paths = plain_paths(alloc, inventory, config)?;
-    are(&paths, ways)
+) {
+    let paths = plain_paths(rt.alloc(), inventory, config).expect(rt, "paths");
+    assert_ways(rt, &paths, ways);
 }
 
 /// The same by the call with a limit.
-fn has_few_paths(
-    alloc: Global,
+fn assert_few_paths(
+    rt: &(impl Abort + AllocGlobal),
     inventory: &Inventory<Global>,
     config: &Config<Global>,
     ways: Ways,
-) -> Result<bool, Fail> {
-    let paths = few_paths(alloc, inventory, config)?;
-    are(&paths, ways)
+) {
+    let paths = few_paths(rt.alloc(), inventory, config).expect(rt, "paths");
+    assert_ways(rt, &paths, ways);
 }
 
-/// Whether a world has the paths of a line, after its step.
-fn is_right(
-    alloc: Global,
-    inventory: &Inventory<Global>,
-    config: &mut Config<Global>,
-    line: Line,
-) -> Result<bool, Fail> {
-    change(config, inventory, line.0)?;
-    if !has_paths(alloc, inventory, config, line.1)? {
-        return Ok(false);
-    }
-    has_few_paths(alloc, inventory, config, line.1)
-}
-
-/// Whether the lines of a table are right beside an inventory, from an empty configuration on.
-fn are_right_beside(
-    alloc: Global,
-    inventory: &Inventory<Global>,
-    lines: &[Line],
-) -> Result<bool, Fail> {
-    let mut config = empty(alloc);
+/// A world has the paths of each line of a table after its step, by both calls, from an empty
+/// configuration on.
+fn assert_lines(rt: &(impl Abort + AllocGlobal), lines: &[Line]) {
+    let inventory = stock(rt);
+    let mut config = empty(rt.alloc());
     for line in lines {
-        if !is_right(alloc, inventory, &mut config, *line)? {
-            return Ok(false);
-        }
+        change(&mut config, rt, &inventory, line.0);
+        assert_paths(rt, &inventory, &config, line.1);
+        assert_few_paths(rt, &inventory, &config, line.1);
     }
-    Ok(true)
-}
-
-/// Whether the lines of a table are right.
-fn are_right(alloc: Global, lines: &[Line]) -> Result<bool, Fail> {
-    let inventory = stock(alloc)?;
-    are_right_beside(alloc, &inventory, lines)
 }
 
 #[test]
-fn alias_and_active_set(rt: HostRuntime) -> Result<(), Fail> {
-    assert!(rt; are_right(rt.alloc(), ALIAS)?);
-    Ok(())
+fn alias_and_active_set(rt: HostRuntime) {
+    assert_lines(&rt, ALIAS);
 }
 
 #[test]
-fn second_zone(rt: HostRuntime) -> Result<(), Fail> {
-    assert!(rt; are_right(rt.alloc(), SECOND_ZONE)?);
-    Ok(())
+fn second_zone(rt: HostRuntime) {
+    assert_lines(&rt, SECOND_ZONE);
 }
 
 #[test]
-fn default_zone(rt: HostRuntime) -> Result<(), Fail> {
-    assert!(rt; are_right(rt.alloc(), DEFAULT_ZONE)?);
-    Ok(())
+fn default_zone(rt: HostRuntime) {
+    assert_lines(&rt, DEFAULT_ZONE);
 }
 
 #[test]
-fn second_host(rt: HostRuntime) -> Result<(), Fail> {
-    assert!(rt; are_right(rt.alloc(), SECOND_HOST)?);
-    Ok(())
+fn second_host(rt: HostRuntime) {
+    assert_lines(&rt, SECOND_HOST);
 }
 
 #[test]
-fn second_group(rt: HostRuntime) -> Result<(), Fail> {
-    assert!(rt; are_right(rt.alloc(), SECOND_GROUP)?);
-    Ok(())
+fn second_group(rt: HostRuntime) {
+    assert_lines(&rt, SECOND_GROUP);
 }
 
 #[test]
-fn hidden_group(rt: HostRuntime) -> Result<(), Fail> {
-    assert!(rt; are_right(rt.alloc(), HIDDEN)?);
-    Ok(())
+fn hidden_group(rt: HostRuntime) {
+    assert_lines(&rt, HIDDEN);
 }
 
 #[test]
-fn one_path_of_two_groups(rt: HostRuntime) -> Result<(), Fail> {
-    assert!(rt; are_right(rt.alloc(), TWO_GROUPS)?);
-    Ok(())
+fn one_path_of_two_groups(rt: HostRuntime) {
+    assert_lines(&rt, TWO_GROUPS);
 }
 
 #[test]
-fn order_of_paths(rt: HostRuntime) -> Result<(), Fail> {
-    assert!(rt; are_right(rt.alloc(), ORDER)?);
-    Ok(())
+fn order_of_paths(rt: HostRuntime) {
+    assert_lines(&rt, ORDER);
 }
 
 #[test]
-fn group_of_another_host(rt: HostRuntime) -> Result<(), Fail> {
-    assert!(rt; are_right(rt.alloc(), APART)?);
-    Ok(())
+fn group_of_another_host(rt: HostRuntime) {
+    assert_lines(&rt, APART);
 }
 
 /// What fabrics list.
@@ -234,62 +202,34 @@ const MOVES: &[(Move, Ways)] = &[
     (Move::Alone(Fabric::B, SECOND_TARGET), Ways::One),
 ];
 
-/// Whether a world has these paths after a move.
-fn is_moved(
-    alloc: Global,
-    inventory: &mut Inventory<Global>,
-    config: &Config<Global>,
-    case: (Move, Ways),
-) -> Result<bool, Fail> {
-    match case.0 {
+/// Makes a move.
+fn make_move(inventory: &mut Inventory<Global>, rt: &(impl Abort + AllocGlobal), turn: Move) {
+    match turn {
         Move::Stays => {}
-        Move::Alone(fabric, port) => list_one(inventory, fabric, port)?,
-        Move::Listed(count) => list(inventory, alloc, count)?,
+        Move::Alone(fabric, port) => list_one(inventory, rt, fabric, port),
+        Move::Listed(count) => list(inventory, rt, count),
     }
-    has_paths(alloc, inventory, config, case.1)
 }
 
 /// The first world, where the other fabric permits.
-fn permitting(alloc: Global, inventory: &Inventory<Global>) -> Result<Config<Global>, Fail> {
-    let mut config = empty(alloc);
-    change(&mut config, inventory, Act::First)?;
-    change(&mut config, inventory, Act::OtherPermit)?;
-    Ok(config)
+fn permitting(rt: &(impl Abort + AllocGlobal), inventory: &Inventory<Global>) -> Config<Global> {
+    let mut config = empty(rt.alloc());
+    change(&mut config, rt, inventory, Act::First);
+    change(&mut config, rt, inventory, Act::OtherPermit);
+    config
 }
 
-/// Whether the moves of a table are right beside a configuration.
-fn are_moved_beside(
-    alloc: Global,
-    inventory: &mut Inventory<Global>,
-    config: &Config<Global>,
-    moves: &[(Move, Ways)],
-) -> Result<bool, Fail> {
-    for case in moves {
-        if !is_moved(alloc, inventory, config, *case)? {
-            return Ok(false);
-        }
+/// A world has these paths after each move of a table, from all ports on.
+fn assert_moves(rt: &(impl Abort + AllocGlobal), moves: &[(Move, Ways)]) {
+    let mut inventory = stock(rt);
+    let config = permitting(rt, &inventory);
+    for (turn, ways) in moves {
+        make_move(&mut inventory, rt, *turn);
+        assert_paths(rt, &inventory, &config, *ways);
     }
-    Ok(true)
-}
-
-/// Whether the moves of a table are right in an inventory.
-fn are_moved_in(
-    alloc: Global,
-    inventory: &mut Inventory<Global>,
-    moves: &[(Move, Ways)],
-) -> Result<bool, Fail> {
-    let config = permitting(alloc, inventory)?;
-    are_moved_beside(alloc, inventory, &config, moves)
-}
-
-/// Whether the moves of a table are right, from all ports on.
-fn are_moved(alloc: Global, moves: &[(Move, Ways)]) -> Result<bool, Fail> {
-    let mut inventory = stock(alloc)?;
-    are_moved_in(alloc, &mut inventory, moves)
 }
 
 #[test]
-fn ports_that_move(rt: HostRuntime) -> Result<(), Fail> {
-    assert!(rt; are_moved(rt.alloc(), MOVES)?);
-    Ok(())
+fn ports_that_move(rt: HostRuntime) {
+    assert_moves(&rt, MOVES);
 }

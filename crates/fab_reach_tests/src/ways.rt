@@ -7,7 +7,7 @@ use crate::stock::{
 use fab_names::Fabric;
 use fab_reach::Path;
 use std::alloc::Global;
-use std::test::Fail;
+use std::process::Abort;
 
 /// A path in fabric A: initiator, target, volume, unit.
 type Way = (usize, usize, usize, u16);
@@ -57,23 +57,21 @@ fn way(ways: Ways, number: usize) -> Option<Way> {
 }
 
 /// The path.
-fn path(way: Way) -> Result<Path, Fail> {
-    Ok(Path {
+fn path(rt: &impl Abort, way: Way) -> Path {
+    Path {
         fabric: Fabric::A,
-        initiator: port(way.0)?,
-        target: port(way.1)?,
-        volume: name(way.2)?,
+        initiator: port(rt, way.0),
+        target: port(rt, way.1),
+        volume: name(rt, way.2),
         unit: way.3,
-    })
+    }
 }
 
-/// Whether the paths are these, in this order.
-pub fn are(paths: &Vec<Path, Global>, ways: Ways) -> Result<bool, Fail> {
+/// The paths are these, in this order.
+pub fn assert_ways(rt: &impl Abort, paths: &Vec<Path, Global>, ways: Ways) {
     for (number, found) in paths.iter().enumerate() {
-        match way(ways, number) {
-            Some(way) if path(way)? == *found => {}
-            _ => return Ok(false),
-        }
+        let way = way(ways, number).expect(rt, "no more paths");
+        assert!(rt; path(rt, way) == *found);
     }
-    Ok(way(ways, paths.len()).is_none())
+    assert!(rt; way(ways, paths.len()).is_none());
 }

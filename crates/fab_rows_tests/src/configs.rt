@@ -1,12 +1,11 @@
 //! Configurations from their rows, and back.
 
-use crate::lines::{Line, are, row};
+use crate::lines::{Line, assert_rows, row};
 use fab_load::{LoadFault, Table, config_of};
 use fab_names::Fabric::{A, B};
-use fab_reach::Config;
 use fab_rows::{ConfigRow, config_rows};
 use std::alloc::Global;
-use std::test::Fail;
+use std::process::Abort;
 
 /// The first initiator, and the first two targets.
 const I1: u64 = 0x1000_0000_0000_0001;
@@ -14,9 +13,6 @@ const I1: u64 = 0x1000_0000_0000_0001;
 const TP1: u64 = 0x5000_0000_0000_0001;
 
 const TP2: u64 = 0x5000_0000_0000_0002;
-
-/// How many rows a case has at most.
-const ROWS: usize = 24;
 
 /// The rows of a new configuration.
 const NEW: &[Line] = &[
@@ -65,93 +61,54 @@ const MIXED: &[Edit] = &[
     (8, Line::ZonePort("z1", I1)),
 ];
 
-/// Puts the rows of the lines at the beginning.
-fn put(rows: &mut [ConfigRow], lines: &[Line]) -> Result<(), Fail> {
-    for (place, line) in rows.iter_mut().zip(lines) {
-        *place = row(*line)?;
+/// The rows of the lines.
+fn rows_of(rt: &(impl Abort + AllocGlobal), lines: &[Line]) -> Vec<ConfigRow, Global> {
+    let mut rows = Vec::new(rt.alloc());
+    for line in lines {
+        rows.push(row(rt, *line)).expect(rt, "a row");
     }
-    Ok(())
+    rows
 }
 
-/// Room for rows, with those of the lines, which are some, at the beginning.
-fn rows_of(lines: &[Line]) -> Result<[ConfigRow; ROWS], Fail> {
-    let Some(first) = lines.first() else {
-        return Err(Fail::from("no line"));
-    };
-    let mut rows = [row(*first)?; ROWS];
-    put(&mut rows, lines)?;
-    Ok(rows)
+/// Puts a line in the place of another, or after the last.
+fn edit(rows: &mut Vec<ConfigRow, Global>, rt: &impl Abort, edit: Edit) {
+    let row = row(rt, edit.1);
+    if edit.0 == rows.len() {
+        rows.push(row).expect(rt, "a row");
+    } else {
+        *rows.get_mut(edit.0).expect(rt, "a row") = row;
+    }
 }
 
-fn edit_one(rows: &mut [ConfigRow], edit: Edit) -> Result<(), Fail> {
-    let Some(place) = rows.get_mut(edit.0) else {
-        return Err(Fail::from("no row"));
-    };
-    *place = row(edit.1)?;
-    Ok(())
-}
-
-/// Puts lines in the place of others.
-fn edit(rows: &mut [ConfigRow], edits: &[Edit]) -> Result<(), Fail> {
+/// The rows of the lines, with some edited.
+fn edited(
+    rt: &(impl Abort + AllocGlobal),
+    lines: &[Line],
+    edits: &[Edit],
+) -> Vec<ConfigRow, Global> {
+    let mut rows = rows_of(rt, lines);
     for one in edits {
-        edit_one(rows, *one)?;
+        edit(&mut rows, rt, *one);
     }
-    Ok(())
-}
-
-/// The same, with some edited.
-fn edited(lines: &[Line], edits: &[Edit]) -> Result<[ConfigRow; ROWS], Fail> {
-    let mut rows = rows_of(lines)?;
-    edit(&mut rows, edits)?;
-    Ok(rows)
-}
-
-/// How many rows there are after the edits.
-fn count(lines: &[Line], edits: &[Edit]) -> usize {
-    let mut count = lines.len();
-    for edit in edits {
-        count = count.max(edit.0.saturating_add(1));
-    }
-    count
-}
-
-/// The first so many rows.
-fn first(rows: &[ConfigRow; ROWS], count: usize) -> Result<&[ConfigRow], Fail> {
-    if count > ROWS {
-        return Err(Fail::from("more rows than there is room for"));
-    }
-    Ok(&rows[..count])
-}
-
-/// Whether the rows of a configuration are those of the lines.
-fn has_rows(alloc: Global, config: &Config<Global>, lines: &[Line]) -> Result<bool, Fail> {
-    let rows = config_rows(alloc, config)?;
-    are(rows.as_slice(), lines)
-}
-
-/// Whether a configuration comes of the rows that has those of the lines.
-fn comes_back(alloc: Global, rows: &[ConfigRow], lines: &[Line]) -> Result<bool, Fail> {
-    match config_of(alloc, rows) {
-        Ok(config) => has_rows(alloc, &config, lines),
-        Err(_) => Ok(false),
-    }
+    rows
 }
 
 /// Lines, edits of them, and the rows of the configuration that they are.
 const LISTS: &[(&[Line], &[Edit])] = &[(NEW, SORTED), (SMALL, SORTED), (SMALL, MIXED)];
 
-fn is_restored(alloc: Global, case: (&[Line], &[Edit])) -> Result<bool, Fail> {
-    let rows = edited(case.0, case.1)?;
-    let rows = first(&rows, count(case.0, case.1))?;
-    comes_back(alloc, rows, case.0)
+/// A configuration comes of the edited rows that has those of the lines.
+fn assert_restored(rt: &(impl Abort + AllocGlobal), lines: &[Line], edits: &[Edit]) {
+    let rows = edited(rt, lines, edits);
+    let config = config_of(rt.alloc(), rows.as_slice()).expect(rt, "a configuration");
+    let listed = config_rows(rt.alloc(), &config).expect(rt, "rows");
+    assert_rows(rt, listed.as_slice(), lines);
 }
 
 #[test]
-fn rows_come_back(rt: HostRuntime) -> Result<(), Fail> {
-    for &case in LISTS {
-        assert!(rt; is_restored(rt.alloc(), case)?);
+fn rows_come_back(rt: HostRuntime) {
+    for &(lines, edits) in LISTS {
+        assert_restored(&rt, lines, edits);
     }
-    Ok(())
 }
 
 /// Edits of the small configuration, and the table that is damaged then, if one is. With `FIRST` in
@@ -292,73 +249,30 @@ const TWO: &[Damage] = &[
     ),
 ];
 
-/// The table that is damaged, if one is.
-fn damaged(alloc: Global, rows: &[ConfigRow]) -> Result<Option<Table>, Fail> {
-    match config_of(alloc, rows) {
-        Ok(_) => Ok(None),
-        Err(LoadFault::Damaged(table)) => Ok(Some(table)),
-        Err(LoadFault::Memory) => Err(Fail::from("memory")),
+/// The table that is damaged in the edited rows of the small configuration, if one is.
+fn damaged(rt: &(impl Abort + AllocGlobal), edits: &[Edit]) -> Option<Table> {
+    let rows = edited(rt, SMALL, edits);
+    match config_of(rt.alloc(), rows.as_slice()) {
+        Ok(_) => None,
+        Err(LoadFault::Damaged(table)) => Some(table),
+        Err(LoadFault::Memory) => panic!(rt; "memory"),
     }
 }
 
-/// Whether the edited rows have the damage of the case, or none.
-fn is_told(alloc: Global, case: Damage) -> Result<bool, Fail> {
-    let rows = edited(SMALL, case.0)?;
-    let rows = first(&rows, count(SMALL, case.0))?;
-    Ok(damaged(alloc, rows)? == case.1)
-}
-
-/// How many cases of a table are told.
-fn told(alloc: Global, cases: &[Damage]) -> Result<usize, Fail> {
-    let mut told = 0usize;
+/// Each damage is told, or that there is none.
+fn assert_told(rt: &(impl Abort + AllocGlobal), cases: &[Damage]) {
     for case in cases {
-        if is_told(alloc, *case)? {
-            told = told.saturating_add(1);
-        }
+        assert!(rt; damaged(rt, case.0) == case.1);
     }
-    Ok(told)
-}
-
-/// Whether each damage is told.
-fn are_told(alloc: Global, cases: &[Damage]) -> Result<bool, Fail> {
-    Ok(told(alloc, cases)? == cases.len())
-}
-
-fn settings_are_told(alloc: Global) -> Result<bool, Fail> {
-    are_told(alloc, SETTINGS)
-}
-
-fn zoning_is_told(alloc: Global) -> Result<bool, Fail> {
-    are_told(alloc, ZONING)
-}
-
-fn active_rows_are_told(alloc: Global) -> Result<bool, Fail> {
-    are_told(alloc, ACTIVE)
-}
-
-fn groups_are_told(alloc: Global) -> Result<bool, Fail> {
-    are_told(alloc, GROUPS)
-}
-
-fn parts_are_told(alloc: Global) -> Result<bool, Fail> {
-    are_told(alloc, PARTS)
-}
-
-fn clashes_are_told(alloc: Global) -> Result<bool, Fail> {
-    are_told(alloc, CLASHES)
-}
-
-fn first_of_two_is_told(alloc: Global) -> Result<bool, Fail> {
-    are_told(alloc, TWO)
 }
 
 #[test]
-fn damage_is_named(rt: HostRuntime) -> Result<(), Fail> {
-    let alloc = rt.alloc();
-    assert!(rt;
-        settings_are_told(alloc)? && zoning_is_told(alloc)? && active_rows_are_told(alloc)?
-    );
-    assert!(rt; groups_are_told(alloc)? && parts_are_told(alloc)?);
-    assert!(rt; clashes_are_told(alloc)? && first_of_two_is_told(alloc)?);
-    Ok(())
+fn damage_is_named(rt: HostRuntime) {
+    assert_told(&rt, SETTINGS);
+    assert_told(&rt, ZONING);
+    assert_told(&rt, ACTIVE);
+    assert_told(&rt, GROUPS);
+    assert_told(&rt, PARTS);
+    assert_told(&rt, CLASHES);
+    assert_told(&rt, TWO);
 }

@@ -7,7 +7,7 @@ use fab_rows::{RowDifference, difference};
 use fab_world::{MOST_CHANGES, World, earlier};
 use fab_zoning::{DefaultFlag, Zoning};
 use std::alloc::Global;
-use std::test::Fail;
+use std::process::Abort;
 
 /// What is changed of a new world.
 #[derive(Clone, Copy)]
@@ -25,27 +25,25 @@ const CASES: &[(Edit, bool)] = &[
     (Edit::Listed("p1"), false),
 ];
 
-fn apply(world: &mut World<Global>, edit: Edit) -> Result<(), Fail> {
-    match edit {
+/// Whether a new world is sound after the change.
+fn is_sound(rt: &(impl Abort + AllocGlobal), change: Edit) -> bool {
+    let mut world = World::new(rt.alloc());
+    match change {
         Edit::Nothing => {}
         Edit::Revision(revision) => world.revision = revision,
-        Edit::Listed(text) => world.order.push(Name::read(text)?)?,
+        Edit::Listed(text) => {
+            let name = Name::read(text).expect(rt, "a name");
+            world.order.push(name).expect(rt, "a place");
+        }
     }
-    Ok(())
-}
-
-fn is_sound(alloc: Global, change: Edit) -> Result<bool, Fail> {
-    let mut world = World::new(alloc);
-    apply(&mut world, change)?;
-    Ok(world.is_sound(alloc)?)
+    world.is_sound(rt.alloc()).expect(rt, "memory")
 }
 
 #[test]
-fn soundness_is_told(rt: HostRuntime) -> Result<(), Fail> {
+fn soundness_is_told(rt: HostRuntime) {
     for &(change, sound) in CASES {
-        assert!(rt; is_sound(rt.alloc(), change)? == sound);
+        assert!(rt; is_sound(&rt, change) == sound);
     }
-    Ok(())
 }
 
 /// A configuration of nothing, whose default zone of fabric A has this flag.
@@ -59,46 +57,31 @@ fn config(alloc: Global, flag: DefaultFlag) -> Config<Global> {
     }
 }
 
-/// The flag of fabric A before the change, where there is a configuration before it.
-fn flag_before(
-    alloc: Global,
-    now: &Config<Global>,
-    change: &RowDifference<Global>,
-) -> Result<Option<DefaultFlag>, Fail> {
-    match earlier(alloc, now, change)? {
-        Some(before) => Ok(Some(before.zoning(Fabric::A).flag())),
-        None => Ok(None),
-    }
-}
-
-/// The flag before the change from one flag to another, looked for from a third.
-fn flag_from(
-    alloc: Global,
-    change: &RowDifference<Global>,
-    now: DefaultFlag,
-) -> Result<Option<DefaultFlag>, Fail> {
-    let now = config(alloc, now);
-    flag_before(alloc, &now, change)
-}
-
 /// What leads from one flag to another.
 fn change(
-    alloc: Global,
+    rt: &(impl Abort + AllocGlobal),
     from: DefaultFlag,
     to: DefaultFlag,
-) -> Result<RowDifference<Global>, Fail> {
-    let (before, after) = (config(alloc, from), config(alloc, to));
-    Ok(difference(alloc, &before, &after)?)
+) -> RowDifference<Global> {
+    let (before, after) = (config(rt.alloc(), from), config(rt.alloc(), to));
+    difference(rt.alloc(), &before, &after).expect(rt, "a difference")
 }
 
+/// The flag of fabric A before the change from one flag to another, looked for from a third, where
+/// there is a configuration before it.
 fn undone(
-    alloc: Global,
+    rt: &(impl Abort + AllocGlobal),
     from: DefaultFlag,
     to: DefaultFlag,
     now: DefaultFlag,
-) -> Result<Option<DefaultFlag>, Fail> {
-    let change = change(alloc, from, to)?;
-    flag_from(alloc, &change, now)
+) -> Option<DefaultFlag> {
+    let change = change(rt, from, to);
+    let now = config(rt.alloc(), now);
+    let found: Result<_, _> = earlier(rt.alloc(), &now, &change);
+    match found.expect(rt, "memory") {
+        Some(before) => Some(before.zoning(Fabric::A).flag()),
+        None => None,
+    }
 }
 
 /// A change from one flag to another, the flag now, and the flag from before the change.
@@ -130,9 +113,8 @@ const CHANGES: &[(DefaultFlag, DefaultFlag, DefaultFlag, Option<DefaultFlag>)] =
 ];
 
 #[test]
-fn change_leads_back(rt: HostRuntime) -> Result<(), Fail> {
+fn change_leads_back(rt: HostRuntime) {
     for &(from, to, now, before) in CHANGES {
-        assert!(rt; undone(rt.alloc(), from, to, now)? == before);
+        assert!(rt; undone(&rt, from, to, now) == before);
     }
-    Ok(())
 }

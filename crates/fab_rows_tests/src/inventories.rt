@@ -1,12 +1,13 @@
 //! Inventories from their rows.
 
+use crate::lines::name;
 use fab_inventory::HolderKind::{self, Array, Host};
 use fab_inventory::Port;
 use fab_load::{LoadFault, Table, inventory_of};
 use fab_names::{Name, Wwn};
 use fab_rows::{HolderRow, VolumeRow};
 use std::alloc::Global;
-use std::test::Fail;
+use std::process::Abort;
 
 /// The holder of the one port, holders and their kinds, volumes and their arrays, and the table that
 /// is damaged, if one is.
@@ -58,11 +59,6 @@ const CASES: &[Case] = &[
     ),
 ];
 
-/// The name of this text.
-fn name(text: &str) -> Result<Name, Fail> {
-    Ok(Name::read(text)?)
-}
-
 /// A port of this holder, which is logged in nowhere.
 fn port(holder: Name) -> Port {
     let wwn = Wwn::new(1);
@@ -74,69 +70,54 @@ fn port(holder: Name) -> Port {
     }
 }
 
-fn holder(text: &str, kind: HolderKind) -> Result<HolderRow, Fail> {
-    let (name, tenant) = (name(text)?, name("blue")?);
-    Ok(HolderRow { name, kind, tenant })
-}
-
-fn volume(text: &str, array: &str) -> Result<VolumeRow, Fail> {
-    let (name, array, tenant) = (name(text)?, name(array)?, name("blue")?);
-    Ok(VolumeRow {
-        name,
-        array,
-        tenant,
-        bytes: 1,
-    })
-}
-
 fn holders(
-    alloc: Global,
+    rt: &(impl Abort + AllocGlobal),
     list: &[(&'static str, HolderKind)],
-) -> Result<Vec<HolderRow, Global>, Fail> {
-    let mut rows = Vec::new(alloc);
-    for (text, kind) in list {
-        rows.push(holder(text, *kind)?)?;
+) -> Vec<HolderRow, Global> {
+    let tenant = name(rt, "blue");
+    let mut rows = Vec::new(rt.alloc());
+    for &(text, kind) in list {
+        let name = name(rt, text);
+        rows.push(HolderRow { name, kind, tenant })
+            .expect(rt, "a row");
     }
-    Ok(rows)
+    rows
+}
+
+fn volume(rt: &impl Abort, text: &str, array: &str) -> VolumeRow {
+    VolumeRow {
+        name: name(rt, text),
+        array: name(rt, array),
+        tenant: name(rt, "blue"),
+        bytes: 1,
+    }
 }
 
 fn volumes(
-    alloc: Global,
+    rt: &(impl Abort + AllocGlobal),
     list: &[(&'static str, &'static str)],
-) -> Result<Vec<VolumeRow, Global>, Fail> {
-    let mut rows = Vec::new(alloc);
-    for (text, array) in list {
-        rows.push(volume(text, array)?)?;
+) -> Vec<VolumeRow, Global> {
+    let mut rows = Vec::new(rt.alloc());
+    for &(text, array) in list {
+        rows.push(volume(rt, text, array)).expect(rt, "a row");
     }
-    Ok(rows)
+    rows
 }
 
-/// The table that is damaged, if one is.
-fn damaged(
-    alloc: Global,
-    holder: Name,
-    holders: &[HolderRow],
-    volumes: &[VolumeRow],
-) -> Result<Option<Table>, Fail> {
-    match inventory_of(alloc, &[port(holder)], holders, volumes) {
-        Ok(_) => Ok(None),
-        Err(LoadFault::Damaged(table)) => Ok(Some(table)),
-        Err(LoadFault::Memory) => Err(Fail::from("memory")),
+/// The table that is damaged in the rows of the case, if one is.
+fn damaged(rt: &(impl Abort + AllocGlobal), case: Case) -> Option<Table> {
+    let ports = [port(name(rt, case.0))];
+    let (holders, volumes) = (holders(rt, case.1), volumes(rt, case.2));
+    match inventory_of(rt.alloc(), &ports, holders.as_slice(), volumes.as_slice()) {
+        Ok(_) => None,
+        Err(LoadFault::Damaged(table)) => Some(table),
+        Err(LoadFault::Memory) => panic!(rt; "memory"),
     }
-}
-
-/// Whether the rows have the damage of the case, or none.
-fn is_told(alloc: Global, case: Case) -> Result<bool, Fail> {
-    let holders = holders(alloc, case.1)?;
-    let volumes = volumes(alloc, case.2)?;
-    let found = damaged(alloc, name(case.0)?, holders.as_slice(), volumes.as_slice())?;
-    Ok(found == case.3)
 }
 
 #[test]
-fn damage_is_named(rt: HostRuntime) -> Result<(), Fail> {
+fn damage_is_named(rt: HostRuntime) {
     for &case in CASES {
-        assert!(rt; is_told(rt.alloc(), case)?);
+        assert!(rt; damaged(&rt, case) == case.3);
     }
-    Ok(())
 }

@@ -5,7 +5,7 @@ use fab_rows::{
     ActiveRow, ConfigRow, GroupRow, HostGroupRow, PartRow, SettingRow, StorageGroupRow,
     StoragePart, ZoningItem, ZoningRow,
 };
-use std::test::Fail;
+use std::process::Abort;
 
 /// A row: settings of a fabric; items and active rows of fabric A, and a port of a zone of
 /// fabric B; groups and parts, each group of the tenant `blue`, or `green`, and each storage group
@@ -33,138 +33,119 @@ pub enum Line {
 }
 
 /// The port of this number.
-pub fn port(number: u64) -> Result<Wwn, Fail> {
+pub fn port(rt: &impl Abort, number: u64) -> Wwn {
     if number == 0 {
-        return Err(Fail::from("port"));
+        panic!(rt; "port");
     }
-    Ok(Wwn::new(number))
+    Wwn::new(number)
 }
 
 /// The name of this text.
-pub fn name(text: &str) -> Result<Name, Fail> {
-    Ok(Name::read(text)?)
+pub fn name(rt: &impl Abort, text: &str) -> Name {
+    Name::read(text).expect(rt, "a name")
 }
 
 /// A member that names a port.
-fn a_port(number: u64) -> Result<Member, Fail> {
-    Ok(Member::Port(port(number)?))
+fn a_port(rt: &impl Abort, number: u64) -> Member {
+    Member::Port(port(rt, number))
 }
 
 /// A member that names an alias.
-fn an_alias(text: &str) -> Result<Member, Fail> {
-    Ok(Member::Alias(name(text)?))
-}
-
-fn active_set(fabric: Fabric, set: &str) -> Result<ConfigRow, Fail> {
-    let set = name(set)?;
-    Ok(ConfigRow::Setting(SettingRow::ActiveSet(fabric, Some(set))))
+fn an_alias(rt: &impl Abort, text: &str) -> Member {
+    Member::Alias(name(rt, text))
 }
 
 fn item(fabric: Fabric, item: ZoningItem) -> ConfigRow {
     ConfigRow::Zoning(ZoningRow { fabric, item })
 }
 
-fn alias(alias: &str, member: Member) -> Result<ConfigRow, Fail> {
-    let alias = name(alias)?;
-    Ok(item(Fabric::A, ZoningItem::Alias(alias, member)))
+fn alias(rt: &impl Abort, alias: &str, member: Member) -> ConfigRow {
+    item(Fabric::A, ZoningItem::Alias(name(rt, alias), member))
 }
 
-fn zone(fabric: Fabric, zone: &str, member: Member) -> Result<ConfigRow, Fail> {
-    let zone = name(zone)?;
-    Ok(item(fabric, ZoningItem::Zone(zone, member)))
+fn zone(rt: &impl Abort, fabric: Fabric, zone: &str, member: Member) -> ConfigRow {
+    item(fabric, ZoningItem::Zone(name(rt, zone), member))
 }
 
-fn set(set: &str, zone: &str) -> Result<ConfigRow, Fail> {
-    let (set, zone) = (name(set)?, name(zone)?);
-    Ok(item(Fabric::A, ZoningItem::Set(set, zone)))
-}
-
-fn active(zone: &str, member: Member) -> Result<ConfigRow, Fail> {
-    let zone = name(zone)?;
-    Ok(ConfigRow::Active(ActiveRow {
+fn active(rt: &impl Abort, zone: &str, member: Member) -> ConfigRow {
+    ConfigRow::Active(ActiveRow {
         fabric: Fabric::A,
-        zone,
+        zone: name(rt, zone),
         member,
+    })
+}
+
+fn host_group(rt: &impl Abort, group: &str) -> ConfigRow {
+    ConfigRow::Group(GroupRow::Host(HostGroupRow {
+        name: name(rt, group),
+        tenant: name(rt, "blue"),
     }))
 }
 
-fn host_group(group: &str) -> Result<ConfigRow, Fail> {
-    let (name, tenant) = (name(group)?, name("blue")?);
-    Ok(ConfigRow::Group(GroupRow::Host(HostGroupRow { name, tenant })))
-}
-
-/// A storage group on an array.
-fn on(array: Name, name: Name, tenant: Name, exposed: bool) -> ConfigRow {
+fn storage_group(rt: &impl Abort, group: &str, tenant: &str, exposed: bool) -> ConfigRow {
     ConfigRow::Group(GroupRow::Storage(StorageGroupRow {
-        name,
-        tenant,
-        array,
+        name: name(rt, group),
+        tenant: name(rt, tenant),
+        array: name(rt, "arr1"),
         exposed,
     }))
 }
 
-fn storage_group(group: &str, tenant: &str, exposed: bool) -> Result<ConfigRow, Fail> {
-    let (group, tenant) = (name(group)?, name(tenant)?);
-    Ok(on(name("arr1")?, group, tenant, exposed))
-}
-
-fn host(group: &str, host: &str) -> Result<ConfigRow, Fail> {
-    let (group, host) = (name(group)?, name(host)?);
-    Ok(ConfigRow::Part(PartRow::Host(group, host)))
-}
-
-fn part(group: &str, part: StoragePart) -> Result<ConfigRow, Fail> {
-    let group = name(group)?;
-    Ok(ConfigRow::Part(PartRow::Storage(group, part)))
+fn part(rt: &impl Abort, group: &str, part: StoragePart) -> ConfigRow {
+    ConfigRow::Part(PartRow::Storage(name(rt, group), part))
 }
 
 /// The row of a group or a part.
-fn mapping_row(line: Line) -> Result<ConfigRow, Fail> {
+fn mapping_row(rt: &impl Abort, line: Line) -> ConfigRow {
     match line {
-        Line::HostGroup(group) => host_group(group),
-        Line::Group(group, exposed) => storage_group(group, "blue", exposed),
-        Line::GreenGroup(group) => storage_group(group, "green", true),
-        Line::Host(group, name) => host(group, name),
-        Line::Serves(group, hosts) => part(group, StoragePart::HostGroup(name(hosts)?)),
-        Line::Target(group, number) => part(group, StoragePart::Target(port(number)?)),
-        Line::Unit(group, unit, volume) => part(group, StoragePart::Unit(unit, name(volume)?)),
-        _ => Err(Fail::from("line")),
+        Line::HostGroup(group) => host_group(rt, group),
+        Line::Group(group, exposed) => storage_group(rt, group, "blue", exposed),
+        Line::GreenGroup(group) => storage_group(rt, group, "green", true),
+        Line::Host(group, host) => {
+            ConfigRow::Part(PartRow::Host(name(rt, group), name(rt, host)))
+        }
+        Line::Serves(group, hosts) => part(rt, group, StoragePart::HostGroup(name(rt, hosts))),
+        Line::Target(group, number) => part(rt, group, StoragePart::Target(port(rt, number))),
+        Line::Unit(group, unit, volume) => {
+            part(rt, group, StoragePart::Unit(unit, name(rt, volume)))
+        }
+        _ => panic!(rt; "line"),
     }
 }
 
 /// The row of an item of a zoning, or of a group or a part.
-fn item_row(line: Line) -> Result<ConfigRow, Fail> {
+fn item_row(rt: &impl Abort, line: Line) -> ConfigRow {
     match line {
-        Line::Alias(name, number) => alias(name, a_port(number)?),
-        Line::AliasAlias(name, other) => alias(name, an_alias(other)?),
-        Line::ZonePort(name, number) => zone(Fabric::A, name, a_port(number)?),
-        Line::ZoneAlias(name, alias) => zone(Fabric::A, name, an_alias(alias)?),
-        Line::OtherZone(name, number) => zone(Fabric::B, name, a_port(number)?),
-        Line::Set(name, zone) => set(name, zone),
-        _ => mapping_row(line),
+        Line::Alias(name, number) => alias(rt, name, a_port(rt, number)),
+        Line::AliasAlias(name, other) => alias(rt, name, an_alias(rt, other)),
+        Line::ZonePort(name, number) => zone(rt, Fabric::A, name, a_port(rt, number)),
+        Line::ZoneAlias(name, alias) => zone(rt, Fabric::A, name, an_alias(rt, alias)),
+        Line::OtherZone(name, number) => zone(rt, Fabric::B, name, a_port(rt, number)),
+        Line::Set(set, zone) => item(Fabric::A, ZoningItem::Set(name(rt, set), name(rt, zone))),
+        _ => mapping_row(rt, line),
     }
 }
 
 /// The row that a line tells.
-pub fn row(line: Line) -> Result<ConfigRow, Fail> {
+pub fn row(rt: &impl Abort, line: Line) -> ConfigRow {
     match line {
-        Line::NoActiveSet(fabric) => Ok(ConfigRow::Setting(SettingRow::ActiveSet(fabric, None))),
-        Line::ActiveSet(fabric, set) => active_set(fabric, set),
-        Line::DefaultZone(fabric, permits) => {
-            Ok(ConfigRow::Setting(SettingRow::DefaultZone(fabric, permits)))
+        Line::NoActiveSet(fabric) => ConfigRow::Setting(SettingRow::ActiveSet(fabric, None)),
+        Line::ActiveSet(fabric, set) => {
+            ConfigRow::Setting(SettingRow::ActiveSet(fabric, Some(name(rt, set))))
         }
-        Line::Active(zone, number) => active(zone, a_port(number)?),
-        Line::ActiveAlias(zone, alias) => active(zone, an_alias(alias)?),
-        _ => item_row(line),
+        Line::DefaultZone(fabric, permits) => {
+            ConfigRow::Setting(SettingRow::DefaultZone(fabric, permits))
+        }
+        Line::Active(zone, number) => active(rt, zone, a_port(rt, number)),
+        Line::ActiveAlias(zone, alias) => active(rt, zone, an_alias(rt, alias)),
+        _ => item_row(rt, line),
     }
 }
 
-/// Whether the rows are those of the lines, in this order.
-pub fn are(rows: &[ConfigRow], lines: &[Line]) -> Result<bool, Fail> {
+/// The rows are those of the lines, in this order.
+pub fn assert_rows(rt: &impl Abort, rows: &[ConfigRow], lines: &[Line]) {
     for (i, line) in lines.iter().enumerate() {
-        if rows.get(i) != Some(&row(*line)?) {
-            return Ok(false);
-        }
+        assert!(rt; rows.get(i) == Some(&row(rt, *line)));
     }
-    Ok(rows.len() == lines.len())
+    assert_eq!(rt; rows.len(), lines.len());
 }

@@ -1,13 +1,13 @@
 //! The rows of a new configuration and of the first worked plan's, their differences, and the plan
 //! undone.
 
-use crate::lines::{Line, are};
+use crate::lines::{Line, assert_rows};
 use crate::worlds::{I1, TP1, new_config, planned};
 use fab_names::Fabric::{A, B};
 use fab_reach::Config;
-use fab_rows::{ConfigRow, RowDifference, config_rows, difference, undone};
+use fab_rows::{config_rows, difference, undone};
 use std::alloc::Global;
-use std::test::Fail;
+use std::process::Abort;
 
 /// The rows of a new configuration.
 const NEW: &[Line] = &[
@@ -68,39 +68,29 @@ enum World {
     Hidden,
 }
 
-fn config(alloc: Global, world: World) -> Result<Config<Global>, Fail> {
+fn config(rt: &(impl Abort + AllocGlobal), world: World) -> Config<Global> {
     match world {
-        World::New => Ok(new_config(alloc)),
-        World::Planned => planned(alloc, true),
-        World::Hidden => planned(alloc, false),
+        World::New => new_config(rt.alloc()),
+        World::Planned => planned(rt, true),
+        World::Hidden => planned(rt, false),
     }
-}
-
-/// The rows of a configuration.
-fn listed(alloc: Global, config: &Config<Global>) -> Result<Vec<ConfigRow, Global>, Fail> {
-    Ok(config_rows(alloc, config)?)
-}
-
-/// Whether the rows are those of the lines.
-fn are_these(rows: Vec<ConfigRow, Global>, lines: &[Line]) -> Result<bool, Fail> {
-    are(rows.as_slice(), lines)
 }
 
 /// Configurations and their rows.
 const LISTS: &[(World, &'static [Line])] = &[(World::New, NEW), (World::Planned, PLANNED)];
 
-/// Whether the configuration has the rows of the lines and no other.
-fn has_rows(alloc: Global, case: (World, &[Line])) -> Result<bool, Fail> {
-    let config = config(alloc, case.0)?;
-    are_these(listed(alloc, &config)?, case.1)
+/// The configuration has the rows of the lines and no other.
+fn assert_listed(rt: &(impl Abort + AllocGlobal), world: World, lines: &[Line]) {
+    let config = config(rt, world);
+    let rows = config_rows(rt.alloc(), &config).expect(rt, "rows");
+    assert_rows(rt, rows.as_slice(), lines);
 }
 
 #[test]
-fn rows_are_listed(rt: HostRuntime) -> Result<(), Fail> {
-    for &case in LISTS {
-        assert!(rt; has_rows(rt.alloc(), case)?);
+fn rows_are_listed(rt: HostRuntime) {
+    for &(world, lines) in LISTS {
+        assert_listed(&rt, world, lines);
     }
-    Ok(())
 }
 
 /// A change, what it takes away, and what it adds.
@@ -119,46 +109,19 @@ const CHANGES: &[Change] = &[
     ),
 ];
 
-/// Whether the rows of a change are those of the lines.
-fn is_change(
-    change: RowDifference<Global>,
-    lines: (&'static [Line], &'static [Line]),
-) -> Result<bool, Fail> {
-    let RowDifference { taken, added } = change;
-    if !are_these(taken, lines.0)? {
-        return Ok(false);
-    }
-    are_these(added, lines.1)
-}
-
-/// What leads from a configuration to another.
-fn change(
-    alloc: Global,
-    before: &Config<Global>,
-    after: &Config<Global>,
-) -> Result<RowDifference<Global>, Fail> {
-    Ok(difference(alloc, before, after)?)
-}
-
-/// Whether the second configuration differs from this one as the table says.
-fn differs(alloc: Global, before: &Config<Global>, case: Change) -> Result<bool, Fail> {
-    let after = config(alloc, case.1)?;
-    let change = change(alloc, before, &after)?;
-    is_change(change, (case.2, case.3))
-}
-
-/// Whether the configurations differ as the table says.
-fn differ(alloc: Global, case: Change) -> Result<bool, Fail> {
-    let before = config(alloc, case.0)?;
-    differs(alloc, &before, case)
+/// The configurations differ as the table says.
+fn assert_change(rt: &(impl Abort + AllocGlobal), case: Change) {
+    let (before, after) = (config(rt, case.0), config(rt, case.1));
+    let change = difference(rt.alloc(), &before, &after).expect(rt, "a difference");
+    assert_rows(rt, change.taken.as_slice(), case.2);
+    assert_rows(rt, change.added.as_slice(), case.3);
 }
 
 #[test]
-fn differences_are_rows(rt: HostRuntime) -> Result<(), Fail> {
+fn differences_are_rows(rt: HostRuntime) {
     for &case in CHANGES {
-        assert!(rt; differ(rt.alloc(), case)?);
+        assert_change(&rt, case);
     }
-    Ok(())
 }
 
 /// A configuration, another, and the rows of the first.
@@ -167,48 +130,18 @@ const UNDONE: &[(World, World, &'static [Line])] = &[
     (World::Planned, World::New, PLANNED),
 ];
 
-/// The rows, with a change undone.
-fn without(
-    alloc: Global,
-    rows: Vec<ConfigRow, Global>,
-    change: RowDifference<Global>,
-) -> Result<Vec<ConfigRow, Global>, Fail> {
-    Ok(undone(alloc, rows.as_slice(), &change)?)
-}
-
-/// The second configuration's rows, with the change from the first undone.
-fn undone_rows(
-    alloc: Global,
-    before: &Config<Global>,
-    after: &Config<Global>,
-) -> Result<Vec<ConfigRow, Global>, Fail> {
-    let change = change(alloc, before, after)?;
-    let rows = listed(alloc, after)?;
-    without(alloc, rows, change)
-}
-
-/// Whether the second configuration's rows, with the change from this one undone, are those of the
-/// lines.
-fn is_undone_to(
-    alloc: Global,
-    before: &Config<Global>,
-    case: (World, World, &[Line]),
-) -> Result<bool, Fail> {
-    let after = config(alloc, case.1)?;
-    let rows = undone_rows(alloc, before, &after)?;
-    are_these(rows, case.2)
-}
-
-/// Whether the second configuration's rows, with the change undone, are those of the lines.
-fn is_undone(alloc: Global, case: (World, World, &[Line])) -> Result<bool, Fail> {
-    let before = config(alloc, case.0)?;
-    is_undone_to(alloc, &before, case)
+/// The second configuration's rows, with the change from the first undone, are those of the lines.
+fn assert_undone(rt: &(impl Abort + AllocGlobal), case: (World, World, &[Line])) {
+    let (before, after) = (config(rt, case.0), config(rt, case.1));
+    let change = difference(rt.alloc(), &before, &after).expect(rt, "a difference");
+    let rows = config_rows(rt.alloc(), &after).expect(rt, "rows");
+    let rows_before = undone(rt.alloc(), rows.as_slice(), &change).expect(rt, "rows");
+    assert_rows(rt, rows_before.as_slice(), case.2);
 }
 
 #[test]
-fn plan_is_undone(rt: HostRuntime) -> Result<(), Fail> {
+fn plan_is_undone(rt: HostRuntime) {
     for &case in UNDONE {
-        assert!(rt; is_undone(rt.alloc(), case)?);
+        assert_undone(&rt, case);
     }
-    Ok(())
 }
