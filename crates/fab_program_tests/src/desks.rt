@@ -1,74 +1,110 @@
-//! A desk whose memory comes from an allocator of the test's.
+//! A desk whose memory comes from an allocator of the test's, and what the tests ask of it.
 
+use super::tables::are_same;
+use fab_json::counted::Counted;
 use fab_policy_base::{Policy, TRIAL_POLICY};
 use fab_reach::PathBook;
 use fab_store::{SqlStore, Store};
-use fab_wire::Desk;
-use sqlite::{Alter, Connection, MemStore};
+use fab_wire::{Desk, serve_one};
+use fab_wire_base::routes::Routes;
+use fab_world::World;
+use sqlite::Alter;
 use std::alloc::{Allocator, Global};
-use std::test::Fail;
+use std::process::Abort;
 
-/// The tables of a desk in memory.
-pub type Tables = SqlStore<MemStore>;
+/// A desk, and the allocator that its memory comes from.
+#[derive(Drop)]
+pub struct Trial<A: Allocator + Copy, S: Store<A>, B: PathBook<A>> {
+    alloc: A,
+    desk: Desk<A, S, B>,
+}
 
-/// The tables, which are made.
-fn made<S: Alter + Drop>(tables: SqlStore<S>) -> Result<SqlStore<S>, Fail> {
+/// What the tests ask of such a desk, whatever store and book it has.
+pub trait Asked: Sized + Drop {
+    /// The world of its tables.
+    type World: Drop;
+
+    /// Serves the bytes of a request by these routes, and gives the bytes of the answer.
+    fn answer(&mut self, global: Global, routes: &Routes, moment: u64, request: &[u8]) -> Vec<u8>;
+
+    /// The desk, opened again over its store, with the world of the tables.
+    fn with_world<R: Abort + AllocGlobal>(self, rt: &R) -> (Self::World, Self);
+
+    /// The desk, opened again over its store. Ends the test where that has other rows than the world.
+    fn opened_again<R: Abort + AllocGlobal>(self, rt: &R, before: &Self::World) -> Self;
+}
+
+/// The tables of a new desk, which are made.
+pub fn made<S: Alter + Drop>(rt: &impl Abort, tables: SqlStore<S>) -> SqlStore<S> {
     let mut tables = tables;
     match tables.init() {
-        Ok(()) => Ok(tables),
-        Err(_) => Err(Fail::new("no tables")),
+        Ok(()) => tables,
+        Err(_) => panic!(rt; "no tables"),
     }
 }
 
-/// The tables of a new desk.
-///
-/// # Errors
-/// Where there is no memory.
-pub fn new_tables(global: Global) -> Result<Tables, Fail> {
-    let Ok(connection) = Connection::open_in_memory(global) else {
-        return Err(Fail::new("no connection"));
-    };
-    made(SqlStore::new(connection, global))
-}
-
-/// The policy of the tests.
-fn policy_of(global: Global) -> Result<Policy, Fail> {
-    match Policy::read(global, TRIAL_POLICY) {
-        Ok(policy) => Ok(policy),
-        Err(_) => Err(Fail::new("no policy")),
-    }
-}
-
-/// The desk, if one was opened.
-fn opened<D: Drop, E: Drop>(desk: Result<D, E>) -> Result<D, Fail> {
-    match desk {
-        Ok(desk) => Ok(desk),
-        Err(_) => Err(Fail::new("no desk")),
-    }
-}
-
-/// A desk over a store.
-///
-/// # Errors
-/// Where there is no memory.
+/// A desk over a store, with the policy of the tests.
 pub fn desk_of<A: Allocator + Copy, S: Store<A>, B: PathBook<A>>(
+    rt: &(impl Abort + AllocGlobal),
     alloc: A,
-    global: Global,
     store: S,
-) -> Result<Desk<A, S, B>, Fail> {
-    let policy = policy_of(global)?;
-    opened(Desk::open(alloc, store, policy))
+) -> Trial<A, S, B> {
+    let Ok(policy) = Policy::read(rt.alloc(), TRIAL_POLICY) else {
+        panic!(rt; "no policy");
+    };
+    match Desk::open(alloc, store, policy) {
+        Ok(desk) => Trial { alloc, desk },
+        Err(_) => panic!(rt; "no desk"),
+    }
 }
 
 /// The store of a desk.
-///
-/// # Errors
-/// Where there is none.
-pub fn store_of<A: Allocator + Copy, S: Store<A>, B: PathBook<A>>(
+fn store_of<A: Allocator + Copy, S: Store<A>, B: PathBook<A>>(
+    rt: &impl Abort,
     desk: Desk<A, S, B>,
-) -> Result<S, Fail> {
+) -> S {
     match desk.close() {
-        Some(store) => Ok(store),
-        None => Err(Fail::new("no store")),
+        Some(store) => store,
+        None => panic!(rt; "no store"),
+    }
+}
+
+/// The world of the store.
+fn loaded<A: Allocator + Copy, S: Store<A>>(rt: &impl Abort, alloc: A, store: &mut S) -> World<A> {
+    match store.load(alloc) {
+        Ok(world) => world,
+        Err(_) => panic!(rt; "no world"),
+    }
+}
+
+impl<A: Allocator + Copy, S: Store<A>, B: PathBook<A>> Asked for Trial<A, S, B> {
+    type World = World<A>;
+
+    fn answer(&mut self, global: Global, routes: &Routes, moment: u64, request: &[u8]) -> Vec<u8> {
+        let mut reader = Counted::new(request);
+        let mut writer = Counted::new(Vec::new(global));
+        let _outcome = serve_one(
+            self.alloc,
+            global,
+            routes,
+            &mut self.desk,
+            moment,
+            &mut reader,
+            &mut writer,
+        );
+        writer.into_inner()
+    }
+
+    fn with_world<R: Abort + AllocGlobal>(self, rt: &R) -> (World<A>, Trial<A, S, B>) {
+        let Trial { alloc, desk } = self;
+        let mut store = store_of(rt, desk);
+        let world = loaded(rt, alloc, &mut store);
+        (world, desk_of(rt, alloc, store))
+    }
+
+    fn opened_again<R: Abort + AllocGlobal>(self, rt: &R, before: &World<A>) -> Trial<A, S, B> {
+        let (world, desk) = self.with_world(rt);
+        are_same(rt, desk.alloc, before, &world);
+        desk
     }
 }

@@ -1,148 +1,87 @@
 //! Runs whose clock tells nothing, whose standard input or output fails, or whose files are too large.
 
-use super::runs::{Run, Wrote, are_run, words_from};
-use fab_exchanges::streams::{Breaking, Slow};
+use super::runs::{QUIET, Run, are_run, put};
 use fab_policy_base::TRIAL_POLICY;
-use fab_program_base::run;
-use std::fs;
-use std::test::Fail;
+use std::process::Abort;
 
-/// A run: its words; what its clock tells; the read and the write that fail; what it tells then, and
-/// its exit status.
-#[derive(Clone, Copy)]
-struct Faulty {
-    words: &'static str,
-    moment: Option<u64>,
-    read: u64,
-    write: u64,
-    errors: &'static str,
-    status: u8,
-}
+/// A question on standard input to a new desk in memory.
+const ASKED: Run<'static> = Run {
+    words: "sandesk once",
+    input: "GET /active/A HTTP/1.1\r\nAuthorization: Bearer t-ada\r\n\r\n",
+    ..QUIET
+};
 
-/// What is asked on standard input.
-const QUESTION: &str = "GET /active/A HTTP/1.1\r\nAuthorization: Bearer t-ada\r\n\r\n";
+/// Its answer.
+const ANSWER: &str =
+    "HTTP/1.1 200 OK\r\nContent-Type: application/json\r\nContent-Length: 56\r\nConnection: close\r\n\r\n{\"active\":null,\"default\":\"deny\",\"fabric\":\"A\",\"zones\":[]}";
 
-/// Fails where another text was told, or the exit status is another.
-fn is_told(errors: &[u8], status: u8, wanted: &Faulty) -> Result<(), Fail> {
-    if errors == wanted.errors.as_bytes() && status == wanted.status {
-        Ok(())
-    } else {
-        Err(Fail::new(format_args!(
-            "{}: {status} {}",
-            wanted.words,
-            str::from_utf8(errors).unwrap_or("no text")
-        )))
-    }
-}
+/// A plan that is not there, of a desk in a file.
+const TRIED: Run<'static> = Run {
+    words: "sandesk dryrun --db fault.db --policy fault.toml --token t-ada --plan p9",
+    ..ASKED
+};
 
-/// Runs the program so.
-fn is_run(rt: &HostRuntime, words: &[String], faulty: &Faulty) -> Result<(), Fail> {
-    let moment = faulty.moment;
-    let mut errors = Vec::new(rt.alloc());
-    let status = run(
-        rt,
-        words,
-        || moment,
-        Slow::new(QUESTION.as_bytes(), usize::MAX, faulty.read),
-        Breaking::new(rt.alloc(), usize::MAX, faulty.write),
-        &mut errors,
-    );
-    is_told(errors.as_slice(), status, faulty)
-}
-
-/// The same of the words of a table.
-fn is_faulty(rt: &HostRuntime, faulty: &Faulty) -> Result<(), Fail> {
-    let words = words_from(rt.alloc(), faulty.words)?;
-    is_run(rt, words.as_slice(), faulty)
-}
-
-/// The answers to a question and to a plan that is not there, whose writer fails at its first write or
-/// whose reader fails at its first read; and no moment, which is told first, but where one is given.
-const FAULTS: &[Faulty] = &[
-    Faulty {
-        words: "sandesk once",
-        moment: Some(0),
-        read: u64::MAX,
-        write: u64::MAX,
-        errors: "",
-        status: 0,
+/// A desk in a new file; the answers to both, whose writer fails at its first write or whose reader
+/// fails at its first read; and no moment, which is told first, but where one is given.
+const FAULTS: &[Run<'static>] = &[
+    Run {
+        words: "sandesk init --db fault.db",
+        ..QUIET
     },
-    Faulty {
-        words: "sandesk once",
-        moment: Some(0),
-        read: u64::MAX,
+    Run {
+        output: ANSWER,
+        ..ASKED
+    },
+    Run {
         write: 0,
         errors: "sandesk: stream\n",
         status: 3,
+        ..ASKED
     },
-    Faulty {
-        words: "sandesk once",
-        moment: Some(0),
+    Run {
         read: 0,
-        write: u64::MAX,
         errors: "sandesk: stream\n",
         status: 3,
+        ..ASKED
     },
-    Faulty {
-        words: "sandesk once",
+    Run {
         moment: None,
-        read: u64::MAX,
-        write: u64::MAX,
         errors: "sandesk: clock\n",
         status: 3,
+        ..ASKED
     },
-    Faulty {
-        words: "sandesk once",
+    Run {
         moment: None,
         read: 0,
         write: 0,
         errors: "sandesk: clock\n",
         status: 3,
+        ..ASKED
     },
-    Faulty {
+    Run {
         words: "sandesk once --now 7",
         moment: None,
-        read: u64::MAX,
-        write: u64::MAX,
-        errors: "",
-        status: 0,
+        output: ANSWER,
+        ..ASKED
     },
-    Faulty {
-        words: "sandesk dryrun --db fault.db --policy fault.toml --token t-ada --plan p9",
-        moment: Some(0),
-        read: u64::MAX,
+    Run {
         write: 0,
         errors: "sandesk: stream\n",
         status: 3,
+        ..TRIED
     },
-    Faulty {
-        words: "sandesk dryrun --db fault.db --policy fault.toml --token t-ada --plan p9",
+    Run {
         moment: None,
-        read: u64::MAX,
-        write: u64::MAX,
         errors: "sandesk: clock\n",
         status: 3,
+        ..TRIED
     },
 ];
 
-/// A desk in a new file.
-const MADE: &[Run] = &[(
-    "sandesk init --db fault.db",
-    Wrote {
-        output: "",
-        errors: "",
-        status: 0,
-    },
-)];
-
 #[test]
-fn streams_and_the_clock_fail(rt: HostRuntime) -> Result<(), Fail> {
-    fs::write(&rt, "fault.toml", TRIAL_POLICY)?;
-    are_run(&rt, MADE)?;
-    for faulty in FAULTS {
-        is_faulty(&rt, faulty)?;
-    }
-    Ok(())
+fn streams_and_the_clock_fail(rt: HostRuntime) {
+    put(&rt, &rt, "fault.toml", TRIAL_POLICY.as_bytes());
+    are_run(&rt, &rt, FAULTS);
 }
 
 /// A file: its name, what it begins with, what fills it, and how many bytes it has.
@@ -156,53 +95,42 @@ const FILES: &[Filled] = &[
     ("more.toml", TRIAL_POLICY, b'\n', 1_048_577),
 ];
 
-fn fill(rt: &HostRuntime, file: &Filled) -> Result<(), Fail> {
-    let mut bytes = Vec::from_slice(rt.alloc(), file.1.as_bytes())?;
-    bytes.resize(file.3, file.2)?;
-    fs::write(rt, file.0, bytes.as_slice())?;
-    Ok(())
+fn fill(host: &HostRuntime, rt: &(impl Abort + AllocGlobal), file: &Filled) {
+    let mut bytes = Vec::from_slice(rt.alloc(), file.1.as_bytes()).expect(rt, "memory");
+    bytes.resize(file.3, file.2).expect(rt, "memory");
+    put(host, rt, file.0, bytes.as_slice());
 }
 
 /// What is made of these files.
-const SIZES: &[Run] = &[
-    (
-        "sandesk init --db size.db",
-        Wrote {
-            output: "",
-            errors: "",
-            status: 0,
-        },
-    ),
-    (
-        "sandesk import --db size.db --policy most.toml --token t-ada --fabric A --file most.csv",
-        Wrote {
-            output: "{\"code\":7,\"error\":\"bad-body\",\"line\":1}\n",
-            errors: "",
-            status: 1,
-        },
-    ),
-    (
-        "sandesk import --db size.db --policy most.toml --token t-ada --fabric A --file more.csv",
-        Wrote {
-            output: "{\"code\":6,\"error\":\"too-large\"}\n",
-            errors: "",
-            status: 1,
-        },
-    ),
-    (
-        "sandesk import --db size.db --policy more.toml --token t-ada --fabric A --file most.csv",
-        Wrote {
-            output: "",
-            errors: "sandesk: policy\n",
-            status: 3,
-        },
-    ),
+const SIZES: &[Run<'static>] = &[
+    Run {
+        words: "sandesk init --db size.db",
+        ..QUIET
+    },
+    Run {
+        words: "sandesk import --db size.db --policy most.toml --token t-ada --fabric A --file most.csv",
+        output: "{\"code\":7,\"error\":\"bad-body\",\"line\":1}\n",
+        status: 1,
+        ..QUIET
+    },
+    Run {
+        words: "sandesk import --db size.db --policy most.toml --token t-ada --fabric A --file more.csv",
+        output: "{\"code\":6,\"error\":\"too-large\"}\n",
+        status: 1,
+        ..QUIET
+    },
+    Run {
+        words: "sandesk import --db size.db --policy more.toml --token t-ada --fabric A --file most.csv",
+        errors: "sandesk: policy\n",
+        status: 3,
+        ..QUIET
+    },
 ];
 
 #[test]
-fn files_are_limited(rt: HostRuntime) -> Result<(), Fail> {
+fn files_are_limited(rt: HostRuntime) {
     for file in FILES {
-        fill(&rt, file)?;
+        fill(&rt, &rt, file);
     }
-    are_run(&rt, SIZES)
+    are_run(&rt, &rt, SIZES);
 }

@@ -6,8 +6,7 @@
 //! next refusal is tried at a new desk. At last no refusal is met.
 
 use super::answers::{Asking, asking_of, is_given};
-use super::desks::{Tables, desk_of, new_tables};
-use super::tables::{opened_again, with_world};
+use super::desks::{Asked, Trial, desk_of, made};
 use fab_exchanges::rows::{
     ALIAS_PUT_ANEW, APPROVALS, FIRST_PLAN, ROLLED_BACK, SECOND_PLAN, UNIT_CLASH, UNMAPPED,
     VOLUME_GONE, WORLD,
@@ -15,14 +14,29 @@ use fab_exchanges::rows::{
 use fab_port_book::PortBook;
 use fab_reach::PathBook;
 use fab_refusing::Refusing;
-use fab_store::Store;
-use fab_wire::Desk;
-use fab_world::World;
+use fab_store::{SqlStore, Store};
+use sqlite::{Alter, Connection};
 use std::alloc::{Allocator, Global};
-use std::test::Fail;
+use std::process::Abort;
 
 /// More requests for memory than a request makes.
 const MOST: u64 = 100_000;
+
+/// Whether the desk stays after a refusal, or is opened anew.
+#[derive(Clone, Copy)]
+enum Way {
+    Stays,
+    Opened,
+}
+
+/// A request that is tried: what its desk was asked before it, and what becomes of the desk.
+#[derive(Clone, Copy)]
+struct Case<'t> {
+    way: Way,
+    lists: &'t [&'t [&'t str]],
+    texts: &'t [&'t str],
+    asking: &'t Asking,
+}
 
 /// What came of a request, one of whose requests for memory was to be refused.
 #[derive(Clone, Copy)]
@@ -36,219 +50,172 @@ enum Answered {
 }
 
 /// Serves the request while the request for memory of this number is refused.
-fn came<A: Allocator + Copy, S: Store<A>, B: PathBook<A>>(
-    alloc: A,
-    global: Global,
+fn came(
+    rt: &(impl Abort + AllocGlobal),
     refusing: &Refusing<Global>,
-    desk: &mut Desk<A, S, B>,
+    desk: &mut impl Asked,
     asking: &Asking,
     number: u64,
-) -> Result<Answered, Fail> {
+) -> Answered {
     refusing.refuse_after(number);
-    let is_ample = is_given(alloc, global, desk, asking)?;
+    let is_ample = is_given(rt, desk, asking);
     let is_refused = refusing.has_refused();
     refusing.refuse_none();
     match (is_ample, is_refused) {
-        (true, false) => Ok(Answered::Whole),
-        (true, true) => Ok(Answered::Survived),
-        (false, true) => Ok(Answered::Short),
-        (false, false) => Err(Fail::new("a want of memory that there is not")),
+        (true, false) => Answered::Whole,
+        (true, true) => Answered::Survived,
+        (false, true) => Answered::Short,
+        (false, false) => panic!(rt; "a want of memory that there is not"),
     }
 }
 
 /// The end of a request that makes so many requests for memory: it makes some, for its caller and its
 /// target are kept.
-fn end_after(number: u64) -> Result<Option<u64>, Fail> {
-    if number == 0 {
-        return Err(Fail::new("no request for memory"));
-    }
-    Ok(None)
+fn end_after(rt: &impl Abort, number: u64) -> Option<u64> {
+    assert_ne!(rt; number, 0);
+    None
 }
 
 /// Tries the request at the desk, which stays, with each request for memory from this one on refused
 /// in turn. The number behind the first refusal that was survived, if any was.
-fn kept<A: Allocator + Copy, S: Store<A>, B: PathBook<A>>(
-    alloc: A,
-    global: Global,
+fn kept(
+    rt: &(impl Abort + AllocGlobal),
     refusing: &Refusing<Global>,
-    desk: &mut Desk<A, S, B>,
+    desk: &mut impl Asked,
     asking: &Asking,
     first: u64,
-) -> Result<Option<u64>, Fail> {
+) -> Option<u64> {
     for number in first..MOST {
-        match came(alloc, global, refusing, desk, asking, number)? {
-            Answered::Whole => return end_after(number),
-            Answered::Survived => return Ok(Some(number.saturating_add(1))),
+        match came(rt, refusing, desk, asking, number) {
+            Answered::Whole => return end_after(rt, number),
+            Answered::Survived => return Some(number.saturating_add(1)),
             Answered::Short => {}
         }
     }
-    Err(Fail::new("no end"))
+    panic!(rt; "no end")
 }
 
-/// The same, where the desk is opened anew after each refusal.
-fn opened<A: Allocator + Copy, S: Store<A>, B: PathBook<A>>(
-    alloc: A,
-    global: Global,
+/// The same, where the desk is opened anew after each refusal, and its tables have the rows that they
+/// had.
+fn opened(
+    rt: &(impl Abort + AllocGlobal),
     refusing: &Refusing<Global>,
-    desk: Desk<A, S, B>,
-    before: &World<A>,
+    desk: impl Asked,
     asking: &Asking,
     first: u64,
-) -> Result<Option<u64>, Fail> {
-    let mut desk = desk;
+) -> Option<u64> {
+    let (before, mut desk) = desk.with_world(rt);
     for number in first..MOST {
-        match came(alloc, global, refusing, &mut desk, asking, number)? {
-            Answered::Whole => return end_after(number),
-            Answered::Survived => return Ok(Some(number.saturating_add(1))),
+        match came(rt, refusing, &mut desk, asking, number) {
+            Answered::Whole => return end_after(rt, number),
+            Answered::Survived => return Some(number.saturating_add(1)),
             Answered::Short => {}
         }
-        desk = opened_again(alloc, global, desk, before)?;
+        desk = desk.opened_again(rt, &before);
     }
-    Err(Fail::new("no end"))
+    panic!(rt; "no end")
 }
 
-/// The same, with the rows before it.
-fn opened_from<A: Allocator + Copy, S: Store<A>, B: PathBook<A>>(
-    alloc: A,
-    global: Global,
-    refusing: &Refusing<Global>,
-    desk: Desk<A, S, B>,
-    asking: &Asking,
-    first: u64,
-) -> Result<Option<u64>, Fail> {
-    let (before, desk) = with_world(alloc, global, desk)?;
-    opened(alloc, global, refusing, desk, &before, asking, first)
-}
-
-/// Asks what a line of a table asks, where there is memory.
-fn ask<A: Allocator + Copy, S: Store<A>, B: PathBook<A>>(
-    alloc: A,
-    global: Global,
-    desk: &mut Desk<A, S, B>,
-    text: &str,
-) -> Result<(), Fail> {
-    let asking = asking_of(global, text)?;
-    if is_given(alloc, global, desk, &asking)? {
-        Ok(())
-    } else {
-        Err(Fail::new("no memory"))
-    }
-}
-
-/// Asks each of these.
-fn ask_each<A: Allocator + Copy, S: Store<A>, B: PathBook<A>>(
-    alloc: A,
-    global: Global,
-    desk: &mut Desk<A, S, B>,
-    texts: &[&str],
-) -> Result<(), Fail> {
+/// Asks each of these, where there is memory.
+fn ask_each(rt: &(impl Abort + AllocGlobal), desk: &mut impl Asked, texts: &[&str]) {
     for text in texts {
-        ask(alloc, global, desk, text)?;
+        assert!(rt; is_given(rt, desk, &asking_of(rt, text)));
     }
-    Ok(())
 }
 
-/// Asks each of these lists, and then of these.
-fn ask_all<A: Allocator + Copy, S: Store<A>, B: PathBook<A>>(
-    alloc: A,
-    global: Global,
-    desk: &mut Desk<A, S, B>,
-    lists: &[&[&str]],
-    texts: &[&str],
-) -> Result<(), Fail> {
+/// Asks each of these lists.
+fn ask_all(rt: &(impl Abort + AllocGlobal), desk: &mut impl Asked, lists: &[&[&str]]) {
     for list in lists {
-        ask_each(alloc, global, desk, list)?;
+        ask_each(rt, desk, list);
     }
-    ask_each(alloc, global, desk, texts)
 }
 
-/// A desk over the store, which has been asked these lists, and then these.
-fn asked<A: Allocator + Copy, S: Store<A>, B: PathBook<A>>(
-    alloc: A,
-    global: Global,
-    store: S,
-    lists: &[&[&str]],
-    texts: &[&str],
-) -> Result<Desk<A, S, B>, Fail> {
-    let mut desk = desk_of(alloc, global, store)?;
-    ask_all(alloc, global, &mut desk, lists, texts)?;
-    Ok(desk)
-}
-
-/// Whether the desk stays after a refusal, or is opened anew.
-#[derive(Clone, Copy)]
-enum Way {
-    Stays,
-    Opened,
-}
-
-/// Tries the request at a desk, if there is one.
-fn tried<A: Allocator + Copy, S: Store<A>, B: PathBook<A>>(
-    alloc: A,
-    global: Global,
+/// Tries the request at a new desk, from this refusal on.
+fn tried(
+    rt: &(impl Abort + AllocGlobal),
     refusing: &Refusing<Global>,
-    desk: Result<Desk<A, S, B>, Fail>,
-    way: Way,
-    asking: &Asking,
+    desk: impl Asked,
+    case: &Case<'_>,
     first: u64,
-) -> Result<Option<u64>, Fail> {
-    let mut desk = desk?;
-    match way {
-        Way::Stays => kept(alloc, global, refusing, &mut desk, asking, first),
-        Way::Opened => opened_from(alloc, global, refusing, desk, asking, first),
+) -> Option<u64> {
+    let mut desk = desk;
+    ask_all(rt, &mut desk, case.lists);
+    ask_each(rt, &mut desk, case.texts);
+    match case.way {
+        Way::Stays => kept(rt, refusing, &mut desk, case.asking, first),
+        Way::Opened => opened(rt, refusing, desk, case.asking, first),
     }
+}
+
+/// Tries the request at a new desk over this store, from this refusal on.
+fn try_at<R: Abort + AllocGlobal, A: Allocator + Copy, S: Store<A>, B: PathBook<A>>(
+    rt: &R,
+    alloc: A,
+    refusing: &Refusing<Global>,
+    store: S,
+    case: &Case<'_>,
+    first: u64,
+) -> Option<u64> {
+    let desk: Trial<A, S, B> = desk_of(rt, alloc, store);
+    tried(rt, refusing, desk, case, first)
+}
+
+/// The same over these new tables, with the book of ports.
+fn try_over<R: Abort + AllocGlobal, S: Alter + Drop>(
+    rt: &R,
+    refusing: &Refusing<Global>,
+    tables: SqlStore<S>,
+    case: &Case<'_>,
+    first: u64,
+) -> Option<u64> {
+    let tables = made(rt, tables);
+    try_at::<R, &Refusing<Global>, SqlStore<S>, PortBook<&Refusing<Global>>>(
+        rt, refusing, refusing, tables, case, first,
+    )
+}
+
+/// Tries the request at a new desk, from this refusal on.
+fn try_from(rt: &(impl Abort + AllocGlobal), case: &Case<'_>, first: u64) -> Option<u64> {
+    let refusing = Refusing::new(rt.alloc());
+    let Ok(connection) = Connection::open_in_memory(rt.alloc()) else {
+        panic!(rt; "no connection");
+    };
+    let tables = SqlStore::new(connection, rt.alloc());
+    try_over(rt, &refusing, tables, case, first)
+}
+
+/// Tries the request with each of its requests for memory refused.
+fn try_case(rt: &(impl Abort + AllocGlobal), case: &Case<'_>) {
+    let mut first = 0;
+    for _ in 0..MOST {
+        match try_from(rt, case, first) {
+            None => return,
+            Some(next) => first = next,
+        }
+    }
+    panic!(rt; "no end")
 }
 
 /// A worked row, and what comes before it.
 type Row = (&'static [&'static [&'static str]], &'static [&'static str]);
 
-/// Tries a request at a new desk that has been asked these lists, and then these, from this refusal on.
-fn try_from(
-    global: Global,
-    way: Way,
-    lists: &[&[&str]],
-    texts: &[&str],
-    asking: &Asking,
-    first: u64,
-) -> Result<Option<u64>, Fail> {
-    let refusing = Refusing::new(global);
-    let tables = new_tables(global)?;
-    let desk = asked::<&Refusing<Global>, Tables, PortBook<&Refusing<Global>>>(
-        &refusing, global, tables, lists, texts,
-    );
-    tried(&refusing, global, &refusing, desk, way, asking, first)
-}
-
-/// Tries a request, behind these lists and these, with each of its requests for memory refused.
-fn try_one(
-    global: Global,
-    way: Way,
-    lists: &[&[&str]],
-    texts: &[&str],
-    text: &str,
-) -> Result<(), Fail> {
-    let asking = asking_of(global, text)?;
-    let mut first = 0;
-    for _ in 0..MOST {
-        match try_from(global, way, lists, texts, &asking, first)? {
-            None => return Ok(()),
-            Some(next) => first = next,
-        }
-    }
-    Err(Fail::new("no end"))
-}
-
-/// The first of these, so many of them.
-fn begun<'t>(texts: &'t [&'t str], count: usize) -> &'t [&'t str] {
-    texts.get(..count).unwrap_or(texts)
+/// Tries the request of a row that stands at this place in it.
+fn try_one(rt: &(impl Abort + AllocGlobal), way: Way, row: &Row, place: usize, text: &str) {
+    let asking = asking_of(rt, text);
+    let case = Case {
+        way,
+        lists: row.0,
+        texts: row.1.get(..place).unwrap_or(row.1),
+        asking: &asking,
+    };
+    try_case(rt, &case);
 }
 
 /// Tries each request of a row.
-fn try_row(global: Global, way: Way, row: &Row) -> Result<(), Fail> {
+fn try_row(rt: &(impl Abort + AllocGlobal), way: Way, row: &Row) {
     for (place, text) in row.1.iter().enumerate() {
-        try_one(global, way, row.0, begun(row.1, place), text)?;
+        try_one(rt, way, row, place, text);
     }
-    Ok(())
 }
 
 /// The worked world and the worked rows.
@@ -263,18 +230,19 @@ const ROWS: &[Row] = &[
     (&[WORLD, FIRST_PLAN, UNMAPPED], ROLLED_BACK),
 ];
 
-#[test]
-fn refused_growth_desk(rt: HostRuntime) -> Result<(), Fail> {
+/// Tries each request of each row.
+fn try_rows(rt: &(impl Abort + AllocGlobal), way: Way) {
     for row in ROWS {
-        try_row(rt.alloc(), Way::Stays, row)?;
+        try_row(rt, way, row);
     }
-    Ok(())
 }
 
 #[test]
-fn refused_growth_leaves_tables(rt: HostRuntime) -> Result<(), Fail> {
-    for row in ROWS {
-        try_row(rt.alloc(), Way::Opened, row)?;
-    }
-    Ok(())
+fn refused_growth_desk(rt: HostRuntime) {
+    try_rows(&rt, Way::Stays);
+}
+
+#[test]
+fn refused_growth_leaves_tables(rt: HostRuntime) {
+    try_rows(&rt, Way::Opened);
 }

@@ -1,14 +1,10 @@
 //! Whether the tables of a desk are as they were.
 
-use super::desks::{desk_of, store_of};
 use fab_changes::changes;
-use fab_reach::PathBook;
 use fab_rows::TableRows;
-use fab_store::Store;
-use fab_wire::Desk;
 use fab_world::World;
-use std::alloc::{Allocator, Global};
-use std::test::Fail;
+use std::alloc::Allocator;
+use std::process::Abort;
 
 /// Whether there is no row.
 fn is_empty<A: Allocator + Copy>(rows: &TableRows<A>) -> bool {
@@ -21,62 +17,12 @@ fn is_empty<A: Allocator + Copy>(rows: &TableRows<A>) -> bool {
     records && plans && rows.paths.is_empty()
 }
 
-/// The world of the store.
-fn loaded<A: Allocator + Copy, S: Store<A>>(alloc: A, store: &mut S) -> Result<World<A>, Fail> {
-    match store.load(alloc) {
-        Ok(world) => Ok(world),
-        Err(_) => Err(Fail::new("no world")),
-    }
-}
-
-/// That two worlds have the same rows.
-fn are_same<A: Allocator + Copy>(alloc: A, one: &World<A>, other: &World<A>) -> Result<(), Fail> {
+/// Ends the test unless two worlds have the same rows.
+pub fn are_same<A: Allocator + Copy>(rt: &impl Abort, alloc: A, one: &World<A>, other: &World<A>) {
     let Ok(found) = changes(alloc, one, other) else {
-        return Err(Fail::new("no changes"));
+        panic!(rt; "no changes");
     };
-    if is_empty(&found.removed) && is_empty(&found.added) {
-        Ok(())
-    } else {
-        Err(Fail::new("other rows"))
+    if !is_empty(&found.removed) || !is_empty(&found.added) {
+        panic!(rt; "other rows");
     }
-}
-
-/// That the store has the rows of the world.
-fn has_rows<A: Allocator + Copy, S: Store<A>>(
-    alloc: A,
-    store: &mut S,
-    before: &World<A>,
-) -> Result<(), Fail> {
-    let world = loaded(alloc, store)?;
-    are_same(alloc, before, &world)
-}
-
-/// The desk, opened again over its store, with the world of the tables.
-///
-/// # Errors
-/// Where that can not be read.
-pub fn with_world<A: Allocator + Copy, S: Store<A>, B: PathBook<A>>(
-    alloc: A,
-    global: Global,
-    desk: Desk<A, S, B>,
-) -> Result<(World<A>, Desk<A, S, B>), Fail> {
-    let mut store = store_of(desk)?;
-    let world = loaded(alloc, &mut store)?;
-    let desk = desk_of(alloc, global, store)?;
-    Ok((world, desk))
-}
-
-/// The desk, opened again over its store, which has the rows of the world.
-///
-/// # Errors
-/// Where it has other rows.
-pub fn opened_again<A: Allocator + Copy, S: Store<A>, B: PathBook<A>>(
-    alloc: A,
-    global: Global,
-    desk: Desk<A, S, B>,
-    before: &World<A>,
-) -> Result<Desk<A, S, B>, Fail> {
-    let mut store = store_of(desk)?;
-    has_rows(alloc, &mut store, before)?;
-    desk_of(alloc, global, store)
 }

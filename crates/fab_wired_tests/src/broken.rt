@@ -3,14 +3,14 @@
 
 use super::breaks::Side;
 use super::bytes::{APART, EMPTY_LIST, FIRST_IMPORT, NO_CALLER, ROW_16};
+use super::calls::End;
 use super::deeds::{Deed, does};
 use super::stages::ROW_1;
-use super::waiting::{End, Waiting};
+use super::waiting::Waiting;
 use fab_exchanges::rows::{
     FIRST_ACTIVATED, FIRST_JOINED, FIRST_PATHS, FIRST_PLAN, FIRST_STAGED, FIRST_TRIED, WORLD,
 };
-use std::alloc::Global;
-use std::test::Fail;
+use std::process::Abort;
 
 /// The worked world.
 const WORKED: Deed<'static> = Deed::Plays(usize::MAX, &[WORLD]);
@@ -18,29 +18,29 @@ const WORKED: Deed<'static> = Deed::Plays(usize::MAX, &[WORLD]);
 const SURVIVES: &[Deed<'static>] = &[WORKED, Deed::Survives(Side::Reader, FIRST_PLAN)];
 
 #[test]
-fn reader_fails(rt: HostRuntime) -> Result<(), Fail> {
-    does(rt.alloc(), SURVIVES)
+fn reader_fails(rt: HostRuntime) {
+    does(&rt, SURVIVES);
 }
 
 const SURVIVES_REFUSED: &[Deed<'static>] = &[WORKED, Deed::SurvivesBytes(Side::Reader, ROW_16)];
 
 #[test]
-fn reader_fails_at_refused_requests(rt: HostRuntime) -> Result<(), Fail> {
-    does(rt.alloc(), SURVIVES_REFUSED)
+fn reader_fails_at_refused_requests(rt: HostRuntime) {
+    does(&rt, SURVIVES_REFUSED);
 }
 
 /// Heads and a body that end too early, and an input without a byte: the read that would tell the
 /// end fails.
-const CUT: &[&[u8]] = &[
-    b"",
-    b"PUT /plans/x HTTP/1.1\r\nAuthorization: Bearer t-ada\r\nContent-Length: 18\r\n",
-    b"PUT /plans/x HTTP/1.1\r\nAuthorization: Bearer t-ada\r\nContent-Length: 5\r\n\r\n",
-    b"PUT /plans/x HTTP/1.1\r\nAuthorization: Bearer t-ada\r\nContent-Length: 5\r\n\r\nabc",
+const CUT: &[&str] = &[
+    "",
+    "PUT /plans/x HTTP/1.1\r\nAuthorization: Bearer t-ada\r\nContent-Length: 18\r\n",
+    "PUT /plans/x HTTP/1.1\r\nAuthorization: Bearer t-ada\r\nContent-Length: 5\r\n\r\n",
+    "PUT /plans/x HTTP/1.1\r\nAuthorization: Bearer t-ada\r\nContent-Length: 5\r\n\r\nabc",
 ];
 
 #[test]
-fn failure_in_place_of_the_end(rt: HostRuntime) -> Result<(), Fail> {
-    does(rt.alloc(), &[Deed::IsCut(CUT)])
+fn failure_in_place_of_the_end(rt: HostRuntime) {
+    does(&rt, &[Deed::IsCut(CUT)]);
 }
 
 /// How many bytes the answer of an import has, at a revision of one digit.
@@ -58,8 +58,8 @@ const UNSENT_IMPORTS: &[Deed<'static>] = &[
 ];
 
 #[test]
-fn writer_fails(rt: HostRuntime) -> Result<(), Fail> {
-    does(rt.alloc(), UNSENT_IMPORTS)
+fn writer_fails(rt: HostRuntime) {
+    does(&rt, UNSENT_IMPORTS);
 }
 
 /// The first plan is staged and tried: once more it is answered the same.
@@ -79,15 +79,15 @@ const UNSENT_PLAN: &[Deed<'static>] = &[
 ];
 
 #[test]
-fn writer_fails_at_plans_and_reads(rt: HostRuntime) -> Result<(), Fail> {
-    does(rt.alloc(), UNSENT_PLAN)
+fn writer_fails_at_plans_and_reads(rt: HostRuntime) {
+    does(&rt, UNSENT_PLAN);
 }
 
 const UNSENT_REFUSALS: &[Deed<'static>] = &[WORKED, Deed::SurvivesBytes(Side::Writer, ROW_16)];
 
 #[test]
-fn writer_fails_at_refused_requests(rt: HostRuntime) -> Result<(), Fail> {
-    does(rt.alloc(), UNSENT_REFUSALS)
+fn writer_fails_at_refused_requests(rt: HostRuntime) {
+    does(&rt, UNSENT_REFUSALS);
 }
 
 /// Requests whose answers break off, and what is answered behind them.
@@ -115,19 +115,18 @@ const UNSENT: &[(&str, &str)] = &[
 const BREAKS: &[usize] = &[0, 1, 60, 112];
 
 /// Each request has acted as its answer would have said.
-fn acts(alloc: Global, k: usize) -> Result<(), Fail> {
+fn acts(rt: &(impl Abort + AllocGlobal), k: usize) {
     does(
-        alloc,
+        rt,
         &[Deed::Plays(usize::MAX, &[ROW_1]), Deed::Acts(UNSENT, k)],
-    )
+    );
 }
 
 #[test]
-fn unsent_requests_have_acted(rt: HostRuntime) -> Result<(), Fail> {
+fn unsent_requests_have_acted(rt: HostRuntime) {
     for &k in BREAKS {
-        acts(rt.alloc(), k)?;
+        acts(&rt, k);
     }
-    Ok(())
 }
 
 /// The activation of the first plan, whose answer breaks off, and the path behind it.
@@ -145,24 +144,23 @@ const ACTIVATED_ONCE: &[&str] = &[
 const ACTIVATION_BREAKS: &[usize] = &[0, 40, 160, 247];
 
 /// The activation has acted as its answer would have said.
-fn activates(alloc: Global, k: usize) -> Result<(), Fail> {
+fn activates(rt: &(impl Abort + AllocGlobal), k: usize) {
     does(
-        alloc,
+        rt,
         &[
             WORKED,
             Deed::Plays(usize::MAX, &[TRIED]),
             Deed::Acts(UNSENT_ACTIVATION, k),
             Deed::Plays(usize::MAX, &[ACTIVATED_ONCE]),
         ],
-    )
+    );
 }
 
 #[test]
-fn unsent_activation_has_acted(rt: HostRuntime) -> Result<(), Fail> {
+fn unsent_activation_has_acted(rt: HostRuntime) {
     for &k in ACTIVATION_BREAKS {
-        activates(rt.alloc(), k)?;
+        activates(&rt, k);
     }
-    Ok(())
 }
 
 /// The first import, the question about its ports, a refused request, an import whose read fails, the
@@ -188,6 +186,6 @@ const SERVES_LIST: &[Deed<'static>] = &[
 ];
 
 #[test]
-fn connections_are_served_as_a_list(rt: HostRuntime) -> Result<(), Fail> {
-    does(rt.alloc(), SERVES_LIST)
+fn connections_are_served_as_a_list(rt: HostRuntime) {
+    does(&rt, SERVES_LIST);
 }

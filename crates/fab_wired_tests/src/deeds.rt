@@ -1,15 +1,17 @@
-//! What is done with a new desk: a list of it is cheaper to prove than a test that does it all.
+//! What is done with a new desk, one deed after the other: the tests list it.
 
 use super::breaks::{Side, act, are_cut, bytes_survive, imports_count, survive, take_none};
 use super::bytes::Bytes;
-use super::desks::{DeskOver, desk_of, new_tables};
+use super::desks::{DeskOver, Serving, made};
 use super::stages::sets;
-use super::turns::{plays_all, plays_text, serves_each};
+use super::turns::{plays, plays_all, serves_each};
 use super::waiting::{Waiting, serves_list};
-use fab_policy_base::TRIAL_POLICY;
-use fab_store::Store;
+use fab_policy_base::{Policy, TRIAL_POLICY};
+use fab_store::{RefusingStore, SqlStore, Store};
+use fab_wire::Desk;
+use sqlite::{Alter, Connection};
 use std::alloc::Global;
-use std::test::Fail;
+use std::process::Abort;
 
 /// Something that is done with a desk.
 #[derive(Clone, Copy)]
@@ -24,7 +26,7 @@ pub enum Deed<'t> {
     /// The same of the bytes of requests.
     SurvivesBytes(Side, &'t [Bytes]),
     /// In place of the end of these inputs a read fails.
-    IsCut(&'t [&'t [u8]]),
+    IsCut(&'t [&'t str]),
     /// It is asked for so many imports, whose answers break off before another byte each.
     Imports(usize),
     /// The answers of these requests break off before the byte of this number, and then what stands
@@ -41,117 +43,120 @@ pub enum Deed<'t> {
 }
 
 /// Stages the plan of sets.
-fn stages_sets<S: Store<Global>>(alloc: Global, desk: &mut DeskOver<S>) -> Result<(), Fail> {
-    let text = sets(alloc)?;
-    plays_text(alloc, desk, usize::MAX, text.as_str())
-}
-
-/// Opens a halted desk again over the store that it hands out.
-fn open_again<S: Store<Global>>(desk: &mut DeskOver<S>) -> Result<(), Fail> {
-    let Some(store) = desk.release() else {
-        return Err(Fail::new("no store"));
-    };
-    match desk.reopen(store) {
-        Ok(()) => Ok(()),
-        Err(_) => Err(Fail::new("not opened")),
-    }
-}
-
-/// Does what breaks connections.
-fn break_it<S: Store<Global>>(
-    alloc: Global,
-    desk: &mut DeskOver<S>,
-    deed: Deed<'_>,
-) -> Result<(), Fail> {
-    match deed {
-        Deed::Survives(side, turns) => survive(alloc, desk, side, turns),
-        Deed::SurvivesBytes(side, requests) => bytes_survive(alloc, desk, side, requests),
-        Deed::IsCut(inputs) => are_cut(alloc, desk, inputs),
-        Deed::Imports(times) => imports_count(alloc, desk, times),
-        Deed::Acts(turns, k) => act(alloc, desk, turns, k),
-        Deed::IsNotTaken(turns) => take_none(alloc, desk, turns),
-        _ => Err(Fail::new("deed")),
-    }
+fn stages_sets(rt: &(impl Abort + AllocGlobal), desk: &mut impl Serving) {
+    let text = sets(rt);
+    plays(rt, desk, usize::MAX, text.as_str());
 }
 
 /// Does it with the desk.
-fn do_one<S: Store<Global>>(
-    alloc: Global,
-    desk: &mut DeskOver<S>,
-    deed: Deed<'_>,
-) -> Result<(), Fail> {
+fn do_one(rt: &(impl Abort + AllocGlobal), desk: &mut impl Serving, deed: Deed<'_>) {
     match deed {
-        Deed::Plays(most, stages) => plays_all(alloc, desk, most, stages),
-        Deed::Serves(most, requests) => serves_each(alloc, desk, most, requests),
-        Deed::ServesList(list) => serves_list(alloc, desk, list),
-        Deed::StagesSets => stages_sets(alloc, desk),
-        Deed::IsReopened => open_again(desk),
-        _ => break_it(alloc, desk, deed),
+        Deed::Plays(most, stages) => plays_all(rt, desk, most, stages),
+        Deed::Serves(most, requests) => serves_each(rt, desk, most, requests),
+        Deed::Survives(side, turns) => survive(rt, desk, side, turns),
+        Deed::SurvivesBytes(side, requests) => bytes_survive(rt, desk, side, requests),
+        Deed::IsCut(inputs) => are_cut(rt, desk, inputs),
+        Deed::Imports(times) => imports_count(rt, desk, times),
+        Deed::Acts(turns, k) => act(rt, desk, turns, k),
+        Deed::IsNotTaken(turns) => take_none(rt, desk, turns),
+        Deed::ServesList(list) => serves_list(rt, desk, list),
+        Deed::StagesSets => stages_sets(rt, desk),
+        Deed::IsReopened => assert!(rt; desk.is_reopened()),
     }
 }
 
 /// Does each with the desk, one after the other.
-fn do_all<S: Store<Global>>(
-    alloc: Global,
-    desk: &mut DeskOver<S>,
-    deeds: &[Deed<'_>],
-) -> Result<(), Fail> {
+fn do_all(rt: &(impl Abort + AllocGlobal), desk: &mut impl Serving, deeds: &[Deed<'_>]) {
     for deed in deeds {
-        do_one(alloc, desk, *deed)?;
+        do_one(rt, desk, *deed);
     }
-    Ok(())
 }
 
 /// Does each with a desk over a store, with a policy by its text.
-///
-/// # Errors
-/// The first deed that fails, and where there is no store or no memory, or the text is no policy.
-pub fn do_over<S: Store<Global>>(
-    alloc: Global,
-    store: Result<S, Fail>,
+fn do_over<S: Store<Global>>(
+    rt: &(impl Abort + AllocGlobal),
+    store: S,
     policy: &str,
     deeds: &[Deed<'_>],
-) -> Result<(), Fail> {
-    let mut desk = desk_of(alloc, store, policy)?;
-    do_all(alloc, &mut desk, deeds)
+) {
+    let Ok(policy) = Policy::read(rt.alloc(), policy) else {
+        panic!(rt; "no policy");
+    };
+    let opened: Result<DeskOver<S>, _> = Desk::open(rt.alloc(), store, policy);
+    match opened {
+        Ok(mut desk) => do_all(rt, &mut desk, deeds),
+        Err(_) => panic!(rt; "no desk"),
+    }
+}
+
+/// The same over a store of which one call is refused, if one is to be: so many are handed on before
+/// it, and opening is the first.
+fn do_refused<S: Store<Global>>(
+    rt: &(impl Abort + AllocGlobal),
+    store: S,
+    policy: &str,
+    calls: Option<u64>,
+    deeds: &[Deed<'_>],
+) {
+    match calls {
+        Some(calls) => do_over(rt, RefusingStore::new(store, calls), policy, deeds),
+        None => do_over(rt, store, policy, deeds),
+    }
+}
+
+/// The same over new tables, which are made.
+fn do_anew<S: Alter + Drop>(
+    rt: &(impl Abort + AllocGlobal),
+    tables: SqlStore<S>,
+    policy: &str,
+    calls: Option<u64>,
+    deeds: &[Deed<'_>],
+) {
+    do_refused(rt, made(rt, tables), policy, calls, deeds);
+}
+
+/// Does each with a new desk in memory, with a policy by its text, whose store refuses the call behind
+/// so many, if it is to refuse one.
+pub fn does_by(
+    rt: &(impl Abort + AllocGlobal),
+    policy: &str,
+    calls: Option<u64>,
+    deeds: &[Deed<'_>],
+) {
+    let Ok(connection) = Connection::open_in_memory(rt.alloc()) else {
+        panic!(rt; "no connection");
+    };
+    do_anew(
+        rt,
+        SqlStore::new(connection, rt.alloc()),
+        policy,
+        calls,
+        deeds,
+    );
 }
 
 /// Does each with a new desk in memory, which has the policy of the tests.
-///
-/// # Errors
-/// The first deed that fails, and where there is no memory.
-pub fn does(alloc: Global, deeds: &[Deed<'_>]) -> Result<(), Fail> {
-    do_over(alloc, new_tables(alloc), TRIAL_POLICY, deeds)
+pub fn does(rt: &(impl Abort + AllocGlobal), deeds: &[Deed<'_>]) {
+    does_by(rt, TRIAL_POLICY, None, deeds);
 }
 
 /// Serves lists of requests, and then the bytes of further ones, over a new desk.
-fn holds_by(
-    alloc: Global,
-    most: usize,
-    stages: &[&[&str]],
-    requests: &[Bytes],
-) -> Result<(), Fail> {
+fn holds_by(rt: &(impl Abort + AllocGlobal), most: usize, stages: &[&[&str]], requests: &[Bytes]) {
     does(
-        alloc,
+        rt,
         &[Deed::Plays(most, stages), Deed::Serves(most, requests)],
-    )
+    );
 }
 
-/// Whether a new desk answers each request of these lists as they say, and then each of these bytes:
-/// where a read gets all bytes, and again where it gets one.
-///
-/// # Errors
-/// The first answer that is another, and where there is no memory.
-pub fn holds_bytes(alloc: Global, stages: &[&[&str]], requests: &[Bytes]) -> Result<(), Fail> {
-    holds_by(alloc, usize::MAX, stages, requests)?;
-    holds_by(alloc, 1, stages, requests)
+/// A new desk answers each request of these lists as they say, and then each of these bytes: where a
+/// read gets all bytes, and again where it gets one.
+pub fn holds_bytes(rt: &(impl Abort + AllocGlobal), stages: &[&[&str]], requests: &[Bytes]) {
+    holds_by(rt, usize::MAX, stages, requests);
+    holds_by(rt, 1, stages, requests);
 }
 
-/// Whether a new desk answers each request of these lists as they say: where a read gets all bytes,
-/// and again where it gets one.
-///
-/// # Errors
-/// The first answer that is another, and where there is no memory.
-pub fn holds(alloc: Global, stages: &[&[&str]]) -> Result<(), Fail> {
-    holds_bytes(alloc, stages, &[])
+/// A new desk answers each request of these lists as they say: where a read gets all bytes, and again
+/// where it gets one.
+pub fn holds(rt: &(impl Abort + AllocGlobal), stages: &[&[&str]]) {
+    holds_bytes(rt, stages, &[]);
 }

@@ -1,65 +1,88 @@
-//! A new desk in memory.
+//! A new desk in memory, and what the tests ask of a desk.
 
-use fab_policy_base::Policy;
+use fab_exchanges::streams::{Breaking, Slow};
 use fab_port_book::PortBook;
 use fab_store::{SqlStore, Store};
-use fab_wire::Desk;
-use sqlite::{Alter, Connection, MemStore};
-use std::alloc::Global;
-use std::test::Fail;
-
-/// The tables of a desk in memory.
-pub type Tables = SqlStore<MemStore>;
+use fab_wire::laws::{Connection, Served, serve_all};
+use fab_wire::{Desk, serve_one};
+use fab_wire_base::routes::Routes;
+use sqlite::Alter;
+use std::alloc::{AllocError, Global};
+use std::process::Abort;
 
 /// A desk over a store.
 pub type DeskOver<S> = Desk<Global, S, PortBook<Global>>;
 
+/// What the tests ask of a desk, whatever store it stands over.
+pub trait Serving {
+    /// Serves a connection by these routes.
+    fn serve<'t>(
+        &mut self,
+        alloc: Global,
+        routes: &Routes,
+        connection: Connection<Slow<'t>, Breaking>,
+    ) -> Served<Slow<'t>, Breaking>;
+
+    /// Serves connections as one list by these routes.
+    ///
+    /// # Errors
+    /// Where there is no memory.
+    fn serve_list<'t>(
+        &mut self,
+        alloc: Global,
+        routes: &Routes,
+        connections: Vec<Connection<Slow<'t>, Breaking>>,
+    ) -> Result<Vec<Served<Slow<'t>, Breaking>>, AllocError>;
+
+    /// Opens the desk again, where it is halted, over the store that it hands out. Whether it could.
+    fn is_reopened(&mut self) -> bool;
+}
+
+impl<S: Store<Global>> Serving for DeskOver<S> {
+    fn serve<'t>(
+        &mut self,
+        alloc: Global,
+        routes: &Routes,
+        connection: Connection<Slow<'t>, Breaking>,
+    ) -> Served<Slow<'t>, Breaking> {
+        let Connection {
+            moment,
+            mut reader,
+            mut writer,
+        } = connection;
+        let outcome = serve_one(alloc, alloc, routes, self, moment, &mut reader, &mut writer);
+        Served {
+            outcome,
+            reader,
+            writer,
+        }
+    }
+
+    fn serve_list<'t>(
+        &mut self,
+        alloc: Global,
+        routes: &Routes,
+        connections: Vec<Connection<Slow<'t>, Breaking>>,
+    ) -> Result<Vec<Served<Slow<'t>, Breaking>>, AllocError> {
+        serve_all(alloc, alloc, routes, self, connections)
+    }
+
+    fn is_reopened(&mut self) -> bool {
+        let Some(store) = self.release() else {
+            return false;
+        };
+        match self.reopen(store) {
+            Ok(()) => true,
+            Err(_) => false,
+        }
+    }
+}
+
 /// The tables, which are made.
-fn made<S: Alter + Drop>(tables: SqlStore<S>) -> Result<SqlStore<S>, Fail> {
+pub fn made<S: Alter + Drop>(rt: &impl Abort, tables: SqlStore<S>) -> SqlStore<S> {
     let mut tables = tables;
     match tables.init() {
-        Ok(()) => Ok(tables),
-        Err(_) => Err(Fail::new("no tables")),
+        Ok(()) => tables,
+        Err(_) => panic!(rt; "no tables"),
     }
-}
-
-/// The tables of a new desk.
-///
-/// # Errors
-/// Where there is no memory.
-pub fn new_tables(alloc: Global) -> Result<Tables, Fail> {
-    let Ok(connection) = Connection::open_in_memory(alloc) else {
-        return Err(Fail::new("no connection"));
-    };
-    made(SqlStore::new(connection, alloc))
-}
-
-/// The policy of a text.
-fn policy_of(alloc: Global, text: &str) -> Result<Policy, Fail> {
-    match Policy::read(alloc, text) {
-        Ok(policy) => Ok(policy),
-        Err(_) => Err(Fail::new("no policy")),
-    }
-}
-
-/// The desk, if one was opened.
-fn opened<D: Drop, E: Drop>(desk: Result<D, E>) -> Result<D, Fail> {
-    match desk {
-        Ok(desk) => Ok(desk),
-        Err(_) => Err(Fail::new("no desk")),
-    }
-}
-
-/// A desk over a store, if there is one, with a policy by its text.
-///
-/// # Errors
-/// Where there is no store or no memory, or the text is no policy.
-pub fn desk_of<S: Store<Global>>(
-    alloc: Global,
-    store: Result<S, Fail>,
-    policy: &str,
-) -> Result<DeskOver<S>, Fail> {
-    let store = store?;
-    let policy = policy_of(alloc, policy)?;
-    opened(Desk::open(alloc, store, policy))
 }

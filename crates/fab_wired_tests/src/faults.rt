@@ -3,7 +3,6 @@
 use super::bytes::REFUSED;
 use super::deeds::{Deed, does, holds, holds_bytes};
 use fab_exchanges::rows::{FIRST_PLAN, WORLD};
-use std::test::Fail;
 
 /// Paths that lead nowhere, paths that name nothing, and bodies that are none.
 const ASKED: &[&str] = &[
@@ -33,8 +32,8 @@ default C permit
 ];
 
 #[test]
-fn requests_are_refused(rt: HostRuntime) -> Result<(), Fail> {
-    holds_bytes(rt.alloc(), &[WORLD, ASKED], REFUSED)
+fn requests_are_refused(rt: HostRuntime) {
+    holds_bytes(&rt, &[WORLD, ASKED], REFUSED);
 }
 
 /// Puts and drops after the first plan.
@@ -76,8 +75,8 @@ sg.new g1 blue arr1
 ];
 
 #[test]
-fn records_refuse(rt: HostRuntime) -> Result<(), Fail> {
-    holds(rt.alloc(), &[WORLD, FIRST_PLAN, STOCK, STEPS])
+fn records_refuse(rt: HostRuntime) {
+    holds(&rt, &[WORLD, FIRST_PLAN, STOCK, STEPS]);
 }
 
 /// What is answered of the plan with as many sets as there may be, where one is there already.
@@ -92,6 +91,6 @@ const SETS: &[Deed<'static>] = &[
 ];
 
 #[test]
-fn limit_is_told(rt: HostRuntime) -> Result<(), Fail> {
-    does(rt.alloc(), SETS)
+fn limit_is_told(rt: HostRuntime) {
+    does(&rt, SETS);
 }

@@ -2,7 +2,6 @@
 
 use super::deeds::holds;
 use fab_exchanges::rows::{APPROVALS, FIRST_PLAN, SECOND_PLAN, WORLD};
-use std::test::Fail;
 
 /// A plan of fabric B, and who approves it.
 const SIGNED: &[&str] = &[
@@ -28,11 +27,10 @@ const SHUT: &[&str] = &[
 ];
 
 #[test]
-fn row_10(rt: HostRuntime) -> Result<(), Fail> {
+fn row_10(rt: HostRuntime) {
     for turn in OPEN {
-        holds(rt.alloc(), &[WORLD, SIGNED, SHUT, &[turn]])?;
+        holds(&rt, &[WORLD, SIGNED, SHUT, &[turn]]);
     }
-    Ok(())
 }
 
 const ROW_11: &[&str] = &[
@@ -43,13 +41,13 @@ const ROW_11: &[&str] = &[
 ];
 
 #[test]
-fn row_11(rt: HostRuntime) -> Result<(), Fail> {
-    holds(rt.alloc(), &[WORLD, ROW_11])
+fn row_11(rt: HostRuntime) {
+    holds(&rt, &[WORLD, ROW_11]);
 }
 
 #[test]
-fn row_12(rt: HostRuntime) -> Result<(), Fail> {
-    holds(rt.alloc(), &[WORLD, APPROVALS])
+fn row_12(rt: HostRuntime) {
+    holds(&rt, &[WORLD, APPROVALS]);
 }
 
 /// A plan about another tenant's host, and a look at its paths.
@@ -71,7 +69,7 @@ activate A s1
 ];
 
 #[test]
-fn row_17(rt: HostRuntime) -> Result<(), Fail> {
-    holds(rt.alloc(), &[WORLD, FOREIGN])?;
-    holds(rt.alloc(), &[WORLD, FIRST_PLAN, SECOND_PLAN, LOSING])
+fn row_17(rt: HostRuntime) {
+    holds(&rt, &[WORLD, FOREIGN]);
+    holds(&rt, &[WORLD, FIRST_PLAN, SECOND_PLAN, LOSING]);
 }

@@ -10,6 +10,8 @@ mod broken;
 #[cfg(test)]
 mod bytes;
 #[cfg(test)]
+mod calls;
+#[cfg(test)]
 mod deeds;
 #[cfg(test)]
 mod desks;

@@ -4,11 +4,10 @@ use super::bytes::{FIRST, JOINED, PATHS};
 use super::deeds::{holds, holds_bytes};
 use super::stages::ROW_1;
 use fab_exchanges::rows::{ALIAS_PUT_ANEW, FIRST_PLAN, SECOND_PLAN, WORLD};
-use std::test::Fail;
 
 #[test]
-fn row_1(rt: HostRuntime) -> Result<(), Fail> {
-    holds_bytes(rt.alloc(), &[], FIRST)
+fn row_1(rt: HostRuntime) {
+    holds_bytes(&rt, &[], FIRST);
 }
 
 const ROW_2: &[&str] = &[
@@ -20,8 +19,8 @@ const ROW_2: &[&str] = &[
 ];
 
 #[test]
-fn row_2(rt: HostRuntime) -> Result<(), Fail> {
-    holds_bytes(rt.alloc(), &[ROW_1, ROW_2], JOINED)
+fn row_2(rt: HostRuntime) {
+    holds_bytes(&rt, &[ROW_1, ROW_2], JOINED);
 }
 
 /// No port is logged in at A any more; what is logged in at B stays there.
@@ -40,8 +39,8 @@ const ROW_3: &[&str] = &[
 ];
 
 #[test]
-fn row_3(rt: HostRuntime) -> Result<(), Fail> {
-    holds(rt.alloc(), &[WORLD, FIRST_PLAN, ROW_3])
+fn row_3(rt: HostRuntime) {
+    holds(&rt, &[WORLD, FIRST_PLAN, ROW_3]);
 }
 
 /// Two records of one port: equal as values, and not.
@@ -58,18 +57,18 @@ const ROW_4: &[&str] = &[
 ];
 
 #[test]
-fn row_4(rt: HostRuntime) -> Result<(), Fail> {
-    holds(rt.alloc(), &[ROW_4])
+fn row_4(rt: HostRuntime) {
+    holds(&rt, &[ROW_4]);
 }
 
 #[test]
-fn row_5(rt: HostRuntime) -> Result<(), Fail> {
-    holds_bytes(rt.alloc(), &[WORLD, FIRST_PLAN], PATHS)
+fn row_5(rt: HostRuntime) {
+    holds_bytes(&rt, &[WORLD, FIRST_PLAN], PATHS);
 }
 
 #[test]
-fn row_6(rt: HostRuntime) -> Result<(), Fail> {
-    holds(rt.alloc(), &[WORLD, FIRST_PLAN, ALIAS_PUT_ANEW])
+fn row_6(rt: HostRuntime) {
+    holds(&rt, &[WORLD, FIRST_PLAN, ALIAS_PUT_ANEW]);
 }
 
 /// Two zones join the ports, and then one.
@@ -89,8 +88,8 @@ activate A s2
 ];
 
 #[test]
-fn row_7(rt: HostRuntime) -> Result<(), Fail> {
-    holds(rt.alloc(), &[WORLD, FIRST_PLAN, ROW_7])
+fn row_7(rt: HostRuntime) {
+    holds(&rt, &[WORLD, FIRST_PLAN, ROW_7]);
 }
 
 /// The default zone joins ports that are in no zone alone.
@@ -106,8 +105,8 @@ activate A s1
 ];
 
 #[test]
-fn row_8(rt: HostRuntime) -> Result<(), Fail> {
-    holds(rt.alloc(), &[WORLD, FIRST_PLAN, ROW_8])
+fn row_8(rt: HostRuntime) {
+    holds(&rt, &[WORLD, FIRST_PLAN, ROW_8]);
 }
 
 /// A zone of one node joins the ports of that node.
@@ -122,6 +121,6 @@ activate A s1
 ];
 
 #[test]
-fn row_9(rt: HostRuntime) -> Result<(), Fail> {
-    holds(rt.alloc(), &[WORLD, FIRST_PLAN, SECOND_PLAN, NODE])
+fn row_9(rt: HostRuntime) {
+    holds(&rt, &[WORLD, FIRST_PLAN, SECOND_PLAN, NODE]);
 }

@@ -3,7 +3,6 @@
 use super::bytes::ROW_16;
 use super::deeds::{holds, holds_bytes};
 use fab_exchanges::rows::{FIRST_PLAN, ROLLED_BACK, UNIT_CLASH, UNMAPPED, VOLUME_GONE, WORLD};
-use std::test::Fail;
 
 /// A third step that names a zone which is not there; nothing of the plan stands.
 const ROW_13: &[&str] = &[
@@ -17,24 +16,24 @@ set.put A s8 z9
 ];
 
 #[test]
-fn row_13(rt: HostRuntime) -> Result<(), Fail> {
-    holds(rt.alloc(), &[WORLD, ROW_13])
+fn row_13(rt: HostRuntime) {
+    holds(&rt, &[WORLD, ROW_13]);
 }
 
 #[test]
-fn row_14(rt: HostRuntime) -> Result<(), Fail> {
-    holds(rt.alloc(), &[WORLD, FIRST_PLAN, UNIT_CLASH])
+fn row_14(rt: HostRuntime) {
+    holds(&rt, &[WORLD, FIRST_PLAN, UNIT_CLASH]);
 }
 
 #[test]
-fn row_15(rt: HostRuntime) -> Result<(), Fail> {
-    holds(rt.alloc(), &[WORLD, FIRST_PLAN, UNMAPPED, VOLUME_GONE])?;
-    holds(rt.alloc(), &[WORLD, FIRST_PLAN, UNMAPPED, ROLLED_BACK])
+fn row_15(rt: HostRuntime) {
+    holds(&rt, &[WORLD, FIRST_PLAN, UNMAPPED, VOLUME_GONE]);
+    holds(&rt, &[WORLD, FIRST_PLAN, UNMAPPED, ROLLED_BACK]);
 }
 
 #[test]
-fn row_16(rt: HostRuntime) -> Result<(), Fail> {
-    holds_bytes(rt.alloc(), &[WORLD], ROW_16)
+fn row_16(rt: HostRuntime) {
+    holds_bytes(&rt, &[WORLD], ROW_16);
 }
 
 /// A plan that is staged again: as it was, with other steps, and by another.
@@ -67,8 +66,8 @@ sg.expose g1
 ];
 
 #[test]
-fn row_18(rt: HostRuntime) -> Result<(), Fail> {
-    holds(rt.alloc(), &[WORLD, FIRST_PLAN, ROW_18])
+fn row_18(rt: HostRuntime) {
+    holds(&rt, &[WORLD, FIRST_PLAN, ROW_18]);
 }
 
 /// A host that is not there.
@@ -83,6 +82,6 @@ const ROW_20: &[&str] = &[
 ];
 
 #[test]
-fn row_20(rt: HostRuntime) -> Result<(), Fail> {
-    holds(rt.alloc(), &[WORLD, ABSENT, FIRST_PLAN, ROW_20])
+fn row_20(rt: HostRuntime) {
+    holds(&rt, &[WORLD, ABSENT, FIRST_PLAN, ROW_20]);
 }

@@ -2,32 +2,9 @@
 //! names.
 
 use super::bytes::Bytes;
-use super::deeds::{Deed, do_over, does};
-use super::desks::new_tables;
+use super::deeds::{Deed, does, does_by};
 use super::stages::ROW_1;
 use fab_policy_base::TRIAL_POLICY;
-use fab_store::{RefusingStore, Store};
-use std::alloc::Global;
-use std::test::Fail;
-
-/// The store, if there is one, of which one call is refused: so many are handed on, and opening is the
-/// first.
-fn refusing<S: Store<Global>>(
-    store: Result<S, Fail>,
-    calls: u64,
-) -> Result<RefusingStore<S>, Fail> {
-    Ok(RefusingStore::new(store?, calls))
-}
-
-/// Does each with a new desk over a store that refuses one call.
-fn does_refused(alloc: Global, calls: u64, deeds: &[Deed<'_>]) -> Result<(), Fail> {
-    do_over(
-        alloc,
-        refusing(new_tables(alloc), calls),
-        TRIAL_POLICY,
-        deeds,
-    )
-}
 
 /// The store refuses to commit, which halts the desk: a path that has no route and a body that is none
 /// are told so still, and all else that the desk is halted.
@@ -61,8 +38,8 @@ const HALTS: &[Deed<'static>] = &[
 ];
 
 #[test]
-fn refused_change_halts(rt: HostRuntime) -> Result<(), Fail> {
-    does_refused(rt.alloc(), 1, HALTS)
+fn refused_change_halts(rt: HostRuntime) {
+    does_by(&rt, TRIAL_POLICY, Some(1), HALTS);
 }
 
 /// The store refuses to read, and the desk serves on.
@@ -75,8 +52,8 @@ const READ_IS_REFUSED: &[&str] = &[
 const SERVES_ON: &[Deed<'static>] = &[Deed::Plays(usize::MAX, &[READ_IS_REFUSED])];
 
 #[test]
-fn refused_read_halts_nothing(rt: HostRuntime) -> Result<(), Fail> {
-    does_refused(rt.alloc(), 2, SERVES_ON)
+fn refused_read_halts_nothing(rt: HostRuntime) {
+    does_by(&rt, TRIAL_POLICY, Some(2), SERVES_ON);
 }
 
 /// A policy in which no rule names anything but the inventory.
@@ -102,8 +79,8 @@ const NO_RULE: &[&str] = &[
 const IS_DENIED: &[Deed<'static>] = &[Deed::Plays(usize::MAX, &[NO_RULE])];
 
 #[test]
-fn no_rule_names_the_action(rt: HostRuntime) -> Result<(), Fail> {
-    do_over(rt.alloc(), new_tables(rt.alloc()), NARROW, IS_DENIED)
+fn no_rule_names_the_action(rt: HostRuntime) {
+    does_by(&rt, NARROW, None, IS_DENIED);
 }
 
 /// What the unsent import has done.
@@ -118,6 +95,6 @@ const IS_NOT_TAKEN: &[Deed<'static>] = &[
 ];
 
 #[test]
-fn writer_takes_nothing(rt: HostRuntime) -> Result<(), Fail> {
-    does(rt.alloc(), IS_NOT_TAKEN)
+fn writer_takes_nothing(rt: HostRuntime) {
+    does(&rt, IS_NOT_TAKEN);
 }

@@ -2,7 +2,6 @@
 
 use super::deeds::holds;
 use fab_exchanges::rows::{FIRST_PLAN, SECOND_PLAN, WORLD};
-use std::test::Fail;
 
 /// The records of the worked world; another tenant's are not there.
 const RECORDS: &[&str] = &[
@@ -18,8 +17,8 @@ const RECORDS: &[&str] = &[
 ];
 
 #[test]
-fn records_are_shown(rt: HostRuntime) -> Result<(), Fail> {
-    holds(rt.alloc(), &[WORLD, RECORDS])
+fn records_are_shown(rt: HostRuntime) {
+    holds(&rt, &[WORLD, RECORDS]);
 }
 
 /// The configuration after two plans.
@@ -52,8 +51,8 @@ default A permit -> 200 OK: {"plan":"f1","steps":4}"#,
 ];
 
 #[test]
-fn configuration_is_shown(rt: HostRuntime) -> Result<(), Fail> {
-    holds(rt.alloc(), &[WORLD, FIRST_PLAN, SECOND_PLAN, CONFIGURATION])
+fn configuration_is_shown(rt: HostRuntime) {
+    holds(&rt, &[WORLD, FIRST_PLAN, SECOND_PLAN, CONFIGURATION]);
 }
 
 /// A plan in each of its states.
@@ -76,7 +75,7 @@ const STATES: &[&str] = &[
 ];
 
 #[test]
-fn plans_are_shown(rt: HostRuntime) -> Result<(), Fail> {
-    holds(rt.alloc(), &[WORLD, STATES])?;
-    holds(rt.alloc(), &[WORLD, FIRST_PLAN, FORMS])
+fn plans_are_shown(rt: HostRuntime) {
+    holds(&rt, &[WORLD, STATES]);
+    holds(&rt, &[WORLD, FIRST_PLAN, FORMS]);
 }
