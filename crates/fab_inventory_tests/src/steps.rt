@@ -6,7 +6,12 @@ use fab_inventory::{
 use fab_names::{Fabric, Name, Place, Wwn};
 use std::alloc::Global;
 use std::collections::BTreeMap;
-use std::test::Fail;
+use std::process::Abort;
+
+/// A name.
+fn named(rt: &impl Abort, text: &str) -> Name {
+    Name::read(text).expect(rt, "a name")
+}
 
 /// A change or a question. Ports and domains are numbers; each port is at port 1 of its domain.
 #[derive(Clone, Copy)]
@@ -172,75 +177,47 @@ fn place(domain: u8) -> Place {
 }
 
 /// The ports of numbers.
-fn ports_of(alloc: Global, numbers: &[u64]) -> Result<Vec<Wwn>, Fail> {
-    let mut ports = Vec::new(alloc);
+fn ports_of(rt: &(impl Abort + AllocGlobal), numbers: &[u64]) -> Vec<Wwn> {
+    let mut ports = Vec::new(rt.alloc());
     for number in numbers {
-        ports.push(port(*number))?;
+        ports.push(port(*number)).expect(rt, "memory");
     }
-    Ok(ports)
+    ports
 }
 
 /// The records of ports at domains.
-fn rows_of(alloc: Global, listed: &[(u64, u8)]) -> Result<Vec<PortRow>, Fail> {
-    let mut rows = Vec::new(alloc);
+fn rows_of(rt: &(impl Abort + AllocGlobal), listed: &[(u64, u8)]) -> Vec<PortRow> {
+    let mut rows = Vec::new(rt.alloc());
     for (number, domain) in listed {
-        let name = port(*number);
-        let node = port(99);
-        rows.push(PortRow {
-            name,
-            node,
+        let row = PortRow {
+            name: port(*number),
+            node: port(99),
             place: place(*domain),
-        })?;
+        };
+        rows.push(row).expect(rt, "memory");
     }
-    Ok(rows)
-}
-
-fn import(
-    inventory: &mut Inventory<Global>,
-    alloc: Global,
-    fabric: Fabric,
-    listed: &[(u64, u8)],
-) -> Result<Result<(), InventoryFault>, Fail> {
-    let rows = rows_of(alloc, listed)?;
-    Ok(inventory.import(fabric, rows.as_slice()))
-}
-
-fn put_holder(
-    inventory: &mut Inventory<Global>,
-    alloc: Global,
-    name: &str,
-    kind: HolderKind,
-    listed: &[u64],
-) -> Result<Result<(), InventoryFault>, Fail> {
-    let name = Name::read(name)?;
-    let ports = ports_of(alloc, listed)?;
-    Ok(inventory.put_holder(name, kind, name, ports.as_slice()))
-}
-
-fn put_volume(
-    inventory: &mut Inventory<Global>,
-    name: &str,
-    array: &str,
-    bytes: u64,
-) -> Result<Result<(), InventoryFault>, Fail> {
-    let name = Name::read(name)?;
-    let array = Name::read(array)?;
-    Ok(inventory.put_volume(name, array, name, bytes))
+    rows
 }
 
 /// What the change is answered, or that it is no change.
 fn change(
     inventory: &mut Inventory<Global>,
-    alloc: Global,
+    rt: &(impl Abort + AllocGlobal),
     step: Step,
-) -> Result<Result<(), InventoryFault>, Fail> {
+) -> Result<(), InventoryFault> {
     match step {
-        Step::Import(fabric, listed) => import(inventory, alloc, fabric, listed),
-        Step::PutHolder(name, kind, ports) => put_holder(inventory, alloc, name, kind, ports),
-        Step::DropHolder(name) => Ok(inventory.drop_holder(&Name::read(name)?)),
-        Step::PutVolume(name, array, bytes) => put_volume(inventory, name, array, bytes),
-        Step::DropVolume(name) => Ok(inventory.drop_volume(&Name::read(name)?)),
-        _ => Ok(Ok(())),
+        Step::Import(fabric, listed) => inventory.import(fabric, rows_of(rt, listed).as_slice()),
+        Step::PutHolder(name, kind, listed) => {
+            let name = named(rt, name);
+            inventory.put_holder(name, kind, name, ports_of(rt, listed).as_slice())
+        }
+        Step::DropHolder(name) => inventory.drop_holder(&named(rt, name)),
+        Step::PutVolume(name, array, bytes) => {
+            let name = named(rt, name);
+            inventory.put_volume(name, named(rt, array), name, bytes)
+        }
+        Step::DropVolume(name) => inventory.drop_volume(&named(rt, name)),
+        _ => Ok(()),
     }
 }
 
@@ -266,19 +243,25 @@ fn is_held_by(inventory: &Inventory<Global>, number: u64, holder: Option<&str>) 
 
 fn is_kind(
     inventory: &Inventory<Global>,
+    rt: &impl Abort,
     name: &str,
     kind: Option<HolderKind>,
-) -> Result<bool, Fail> {
-    match inventory.holder(&Name::read(name)?) {
-        Some(holder) => Ok(kind == Some(holder.kind)),
-        None => Ok(kind.is_none()),
+) -> bool {
+    match inventory.holder(&named(rt, name)) {
+        Some(holder) => kind == Some(holder.kind),
+        None => kind.is_none(),
     }
 }
 
-fn has_bytes(inventory: &Inventory<Global>, name: &str, bytes: Option<u64>) -> Result<bool, Fail> {
-    match inventory.volume(&Name::read(name)?) {
-        Some(volume) => Ok(bytes == Some(volume.bytes)),
-        None => Ok(bytes.is_none()),
+fn has_bytes(
+    inventory: &Inventory<Global>,
+    rt: &impl Abort,
+    name: &str,
+    bytes: Option<u64>,
+) -> bool {
+    match inventory.volume(&named(rt, name)) {
+        Some(volume) => bytes == Some(volume.bytes),
+        None => bytes.is_none(),
     }
 }
 
@@ -296,72 +279,66 @@ fn are_ports(found: &[Wwn], numbers: &[u64]) -> bool {
 
 fn leaves(
     inventory: &Inventory<Global>,
-    alloc: Global,
+    rt: &(impl Abort + AllocGlobal),
     name: &str,
     listed: &[u64],
     numbers: &[u64],
-) -> Result<bool, Fail> {
-    let listed = ports_of(alloc, listed)?;
-    let found = inventory.ports_leaving(&Name::read(name)?, listed.as_slice())?;
-    Ok(are_ports(found.as_slice(), numbers))
+) -> bool {
+    let listed = ports_of(rt, listed);
+    let found = inventory
+        .ports_leaving(&named(rt, name), listed.as_slice())
+        .expect(rt, "memory");
+    are_ports(found.as_slice(), numbers)
 }
 
-fn holds(inventory: &Inventory<Global>, name: &str, numbers: &[u64]) -> Result<bool, Fail> {
-    let found = inventory.ports_of(&Name::read(name)?)?;
-    Ok(are_ports(found.as_slice(), numbers))
+fn holds(inventory: &Inventory<Global>, rt: &impl Abort, name: &str, numbers: &[u64]) -> bool {
+    let found = inventory.ports_of(&named(rt, name)).expect(rt, "memory");
+    are_ports(found.as_slice(), numbers)
 }
 
 /// Whether what is asked is so, or that nothing is asked.
-fn is_so(inventory: &Inventory<Global>, alloc: Global, step: Step) -> Result<bool, Fail> {
+fn is_so(inventory: &Inventory<Global>, rt: &(impl Abort + AllocGlobal), step: Step) -> bool {
     match step {
-        Step::At(number, at) => Ok(is_at(inventory, number, at)),
-        Step::HeldBy(number, holder) => Ok(is_held_by(inventory, number, holder)),
-        Step::Kind(name, kind) => is_kind(inventory, name, kind),
-        Step::Bytes(name, bytes) => has_bytes(inventory, name, bytes),
-        Step::PortsOf(name, numbers) => holds(inventory, name, numbers),
-        Step::Leaving(name, listed, numbers) => leaves(inventory, alloc, name, listed, numbers),
-        _ => Ok(true),
+        Step::At(number, at) => is_at(inventory, number, at),
+        Step::HeldBy(number, holder) => is_held_by(inventory, number, holder),
+        Step::Kind(name, kind) => is_kind(inventory, rt, name, kind),
+        Step::Bytes(name, bytes) => has_bytes(inventory, rt, name, bytes),
+        Step::PortsOf(name, numbers) => holds(inventory, rt, name, numbers),
+        Step::Leaving(name, listed, numbers) => leaves(inventory, rt, name, listed, numbers),
+        _ => true,
     }
 }
 
-/// The fault that is wanted, if one is.
-fn fault_of(answer: Answer) -> Result<Option<InventoryFault>, Fail> {
-    let fault = match answer {
-        Answer::Done => return Ok(None),
-        Answer::Clash(number) => InventoryFault::PortClash(port(number)),
-        Answer::UnknownPort(number) => InventoryFault::UnknownPort(port(number)),
-        Answer::Held(number, by) => InventoryFault::PortHeld(port(number), Name::read(by)?),
-        Answer::Unknown(name) => InventoryFault::Unknown(Name::read(name)?),
-        Answer::WrongKind(name) => InventoryFault::WrongKind(Name::read(name)?),
-        Answer::InUse(name, by) => InventoryFault::InUse(Name::read(name)?, Name::read(by)?),
-        Answer::TooMuch(limit) => InventoryFault::Limit(limit),
-    };
-    Ok(Some(fault))
+/// What the change is to be answered.
+fn answer_of(rt: &impl Abort, answer: Answer) -> Result<(), InventoryFault> {
+    match answer {
+        Answer::Done => Ok(()),
+        Answer::Clash(number) => Err(InventoryFault::PortClash(port(number))),
+        Answer::UnknownPort(number) => Err(InventoryFault::UnknownPort(port(number))),
+        Answer::Held(number, by) => Err(InventoryFault::PortHeld(port(number), named(rt, by))),
+        Answer::Unknown(name) => Err(InventoryFault::Unknown(named(rt, name))),
+        Answer::WrongKind(name) => Err(InventoryFault::WrongKind(named(rt, name))),
+        Answer::InUse(name, by) => Err(InventoryFault::InUse(named(rt, name), named(rt, by))),
+        Answer::TooMuch(limit) => Err(InventoryFault::Limit(limit)),
+    }
 }
 
 /// Whether the step is answered so.
 fn take(
     inventory: &mut Inventory<Global>,
-    alloc: Global,
+    rt: &(impl Abort + AllocGlobal),
     step: Step,
     answer: Answer,
-) -> Result<bool, Fail> {
-    match change(inventory, alloc, step)? {
-        Ok(()) => match answer {
-            Answer::Done => is_so(inventory, alloc, step),
-            _ => Ok(false),
-        },
-        Err(fault) => Ok(fault_of(answer)? == Some(fault)),
-    }
+) -> bool {
+    change(inventory, rt, step) == answer_of(rt, answer) && is_so(inventory, rt, step)
 }
 
 #[test]
-fn steps(rt: HostRuntime) -> Result<(), Fail> {
+fn steps(rt: HostRuntime) {
     let mut inventory = Inventory::new(rt.alloc());
     for &(step, answer) in STEPS {
-        assert!(rt; take(&mut inventory, rt.alloc(), step, answer)?);
+        assert!(rt; take(&mut inventory, &rt, step, answer));
     }
-    Ok(())
 }
 
 /// Ports, holders and volumes by their numbers: the first ports are held by the holder, the
@@ -460,14 +437,14 @@ const WORLDS: &[(World, Option<RestoreFault>)] = &[
 ];
 
 /// The name `n` and a number.
-fn numbered(alloc: Global, number: u64) -> Result<Name, Fail> {
-    let text = format!(in alloc; "n{number}")?;
-    Ok(Name::read(text.as_str())?)
+fn numbered(rt: &(impl Abort + AllocGlobal), number: u64) -> Name {
+    let text = format!(in rt.alloc(); "n{number}").expect(rt, "memory");
+    named(rt, text.as_str())
 }
 
-fn known_ports(alloc: Global, world: World) -> Result<BTreeMap<Wwn, Known>, Fail> {
-    let holder = Name::read(world.holder)?;
-    let mut ports = BTreeMap::new(alloc);
+fn known_ports(rt: &(impl Abort + AllocGlobal), world: World) -> BTreeMap<Wwn, Known> {
+    let holder = named(rt, world.holder);
+    let mut ports = BTreeMap::new(rt.alloc());
     for i in 0..world.ports {
         let holder = if i < world.held { Some(holder) } else { None };
         let known = Known {
@@ -475,48 +452,50 @@ fn known_ports(alloc: Global, world: World) -> Result<BTreeMap<Wwn, Known>, Fail
             at: None,
             holder,
         };
-        ports.insert(port(i.saturating_add(1)), known)?;
+        let added: Result<_, _> = ports.insert(port(i.saturating_add(1)), known);
+        added.expect(rt, "memory");
     }
-    Ok(ports)
+    ports
 }
 
-fn named_holders(alloc: Global, world: World) -> Result<BTreeMap<Name, Holder>, Fail> {
-    let tenant = Name::read("blue")?;
-    let mut holders = BTreeMap::new(alloc);
+fn named_holders(rt: &(impl Abort + AllocGlobal), world: World) -> BTreeMap<Name, Holder> {
+    let tenant = named(rt, "blue");
+    let mut holders = BTreeMap::new(rt.alloc());
     for i in 0..world.holders {
-        holders.insert(
-            numbered(alloc, i)?,
-            Holder {
-                kind: world.kind,
-                tenant,
-            },
-        )?;
+        let holder = Holder {
+            kind: world.kind,
+            tenant,
+        };
+        let added: Result<_, _> = holders.insert(numbered(rt, i), holder);
+        added.expect(rt, "memory");
     }
-    Ok(holders)
+    holders
 }
 
-fn named_volumes(alloc: Global, world: World) -> Result<BTreeMap<Name, Volume>, Fail> {
-    let tenant = Name::read("blue")?;
-    let array = Name::read(world.array)?;
-    let mut volumes = BTreeMap::new(alloc);
+fn named_volumes(rt: &(impl Abort + AllocGlobal), world: World) -> BTreeMap<Name, Volume> {
+    let tenant = named(rt, "blue");
+    let array = named(rt, world.array);
+    let mut volumes = BTreeMap::new(rt.alloc());
     for i in 0..world.volumes {
-        volumes.insert(
-            numbered(alloc, i)?,
-            Volume {
-                array,
-                tenant,
-                bytes: world.bytes,
-            },
-        )?;
+        let volume = Volume {
+            array,
+            tenant,
+            bytes: world.bytes,
+        };
+        let added: Result<_, _> = volumes.insert(numbered(rt, i), volume);
+        added.expect(rt, "memory");
     }
-    Ok(volumes)
+    volumes
 }
 
-fn restored(alloc: Global, world: World) -> Result<Result<Inventory<Global>, RestoreFault>, Fail> {
-    let ports = known_ports(alloc, world)?;
-    let holders = named_holders(alloc, world)?;
-    let volumes = named_volumes(alloc, world)?;
-    Ok(Inventory::from_maps(alloc, ports, holders, volumes))
+fn restored(
+    rt: &(impl Abort + AllocGlobal),
+    world: World,
+) -> Result<Inventory<Global>, RestoreFault> {
+    let ports = known_ports(rt, world);
+    let holders = named_holders(rt, world);
+    let volumes = named_volumes(rt, world);
+    Inventory::from_maps(rt.alloc(), ports, holders, volumes)
 }
 
 /// Whether the inventory has as many ports, holders and volumes as the world.
@@ -527,19 +506,22 @@ fn is_world(inventory: &Inventory<Global>, world: World) -> bool {
 }
 
 /// Whether the world is restored, or refused for the fault.
-fn is_restored(alloc: Global, world: World, wanted: Option<RestoreFault>) -> Result<bool, Fail> {
-    match restored(alloc, world)? {
-        Ok(inventory) => Ok(wanted.is_none() && is_world(&inventory, world)),
-        Err(fault) => Ok(wanted == Some(fault)),
+fn is_restored(
+    rt: &(impl Abort + AllocGlobal),
+    world: World,
+    wanted: Option<RestoreFault>,
+) -> bool {
+    match restored(rt, world) {
+        Ok(inventory) => wanted.is_none() && is_world(&inventory, world),
+        Err(fault) => wanted == Some(fault),
     }
 }
 
 #[test]
-fn worlds(rt: HostRuntime) -> Result<(), Fail> {
+fn worlds(rt: HostRuntime) {
     for &(world, wanted) in WORLDS {
-        assert!(rt; is_restored(rt.alloc(), world, wanted)?);
+        assert!(rt; is_restored(&rt, world, wanted));
     }
-    Ok(())
 }
 
 /// Changes of an inventory that is full.
@@ -567,29 +549,17 @@ const AT_THE_LIMITS: &[(Step, Answer)] = &[
 ];
 
 #[test]
-fn limits(rt: HostRuntime) -> Result<(), Fail> {
-    let Ok(mut inventory) = restored(rt.alloc(), FULL)? else {
-        return Err("a full inventory".into());
-    };
+fn limits(rt: HostRuntime) {
+    let mut inventory = restored(&rt, FULL).expect(&rt, "a full inventory");
     for &(step, answer) in AT_THE_LIMITS {
-        assert!(rt; take(&mut inventory, rt.alloc(), step, answer)?);
-    }
-    Ok(())
-}
-
-/// Whether a copy has what the world has.
-fn is_copied(alloc: Global, world: World) -> Result<bool, Fail> {
-    match restored(alloc, world)? {
-        Ok(inventory) => {
-            let copy = inventory.copy()?;
-            Ok(is_world(&copy, world) && is_held_by(&copy, 64, Some("n0")))
-        }
-        Err(_) => Ok(false),
+        assert!(rt; take(&mut inventory, &rt, step, answer));
     }
 }
 
 #[test]
-fn copy_is_equal(rt: HostRuntime) -> Result<(), Fail> {
-    assert!(rt; is_copied(rt.alloc(), SMALL)?);
-    Ok(())
+fn copy_is_equal(rt: HostRuntime) {
+    let inventory = restored(&rt, SMALL).expect(&rt, "a small inventory");
+    let copy = inventory.copy().expect(&rt, "memory");
+    assert!(rt; is_world(&copy, SMALL));
+    assert!(rt; is_held_by(&copy, 64, Some("n0")));
 }

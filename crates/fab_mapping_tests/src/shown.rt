@@ -1,10 +1,9 @@
 //! What is found in a mapping, and what is shown of its groups.
-use crate::stock::{Row, port, world};
+use crate::stock::{Row, named, port, world};
 use fab_mapping::{HostGroup, Mapping, StorageGroup};
 use fab_names::Name;
 use std::alloc::Global;
 use std::process::Abort;
-use std::test::Fail;
 
 /// Storage groups of two arrays.
 const SEARCHED: &[Row] = &[
@@ -44,13 +43,13 @@ const FOUND: &[(Search, Option<&str>)] = &[
 ];
 
 /// The first host group or storage group by name.
-fn find(mapping: &Mapping<Global>, search: &Search) -> Result<Option<Name>, Fail> {
+fn find(rt: &impl Abort, mapping: &Mapping<Global>, search: &Search) -> Option<Name> {
     match *search {
-        Search::Host(host) => Ok(mapping.host_group_with(&Name::read(host)?)),
-        Search::Served(hosts) => Ok(mapping.group_serving(&Name::read(hosts)?)),
-        Search::Target(target) => Ok(mapping.group_with_target(&port(target))),
-        Search::Array(array) => Ok(mapping.group_of_array(&Name::read(array)?)),
-        Search::Volume(volume) => Ok(mapping.group_with_volume(&Name::read(volume)?)),
+        Search::Host(host) => mapping.host_group_with(&named(rt, host)),
+        Search::Served(hosts) => mapping.group_serving(&named(rt, hosts)),
+        Search::Target(target) => mapping.group_with_target(&port(target)),
+        Search::Array(array) => mapping.group_of_array(&named(rt, array)),
+        Search::Volume(volume) => mapping.group_with_volume(&named(rt, volume)),
     }
 }
 
@@ -62,30 +61,24 @@ fn is_found(found: Option<Name>, want: Option<&str>) -> bool {
     }
 }
 
-/// What is searched for is found, or not.
-fn assert_found(rt: &impl Abort, mapping: &Mapping<Global>) -> Result<(), Fail> {
-    for (search, want) in FOUND {
-        assert!(rt; is_found(find(mapping, search)?, *want));
-    }
-    Ok(())
-}
-
 #[test]
-fn the_first_by_name_is_found(rt: HostRuntime) -> Result<(), Fail> {
-    let mapping = world(rt.alloc(), SEARCHED)?;
-    assert_found(&rt, &mapping)
+fn the_first_by_name_is_found(rt: HostRuntime) {
+    let mapping = world(&rt, SEARCHED);
+    for (search, want) in FOUND {
+        assert!(rt; is_found(find(&rt, &mapping, search), *want));
+    }
 }
 
 /// Whether a name of a host group is shown, its tenant is `blue`, and which of two hosts it has.
-fn shown_hosts(mapping: &Mapping<Global>, name: &str) -> Result<[bool; 4], Fail> {
-    match mapping.host_group(&Name::read(name)?) {
-        Some(group) => Ok([
+fn shown_hosts(rt: &impl Abort, mapping: &Mapping<Global>, name: &str) -> [bool; 4] {
+    match mapping.host_group(&named(rt, name)) {
+        Some(group) => [
             true,
             group.tenant().as_str() == "blue",
-            group.has_host(&Name::read("db1")?),
-            group.has_host(&Name::read("db2")?),
-        ]),
-        None => Ok([false; 4]),
+            group.has_host(&named(rt, "db1")),
+            group.has_host(&named(rt, "db2")),
+        ],
+        None => [false; 4],
     }
 }
 
@@ -97,39 +90,28 @@ const SHOWN_HOSTS: &[(&str, [bool; 4])] = &[
     ("g1", [false, false, false, false]),
 ];
 
-/// The host groups are shown so.
-fn assert_hosts_shown(rt: &impl Abort, mapping: &Mapping<Global>) -> Result<(), Fail> {
-    for (name, shown) in SHOWN_HOSTS {
-        assert!(rt; shown_hosts(mapping, name)? == *shown);
-    }
-    Ok(())
-}
-
 #[test]
-fn host_groups_that_are_shown(rt: HostRuntime) -> Result<(), Fail> {
-    let mapping = world(rt.alloc(), SEARCHED)?;
-    assert_hosts_shown(&rt, &mapping)
+fn host_groups_that_are_shown(rt: HostRuntime) {
+    let mapping = world(&rt, SEARCHED);
+    for (name, shown) in SHOWN_HOSTS {
+        assert!(rt; shown_hosts(&rt, &mapping, name) == *shown);
+    }
 }
 
-/// Whether a storage group has the parts of `g2`: `blue`, `arr1`, `hosts3`, port 3 and `v2` at
-/// unit 0, and is exposed.
-fn parts_of(group: &StorageGroup<Global>) -> Result<[bool; 7], Fail> {
-    Ok([
-        group.tenant().as_str() == "blue",
-        group.array().as_str() == "arr1",
-        group.has_hosts(&Name::read("hosts3")?),
-        group.has_target(&port(3)),
-        group.has_volume(&Name::read("v2")?),
-        is_found(group.unit(0), Some("v2")),
-        group.is_exposed(),
-    ])
-}
-
-/// What is shown of a storage group, if there is one.
-fn shown_group(mapping: &Mapping<Global>, name: &str) -> Result<[bool; 7], Fail> {
-    match mapping.group(&Name::read(name)?) {
-        Some(group) => parts_of(group),
-        None => Ok([false; 7]),
+/// Whether there is a storage group of this name that has the parts of `g2`: `blue`, `arr1`,
+/// `hosts3`, port 3 and `v2` at unit 0, and is exposed.
+fn shown_group(rt: &impl Abort, mapping: &Mapping<Global>, name: &str) -> [bool; 7] {
+    match mapping.group(&named(rt, name)) {
+        Some(group) => [
+            group.tenant().as_str() == "blue",
+            group.array().as_str() == "arr1",
+            group.has_hosts(&named(rt, "hosts3")),
+            group.has_target(&port(3)),
+            group.has_volume(&named(rt, "v2")),
+            is_found(group.unit(0), Some("v2")),
+            group.is_exposed(),
+        ],
+        None => [false; 7],
     }
 }
 
@@ -141,18 +123,12 @@ const SHOWN_GROUPS: &[(&str, [bool; 7])] = &[
     ("hosts1", [false, false, false, false, false, false, false]),
 ];
 
-/// The storage groups are shown so.
-fn assert_groups_shown(rt: &impl Abort, mapping: &Mapping<Global>) -> Result<(), Fail> {
-    for (name, shown) in SHOWN_GROUPS {
-        assert!(rt; shown_group(mapping, name)? == *shown);
-    }
-    Ok(())
-}
-
 #[test]
-fn groups_that_are_shown(rt: HostRuntime) -> Result<(), Fail> {
-    let mapping = world(rt.alloc(), SEARCHED)?;
-    assert_groups_shown(&rt, &mapping)
+fn groups_that_are_shown(rt: HostRuntime) {
+    let mapping = world(&rt, SEARCHED);
+    for (name, shown) in SHOWN_GROUPS {
+        assert!(rt; shown_group(&rt, &mapping, name) == *shown);
+    }
 }
 
 fn count_host_groups(mapping: &Mapping<Global>) -> usize {
@@ -179,43 +155,33 @@ fn count_units(group: &StorageGroup<Global>) -> usize {
     group.units().count()
 }
 
-/// How many hosts of a host group are walked through.
-fn walked_hosts(mapping: &Mapping<Global>, name: &str) -> Result<usize, Fail> {
-    match mapping.host_group(&Name::read(name)?) {
-        Some(group) => Ok(count_hosts(group)),
-        None => Ok(0),
-    }
-}
-
-/// How many host groups, targets and units of a storage group are walked through.
-fn walked_parts(mapping: &Mapping<Global>, name: &str) -> Result<[usize; 3], Fail> {
-    match mapping.group(&Name::read(name)?) {
-        Some(group) => Ok([
-            count_served(group),
-            count_targets(group),
-            count_units(group),
-        ]),
-        None => Ok([0; 3]),
-    }
-}
-
 /// How many host groups and storage groups are walked through, and how many hosts of `hosts2`.
-fn walked(mapping: &Mapping<Global>) -> Result<[usize; 3], Fail> {
-    let hosts = walked_hosts(mapping, "hosts2")?;
-    Ok([count_host_groups(mapping), count_groups(mapping), hosts])
+fn walked(rt: &impl Abort, mapping: &Mapping<Global>) -> [usize; 3] {
+    let found = mapping.host_group(&named(rt, "hosts2"));
+    let group = found.expect(rt, "a host group");
+    [
+        count_host_groups(mapping),
+        count_groups(mapping),
+        count_hosts(group),
+    ]
 }
 
-/// Walks through all of a mapping.
-fn assert_walks(rt: &impl Abort, mapping: &Mapping<Global>) -> Result<(), Fail> {
-    assert!(rt; walked(mapping)? == [3, 4, 2]);
-    assert!(rt; walked_parts(mapping, "g1")? == [1, 1, 1]);
-    Ok(())
+/// How many host groups, targets and units of `g1` are walked through.
+fn walked_parts(rt: &impl Abort, mapping: &Mapping<Global>) -> [usize; 3] {
+    let found = mapping.group(&named(rt, "g1"));
+    let group = found.expect(rt, "a storage group");
+    [
+        count_served(group),
+        count_targets(group),
+        count_units(group),
+    ]
 }
 
 #[test]
-fn walks(rt: HostRuntime) -> Result<(), Fail> {
-    let mapping = world(rt.alloc(), SEARCHED)?;
-    assert_walks(&rt, &mapping)
+fn walks(rt: HostRuntime) {
+    let mapping = world(&rt, SEARCHED);
+    assert!(rt; walked(&rt, &mapping) == [3, 4, 2]);
+    assert!(rt; walked_parts(&rt, &mapping) == [1, 1, 1]);
 }
 
 /// Storage groups, of which each but the first two differs from the first in one part.
@@ -230,14 +196,12 @@ const ALIKE: &[Row] = &[
 ];
 
 /// Whether the storage group of this name is the same as the first.
-fn is_same_as_first(mapping: &Mapping<Global>, name: &str) -> Result<bool, Fail> {
-    let Some(first) = mapping.group(&Name::read("first")?) else {
-        return Ok(false);
-    };
-    match mapping.group(&Name::read(name)?) {
-        Some(group) => Ok(group.is_same(first)),
-        None => Ok(false),
-    }
+fn is_same_as_first(rt: &impl Abort, mapping: &Mapping<Global>, name: &str) -> bool {
+    let first = mapping.group(&named(rt, "first")).expect(rt, "the first");
+    let group = mapping
+        .group(&named(rt, name))
+        .expect(rt, "a storage group");
+    group.is_same(first)
 }
 
 /// The names of these storage groups, and whether each is the same as the first.
@@ -251,29 +215,23 @@ const SAME_GROUPS: &[(&str, bool)] = &[
     ("volume", false),
 ];
 
-/// The storage groups are the same as the first, or not.
-fn assert_same_groups(rt: &impl Abort, mapping: &Mapping<Global>) -> Result<(), Fail> {
-    for (name, want) in SAME_GROUPS {
-        assert!(rt; is_same_as_first(mapping, name)? == *want);
-    }
-    Ok(())
-}
-
 #[test]
-fn storage_groups_that_are_the_same(rt: HostRuntime) -> Result<(), Fail> {
-    let mapping = world(rt.alloc(), ALIKE)?;
-    assert_same_groups(&rt, &mapping)
+fn storage_groups_that_are_the_same(rt: HostRuntime) {
+    let mapping = world(&rt, ALIKE);
+    for (name, want) in SAME_GROUPS {
+        assert!(rt; is_same_as_first(&rt, &mapping, name) == *want);
+    }
 }
 
 /// Whether the host groups of two names are the same.
-fn are_same_hosts(mapping: &Mapping<Global>, name: &str, other: &str) -> Result<bool, Fail> {
-    let Some(group) = mapping.host_group(&Name::read(name)?) else {
-        return Ok(false);
-    };
-    match mapping.host_group(&Name::read(other)?) {
-        Some(other) => Ok(group.is_same(other)),
-        None => Ok(false),
-    }
+fn are_same_hosts(rt: &impl Abort, mapping: &Mapping<Global>, name: &str, other: &str) -> bool {
+    let group = mapping
+        .host_group(&named(rt, name))
+        .expect(rt, "a host group");
+    let other = mapping
+        .host_group(&named(rt, other))
+        .expect(rt, "a host group");
+    group.is_same(other)
 }
 
 /// Two host groups, and whether they are the same.
@@ -284,16 +242,10 @@ const SAME_HOSTS: &[(&str, &str, bool)] = &[
     ("hosts1", "hosts3", false),
 ];
 
-/// The host groups are the same, or not.
-fn assert_same_hosts(rt: &impl Abort, mapping: &Mapping<Global>) -> Result<(), Fail> {
-    for (name, other, want) in SAME_HOSTS {
-        assert!(rt; are_same_hosts(mapping, name, other)? == *want);
-    }
-    Ok(())
-}
-
 #[test]
-fn host_groups_that_are_the_same(rt: HostRuntime) -> Result<(), Fail> {
-    let mapping = world(rt.alloc(), &[])?;
-    assert_same_hosts(&rt, &mapping)
+fn host_groups_that_are_the_same(rt: HostRuntime) {
+    let mapping = world(&rt, &[]);
+    for (name, other, want) in SAME_HOSTS {
+        assert!(rt; are_same_hosts(&rt, &mapping, name, other) == *want);
+    }
 }

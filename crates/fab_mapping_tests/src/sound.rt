@@ -1,11 +1,9 @@
 //! Which mappings are sound, which fit an inventory, and what is gone from it.
-use crate::stock::{Row, port, stock, world};
+use crate::stock::{Row, named, port, stock, world};
 use fab_inventory::Inventory;
 use fab_mapping::Gone;
-use fab_names::Name;
 use std::alloc::Global;
 use std::process::Abort;
-use std::test::Fail;
 
 /// Worlds of one storage group, whether each is sound, and whether it fits the stock.
 const JUDGED: &[(Row, bool, bool)] = &[
@@ -20,32 +18,22 @@ const JUDGED: &[(Row, bool, bool)] = &[
 ];
 
 /// Whether the world of a row is sound, and whether it fits the stock and an inventory of nothing.
-fn judged(alloc: Global, inventory: &Inventory<Global>, row: &Row) -> Result<[bool; 3], Fail> {
-    let mapping = world(alloc, &[*row])?;
-    let nothing = Inventory::new(alloc);
-    Ok([
+fn judged(rt: &(impl Abort + AllocGlobal), inventory: &Inventory<Global>, row: &Row) -> [bool; 3] {
+    let mapping = world(rt, &[*row]);
+    let nothing = Inventory::new(rt.alloc());
+    [
         mapping.is_sound(),
         mapping.fits(inventory),
         mapping.fits(&nothing),
-    ])
-}
-
-/// Each world is judged so.
-fn assert_judged(
-    rt: &impl Abort,
-    alloc: Global,
-    inventory: &Inventory<Global>,
-) -> Result<(), Fail> {
-    for (row, sound, fits) in JUDGED {
-        assert!(rt; judged(alloc, inventory, row)? == [*sound, *fits, false]);
-    }
-    Ok(())
+    ]
 }
 
 #[test]
-fn sound_and_fitting(rt: HostRuntime) -> Result<(), Fail> {
-    let inventory = stock(rt.alloc())?;
-    assert_judged(&rt, rt.alloc(), &inventory)
+fn sound_and_fitting(rt: HostRuntime) {
+    let inventory = stock(&rt);
+    for (row, sound, fits) in JUDGED {
+        assert!(rt; judged(&rt, &inventory, row) == [*sound, *fits, false]);
+    }
 }
 
 /// What is gone, if anything is.
@@ -106,49 +94,39 @@ const GONE: &[(&[Row], Lost)] = &[
 ];
 
 /// What is wanted to be gone.
-fn gone_of(lost: &Lost) -> Result<Option<Gone>, Fail> {
-    let gone = match lost {
-        Lost::Nothing => return Ok(None),
-        Lost::Host(name) => Gone::Host(Name::read(name)?),
-        Lost::Array(name) => Gone::Array(Name::read(name)?),
-        Lost::Target(number) => Gone::Target(port(*number)),
-        Lost::Volume(name) => Gone::Volume(Name::read(name)?),
-    };
-    Ok(Some(gone))
+fn gone_of(rt: &impl Abort, lost: &Lost) -> Option<Gone> {
+    match lost {
+        Lost::Nothing => None,
+        Lost::Host(name) => Some(Gone::Host(named(rt, name))),
+        Lost::Array(name) => Some(Gone::Array(named(rt, name))),
+        Lost::Target(number) => Some(Gone::Target(port(*number))),
+        Lost::Volume(name) => Some(Gone::Volume(named(rt, name))),
+    }
 }
 
 /// Whether this is the first of the two storage groups that is gone.
 fn is_gone(
-    alloc: Global,
+    rt: &(impl Abort + AllocGlobal),
     inventory: &Inventory<Global>,
     rows: &[Row],
     lost: &Lost,
-) -> Result<bool, Fail> {
-    let wanted = gone_of(lost)?;
-    let mapping = world(alloc, rows)?;
-    Ok(mapping.first_gone(inventory) == wanted)
-}
-
-/// Of each world it is the first that is gone.
-fn assert_gone(rt: &impl Abort, alloc: Global, inventory: &Inventory<Global>) -> Result<(), Fail> {
-    for (rows, lost) in GONE {
-        assert!(rt; is_gone(alloc, inventory, rows, lost)?);
-    }
-    Ok(())
+) -> bool {
+    world(rt, rows).first_gone(inventory) == gone_of(rt, lost)
 }
 
 #[test]
-fn the_first_that_is_gone(rt: HostRuntime) -> Result<(), Fail> {
-    let inventory = stock(rt.alloc())?;
-    assert_gone(&rt, rt.alloc(), &inventory)
+fn the_first_that_is_gone(rt: HostRuntime) {
+    let inventory = stock(&rt);
+    for (rows, lost) in GONE {
+        assert!(rt; is_gone(&rt, &inventory, rows, lost));
+    }
 }
 
 /// Two good storage groups of one name.
 const GOOD_TWICE: &[Row] = &[GOOD, GOOD];
 
 #[test]
-fn hosts_are_gone_first(rt: HostRuntime) -> Result<(), Fail> {
+fn hosts_are_gone_first(rt: HostRuntime) {
     let nothing = Inventory::new(rt.alloc());
-    assert!(rt; is_gone(rt.alloc(), &nothing, GOOD_TWICE, &Lost::Host("db1"))?);
-    Ok(())
+    assert!(rt; is_gone(&rt, &nothing, GOOD_TWICE, &Lost::Host("db1")));
 }

@@ -1,11 +1,9 @@
 //! Changes one after the other, and what each is answered.
-use crate::stock::{Row, new_group, port, put_two, stock, world};
+use crate::stock::{Row, named, new_group, port, put_two, stock, world};
 use fab_inventory::Inventory;
 use fab_mapping::{Mapping, MappingFault, MappingLimit};
-use fab_names::Name;
 use std::alloc::Global;
 use std::process::Abort;
-use std::test::Fail;
 
 /// A change, or what is asked. Target ports are numbers.
 #[derive(Clone, Copy)]
@@ -178,127 +176,77 @@ const REFUSED_UNITS: &[(Step, Answer)] = &[
     (Step::Clash(Some(("db1", 1, 0))), Answer::Done),
 ];
 
-/// The names of a step: the one it begins with, and the next, or the first again where it has none.
-fn words_of(step: &Step) -> (&'static str, &'static str) {
-    match *step {
-        Step::PutHosts(name, next, _) => (name, next),
-        Step::NewGroup(name, next) => (name, next),
-        Step::AddHosts(name, next) => (name, next),
-        Step::RemoveHosts(name, next) => (name, next),
-        Step::Map(name, _, next) => (name, next),
-        Step::DropHosts(name) => (name, name),
-        Step::DropGroup(name) => (name, name),
-        Step::Expose(name) => (name, name),
-        Step::Hide(name) => (name, name),
-        Step::AddTarget(name, _) => (name, name),
-        Step::RemoveTarget(name, _) => (name, name),
-        Step::Unmap(name, _) => (name, name),
-        Step::Copied | Step::Clash(_) => ("none", "none"),
-    }
-}
-
-/// The same, read.
-fn names_of(step: &Step) -> Result<(Name, Name), Fail> {
-    let (name, next) = words_of(step);
-    let name = Name::read(name)?;
-    let next = Name::read(next)?;
-    Ok((name, next))
-}
-
-/// What the change of groups is answered, or that it is no such change.
+/// What the change is answered, or that it is no change.
 fn change(
+    rt: &impl Abort,
     mapping: &mut Mapping<Global>,
     inventory: &Inventory<Global>,
     step: &Step,
-) -> Result<Result<(), MappingFault>, Fail> {
-    let (name, next) = names_of(step)?;
-    match step {
-        Step::PutHosts(_, _, other) => put_two(mapping, inventory, name, next, other),
-        Step::DropHosts(_) => Ok(mapping.drop_host_group(&name)),
-        Step::NewGroup(_, array) => new_group(mapping, inventory, name, array),
-        Step::DropGroup(_) => Ok(mapping.drop_group(&name)),
-        Step::Expose(_) => Ok(mapping.expose(&name)),
-        Step::Hide(_) => Ok(mapping.hide(&name)),
-        _ => Ok(Ok(())),
+) -> Result<(), MappingFault> {
+    match *step {
+        Step::PutHosts(name, host, other) => {
+            put_two(rt, mapping, inventory, named(rt, name), (host, other))
+        }
+        Step::DropHosts(name) => mapping.drop_host_group(&named(rt, name)),
+        Step::NewGroup(name, array) => new_group(rt, mapping, inventory, named(rt, name), array),
+        Step::DropGroup(name) => mapping.drop_group(&named(rt, name)),
+        Step::Expose(name) => mapping.expose(&named(rt, name)),
+        Step::Hide(name) => mapping.hide(&named(rt, name)),
+        Step::AddHosts(name, hosts) => mapping.add_hosts(&named(rt, name), &named(rt, hosts)),
+        Step::RemoveHosts(name, hosts) => mapping.remove_hosts(&named(rt, name), &named(rt, hosts)),
+        Step::AddTarget(name, target) => {
+            mapping.add_target(&named(rt, name), &port(target), inventory)
+        }
+        Step::RemoveTarget(name, target) => mapping.remove_target(&named(rt, name), &port(target)),
+        Step::Map(name, unit, volume) => {
+            mapping.map(&named(rt, name), unit, &named(rt, volume), inventory)
+        }
+        Step::Unmap(name, unit) => mapping.unmap(&named(rt, name), unit),
+        Step::Copied | Step::Clash(_) => Ok(()),
     }
 }
 
-/// What the change of a part of a storage group is answered, or that it is no such change.
-fn change_part(
-    mapping: &mut Mapping<Global>,
-    inventory: &Inventory<Global>,
-    step: &Step,
-) -> Result<Result<(), MappingFault>, Fail> {
-    let (name, next) = names_of(step)?;
-    Ok(match step {
-        Step::AddHosts(..) => mapping.add_hosts(&name, &next),
-        Step::RemoveHosts(..) => mapping.remove_hosts(&name, &next),
-        Step::AddTarget(_, target) => mapping.add_target(&name, &port(*target), inventory),
-        Step::RemoveTarget(_, target) => mapping.remove_target(&name, &port(*target)),
-        Step::Map(_, unit, _) => mapping.map(&name, *unit, &next, inventory),
-        Step::Unmap(_, unit) => mapping.unmap(&name, *unit),
-        _ => Ok(()),
-    })
-}
-
-/// The fault that is wanted, if one is.
-fn fault_of(answer: &Answer) -> Result<Option<MappingFault>, Fail> {
-    let fault = match answer {
-        Answer::Done => return Ok(None),
-        Answer::Unknown(name) => MappingFault::Unknown(Name::read(name)?),
-        Answer::UnknownPort(number) => MappingFault::UnknownPort(port(*number)),
-        Answer::Exists(name) => MappingFault::Exists(Name::read(name)?),
-        Answer::InUse(name, by) => MappingFault::InUse(Name::read(name)?, Name::read(by)?),
-        Answer::WrongArray => MappingFault::WrongArray,
-        Answer::UnitTaken(unit) => MappingFault::UnitTaken(*unit),
-        Answer::NotMapped(unit) => MappingFault::NotMapped(*unit),
-        Answer::TooMuch(limit) => MappingFault::Limit(*limit),
-    };
-    Ok(Some(fault))
-}
-
-/// Whether it was answered so.
-fn is_answered(answer: Result<(), MappingFault>, want: &Answer) -> Result<bool, Fail> {
-    let wanted = fault_of(want)?;
+/// What the change is to be answered.
+fn answer_of(rt: &impl Abort, answer: &Answer) -> Result<(), MappingFault> {
     match answer {
-        Ok(()) => Ok(wanted.is_none()),
-        Err(fault) => Ok(wanted == Some(fault)),
+        Answer::Done => Ok(()),
+        Answer::Unknown(name) => Err(MappingFault::Unknown(named(rt, name))),
+        Answer::UnknownPort(number) => Err(MappingFault::UnknownPort(port(*number))),
+        Answer::Exists(name) => Err(MappingFault::Exists(named(rt, name))),
+        Answer::InUse(name, by) => Err(MappingFault::InUse(named(rt, name), named(rt, by))),
+        Answer::WrongArray => Err(MappingFault::WrongArray),
+        Answer::UnitTaken(unit) => Err(MappingFault::UnitTaken(*unit)),
+        Answer::NotMapped(unit) => Err(MappingFault::NotMapped(*unit)),
+        Answer::TooMuch(limit) => Err(MappingFault::Limit(*limit)),
     }
 }
 
 /// Whether the least clash is there, or there is none.
-fn is_clash(mapping: &Mapping<Global>, at: Option<(&str, u64, u16)>) -> Result<bool, Fail> {
-    match mapping.clash()? {
-        Some(nexus) => match at {
-            Some((host, target, unit)) => Ok(
-                nexus.host.as_str() == host && nexus.target == port(target) && nexus.unit == unit,
-            ),
-            None => Ok(false),
-        },
-        None => Ok(at.is_none()),
+fn is_clash(rt: &impl Abort, mapping: &Mapping<Global>, at: Option<(&str, u64, u16)>) -> bool {
+    match (mapping.clash().expect(rt, "memory"), at) {
+        (Some(nexus), Some((host, target, unit))) => {
+            nexus.host.as_str() == host && nexus.target == port(target) && nexus.unit == unit
+        }
+        (None, None) => true,
+        _ => false,
     }
 }
 
 /// Whether the step is answered so.
 fn take(
+    rt: &impl Abort,
     mapping: &mut Mapping<Global>,
     inventory: &Inventory<Global>,
     step: &Step,
     want: &Answer,
-) -> Result<bool, Fail> {
+) -> bool {
     match step {
         Step::Copied => {
-            *mapping = mapping.copy()?;
-            Ok(true)
+            *mapping = mapping.copy().expect(rt, "memory");
+            true
         }
-        Step::Clash(at) => is_clash(mapping, *at),
-        Step::AddHosts(..)
-        | Step::RemoveHosts(..)
-        | Step::AddTarget(..)
-        | Step::RemoveTarget(..)
-        | Step::Map(..)
-        | Step::Unmap(..) => is_answered(change_part(mapping, inventory, step)?, want),
-        _ => is_answered(change(mapping, inventory, step)?, want),
+        Step::Clash(at) => is_clash(rt, mapping, *at),
+        _ => change(rt, mapping, inventory, step) == answer_of(rt, want),
     }
 }
 
@@ -308,74 +256,48 @@ fn assert_taken(
     mapping: &mut Mapping<Global>,
     inventory: &Inventory<Global>,
     steps: &[(Step, Answer)],
-) -> Result<(), Fail> {
+) {
     for (step, want) in steps {
-        assert!(rt; take(mapping, inventory, step, want)?);
+        assert!(rt; take(rt, mapping, inventory, step, want));
     }
-    Ok(())
-}
-
-/// Takes the steps from the world of the rows on.
-fn assert_taken_over(
-    rt: &impl Abort,
-    alloc: Global,
-    inventory: &Inventory<Global>,
-    rows: &[Row],
-    steps: &[(Step, Answer)],
-) -> Result<(), Fail> {
-    let mut mapping = world(alloc, rows)?;
-    assert_taken(rt, &mut mapping, inventory, steps)
 }
 
 /// Takes the steps from the world of the rows on, over the stock.
-fn assert_taken_from(
-    rt: &impl Abort,
-    alloc: Global,
-    rows: &[Row],
-    steps: &[(Step, Answer)],
-) -> Result<(), Fail> {
-    let inventory = stock(alloc)?;
-    assert_taken_over(rt, alloc, &inventory, rows, steps)
-}
-
-/// Makes two storage groups, and exposes them.
-fn assert_clashes(
-    rt: &impl Abort,
-    alloc: Global,
-    inventory: &Inventory<Global>,
-) -> Result<(), Fail> {
-    let mut mapping = Mapping::new(alloc);
-    assert_taken(rt, &mut mapping, inventory, MADE)?;
-    assert_taken(rt, &mut mapping, inventory, EXPOSED)
+fn assert_taken_from(rt: &(impl Abort + AllocGlobal), rows: &[Row], steps: &[(Step, Answer)]) {
+    let inventory = stock(rt);
+    let mut mapping = world(rt, rows);
+    assert_taken(rt, &mut mapping, &inventory, steps);
 }
 
 #[test]
-fn two_volumes_clash(rt: HostRuntime) -> Result<(), Fail> {
-    let inventory = stock(rt.alloc())?;
-    assert_clashes(&rt, rt.alloc(), &inventory)
+fn two_volumes_clash(rt: HostRuntime) {
+    let inventory = stock(&rt);
+    let mut mapping = Mapping::new(rt.alloc());
+    assert_taken(&rt, &mut mapping, &inventory, MADE);
+    assert_taken(&rt, &mut mapping, &inventory, EXPOSED);
 }
 
 #[test]
-fn the_least_of_three_clashes(rt: HostRuntime) -> Result<(), Fail> {
-    assert_taken_from(&rt, rt.alloc(), CLASHING, THREE_CLASHES)
+fn the_least_of_three_clashes(rt: HostRuntime) {
+    assert_taken_from(&rt, CLASHING, THREE_CLASHES);
 }
 
 #[test]
-fn refused_groups(rt: HostRuntime) -> Result<(), Fail> {
-    assert_taken_from(&rt, rt.alloc(), SHARED, REFUSED_GROUPS)
+fn refused_groups(rt: HostRuntime) {
+    assert_taken_from(&rt, SHARED, REFUSED_GROUPS);
 }
 
 #[test]
-fn dropped_groups(rt: HostRuntime) -> Result<(), Fail> {
-    assert_taken_from(&rt, rt.alloc(), SHARED, DROPS)
+fn dropped_groups(rt: HostRuntime) {
+    assert_taken_from(&rt, SHARED, DROPS);
 }
 
 #[test]
-fn refused_targets(rt: HostRuntime) -> Result<(), Fail> {
-    assert_taken_from(&rt, rt.alloc(), SHARED, REFUSED_TARGETS)
+fn refused_targets(rt: HostRuntime) {
+    assert_taken_from(&rt, SHARED, REFUSED_TARGETS);
 }
 
 #[test]
-fn refused_units(rt: HostRuntime) -> Result<(), Fail> {
-    assert_taken_from(&rt, rt.alloc(), SHARED, REFUSED_UNITS)
+fn refused_units(rt: HostRuntime) {
+    assert_taken_from(&rt, SHARED, REFUSED_UNITS);
 }

@@ -4,7 +4,7 @@ use fab_mapping::{HostGroup, Mapping, MappingFault, StorageGroup};
 use fab_names::{Fabric, Name, Place, Wwn};
 use std::alloc::Global;
 use std::collections::{BTreeMap, BTreeSet};
-use std::test::Fail;
+use std::process::Abort;
 
 /// The holders: each with its first port, and the one after its last. Port 40 is the last port.
 const HOLDERS: &[(&str, HolderKind, u64, u64)] = &[
@@ -43,164 +43,144 @@ pub fn port(number: u64) -> Wwn {
     Wwn::new(number)
 }
 
+/// The name that the text spells.
+pub fn named(rt: &impl Abort, text: &str) -> Name {
+    Name::read(text).expect(rt, "a name")
+}
+
 /// The records of ports 1 to 40.
-fn port_rows(alloc: Global) -> Result<Vec<PortRow>, Fail> {
-    let mut rows = Vec::new(alloc);
+fn port_rows(rt: &(impl Abort + AllocGlobal)) -> Vec<PortRow> {
+    let mut rows = Vec::new(rt.alloc());
     for number in 1..41u64 {
-        rows.push(PortRow {
+        let row = PortRow {
             name: port(number),
             node: port(99),
             place: Place::new(1, 1),
-        })?;
+        };
+        rows.push(row).expect(rt, "memory");
     }
-    Ok(rows)
-}
-
-fn import(inventory: &mut Inventory<Global>, alloc: Global) -> Result<(), Fail> {
-    let rows = port_rows(alloc)?;
-    inventory.import(Fabric::A, rows.as_slice())?;
-    Ok(())
+    rows
 }
 
 /// The ports from a number on, before another.
-fn ports_of(alloc: Global, first: u64, end: u64) -> Result<Vec<Wwn>, Fail> {
-    let mut ports = Vec::new(alloc);
+fn ports_of(rt: &(impl Abort + AllocGlobal), first: u64, end: u64) -> Vec<Wwn> {
+    let mut ports = Vec::new(rt.alloc());
     for number in first..end {
-        ports.push(port(number))?;
+        ports.push(port(number)).expect(rt, "memory");
     }
-    Ok(ports)
+    ports
 }
 
-fn put_holder(
-    inventory: &mut Inventory<Global>,
-    alloc: Global,
-    row: &(&str, HolderKind, u64, u64),
-) -> Result<(), Fail> {
-    let name = Name::read(row.0)?;
-    let ports = ports_of(alloc, row.2, row.3)?;
-    inventory.put_holder(name, row.1, name, ports.as_slice())?;
-    Ok(())
+fn put_holders(rt: &(impl Abort + AllocGlobal), inventory: &mut Inventory<Global>) {
+    for (name, kind, first, end) in HOLDERS {
+        let name = named(rt, name);
+        let ports = ports_of(rt, *first, *end);
+        inventory
+            .put_holder(name, *kind, name, ports.as_slice())
+            .expect(rt, "a holder");
+    }
 }
 
-fn put_volume(inventory: &mut Inventory<Global>, volume: &str, array: &str) -> Result<(), Fail> {
-    let name = Name::read(volume)?;
-    let array = Name::read(array)?;
-    inventory.put_volume(name, array, name, 1)?;
-    Ok(())
-}
-
-fn put_volumes(inventory: &mut Inventory<Global>) -> Result<(), Fail> {
+fn put_volumes(rt: &impl Abort, inventory: &mut Inventory<Global>) {
     for (volume, array) in VOLUMES {
-        put_volume(inventory, volume, array)?;
+        let name = named(rt, volume);
+        inventory
+            .put_volume(name, named(rt, array), name, 1)
+            .expect(rt, "a volume");
     }
-    Ok(())
-}
-
-fn put_holders(inventory: &mut Inventory<Global>, alloc: Global) -> Result<(), Fail> {
-    for row in HOLDERS {
-        put_holder(inventory, alloc, row)?;
-    }
-    Ok(())
 }
 
 /// The ports, the holders and the volumes.
-pub fn stock(alloc: Global) -> Result<Inventory<Global>, Fail> {
-    let mut inventory = Inventory::new(alloc);
-    import(&mut inventory, alloc)?;
-    put_holders(&mut inventory, alloc)?;
-    put_volumes(&mut inventory)?;
-    Ok(inventory)
+pub fn stock(rt: &(impl Abort + AllocGlobal)) -> Inventory<Global> {
+    let mut inventory = Inventory::new(rt.alloc());
+    let rows = port_rows(rt);
+    inventory
+        .import(Fabric::A, rows.as_slice())
+        .expect(rt, "the ports");
+    put_holders(rt, &mut inventory);
+    put_volumes(rt, &mut inventory);
+    inventory
 }
 
 /// The set of two items, which may be equal.
-fn set_of<K: Ord + Drop>(alloc: Global, item: K, other: K) -> Result<BTreeSet<K>, Fail> {
-    let mut set = BTreeSet::new(alloc);
-    set.insert(item)?;
-    set.insert(other)?;
-    Ok(set)
+fn set_of<K: Ord + Drop>(rt: &(impl Abort + AllocGlobal), item: K, other: K) -> BTreeSet<K> {
+    let mut set = BTreeSet::new(rt.alloc());
+    set.insert(item).expect(rt, "memory");
+    set.insert(other).expect(rt, "memory");
+    set
 }
 
-/// The host group of `blue` with two hosts.
-fn host_group_of(alloc: Global, host: &str, other: &str) -> Result<HostGroup<Global>, Fail> {
-    let tenant = Name::read("blue")?;
-    let hosts = set_of(alloc, Name::read(host)?, Name::read(other)?)?;
-    Ok(HostGroup::from_parts(tenant, hosts))
+/// Puts a value under the key.
+fn put<K: Ord + Drop, V: Drop>(rt: &impl Abort, map: &mut BTreeMap<K, V>, key: K, value: V) {
+    let added: Result<_, _> = map.insert(key, value);
+    added.expect(rt, "memory");
 }
 
-/// Puts a value under the name.
-fn put<V: Drop>(map: &mut BTreeMap<Name, V>, name: &str, value: V) -> Result<(), Fail> {
-    let name = Name::read(name)?;
-    map.insert(name, value)?;
-    Ok(())
-}
-
-/// The host groups of a world.
-fn host_groups(alloc: Global) -> Result<BTreeMap<Name, HostGroup<Global>>, Fail> {
-    let mut groups = BTreeMap::new(alloc);
+/// The host groups of a world, of `blue`.
+fn host_groups(rt: &(impl Abort + AllocGlobal)) -> BTreeMap<Name, HostGroup<Global>> {
+    let mut groups = BTreeMap::new(rt.alloc());
     for (name, host, other) in HOST_GROUPS {
-        put(&mut groups, name, host_group_of(alloc, host, other)?)?;
+        let hosts = set_of(rt, named(rt, host), named(rt, other));
+        let group = HostGroup::from_parts(named(rt, "blue"), hosts);
+        put(rt, &mut groups, named(rt, name), group);
     }
-    Ok(groups)
-}
-
-/// A volume at a unit.
-fn unit_of(alloc: Global, unit: u16, volume: &str) -> Result<BTreeMap<u16, Name>, Fail> {
-    let mut units = BTreeMap::new(alloc);
-    units.insert(unit, Name::read(volume)?)?;
-    Ok(units)
+    groups
 }
 
 /// The exposed storage group of `blue` of a row.
-fn group_of(alloc: Global, row: &Row) -> Result<StorageGroup<Global>, Fail> {
+fn group_of(rt: &(impl Abort + AllocGlobal), row: &Row) -> StorageGroup<Global> {
     let (_, array, hosts, target, unit, volume) = row;
-    let tenant = Name::read("blue")?;
-    let hosts = Name::read(hosts)?;
+    let hosts = named(rt, hosts);
     let target = port(*target);
-    Ok(StorageGroup::from_parts(
-        tenant,
-        Name::read(array)?,
-        set_of(alloc, hosts, hosts)?,
-        set_of(alloc, target, target)?,
-        unit_of(alloc, *unit, volume)?,
+    let mut units = BTreeMap::new(rt.alloc());
+    put(rt, &mut units, *unit, named(rt, volume));
+    StorageGroup::from_parts(
+        named(rt, "blue"),
+        named(rt, array),
+        set_of(rt, hosts, hosts),
+        set_of(rt, target, target),
+        units,
         true,
-    ))
+    )
 }
 
 /// The storage groups of the rows.
-fn groups_of(alloc: Global, rows: &[Row]) -> Result<BTreeMap<Name, StorageGroup<Global>>, Fail> {
-    let mut groups = BTreeMap::new(alloc);
+fn groups_of(
+    rt: &(impl Abort + AllocGlobal),
+    rows: &[Row],
+) -> BTreeMap<Name, StorageGroup<Global>> {
+    let mut groups = BTreeMap::new(rt.alloc());
     for row in rows {
-        put(&mut groups, row.0, group_of(alloc, row)?)?;
+        put(rt, &mut groups, named(rt, row.0), group_of(rt, row));
     }
-    Ok(groups)
+    groups
 }
 
 /// The host groups, and these storage groups.
-pub fn world(alloc: Global, rows: &[Row]) -> Result<Mapping<Global>, Fail> {
-    let groups = groups_of(alloc, rows)?;
-    Ok(Mapping::from_maps(alloc, host_groups(alloc)?, groups))
+pub fn world(rt: &(impl Abort + AllocGlobal), rows: &[Row]) -> Mapping<Global> {
+    let groups = groups_of(rt, rows);
+    Mapping::from_maps(rt.alloc(), host_groups(rt), groups)
 }
 
 /// Puts a host group of `blue` with two hosts.
 pub fn put_two(
+    rt: &impl Abort,
     mapping: &mut Mapping<Global>,
     inventory: &Inventory<Global>,
     name: Name,
-    host: Name,
-    other: &str,
-) -> Result<Result<(), MappingFault>, Fail> {
-    let tenant = Name::read("blue")?;
-    let other = Name::read(other)?;
-    Ok(mapping.put_host_group(name, tenant, &[host, other], inventory))
+    (host, other): (&str, &str),
+) -> Result<(), MappingFault> {
+    let hosts = [named(rt, host), named(rt, other)];
+    mapping.put_host_group(name, named(rt, "blue"), &hosts, inventory)
 }
 
 /// Makes a storage group of `blue`.
 pub fn new_group(
+    rt: &impl Abort,
     mapping: &mut Mapping<Global>,
     inventory: &Inventory<Global>,
     name: Name,
     array: &str,
-) -> Result<Result<(), MappingFault>, Fail> {
-    let tenant = Name::read("blue")?;
-    Ok(mapping.new_group(name, tenant, Name::read(array)?, inventory))
+) -> Result<(), MappingFault> {
+    mapping.new_group(name, named(rt, "blue"), named(rt, array), inventory)
 }

@@ -3,7 +3,7 @@ use fab_names::{Fabric, Member, Name};
 use fab_zoning::{DefaultFlag, Zoning, ZoningParts};
 use std::alloc::Global;
 use std::collections::{BTreeMap, BTreeSet};
-use std::test::Fail;
+use std::process::Abort;
 
 /// A zone and a member, as texts.
 type Texts = (&'static str, &'static str);
@@ -46,92 +46,78 @@ const LISTED: &[(&[Texts], &[Texts])] = &[
     ),
 ];
 
-fn zone_of(text: &str) -> Result<Name, Fail> {
-    Ok(Name::read(text)?)
-}
-
-fn member_of(text: &str) -> Result<Member, Fail> {
-    Ok(Member::read(text)?)
-}
-
-/// The text of a numbered name.
-fn numbered_text(alloc: Global, number: u32) -> Result<String, Fail> {
-    Ok(format!(in alloc; "n{number}")?)
+/// The name that the text spells.
+pub(crate) fn named(rt: &impl Abort, text: &str) -> Name {
+    Name::read(text).expect(rt, "a name")
 }
 
 /// The name of this number.
-pub(crate) fn numbered(alloc: Global, number: u32) -> Result<Name, Fail> {
-    let text = numbered_text(alloc, number)?;
-    zone_of(text.as_str())
+pub(crate) fn numbered(rt: &(impl Abort + AllocGlobal), number: u32) -> Name {
+    let text = format!(in rt.alloc(); "n{number}").expect(rt, "memory");
+    named(rt, text.as_str())
 }
 
 /// The row that the texts spell.
-fn row_of(texts: Texts) -> Result<(Name, Member), Fail> {
-    let zone = zone_of(texts.0)?;
-    let member = member_of(texts.1)?;
-    Ok((zone, member))
+fn row_of(rt: &impl Abort, texts: Texts) -> (Name, Member) {
+    let zone = named(rt, texts.0);
+    let member = Member::read(texts.1).expect(rt, "a member");
+    (zone, member)
 }
 
 /// Adds a row to the zones of each member.
 fn add_row(
-    alloc: Global,
+    rt: &(impl Abort + AllocGlobal),
     zones_by_member: &mut BTreeMap<Member, BTreeSet<Name>>,
     row: (Name, Member),
-) -> Result<(), Fail> {
+) {
     let (zone, member) = row;
     if let Some(zones) = zones_by_member.get_mut(&member) {
-        zones.insert(zone)?;
-        return Ok(());
+        zones.insert(zone).expect(rt, "memory");
+        return;
     }
-    let mut zones = BTreeSet::new(alloc);
-    zones.insert(zone)?;
-    zones_by_member.insert(member, zones)?;
-    Ok(())
+    let mut zones = BTreeSet::new(rt.alloc());
+    zones.insert(zone).expect(rt, "memory");
+    let added: Result<_, _> = zones_by_member.insert(member, zones);
+    added.expect(rt, "memory");
 }
 
 /// A zoning with these active rows.
-fn zoning_with(alloc: Global, rows: &[Texts]) -> Result<Zoning<Global>, Fail> {
-    let mut active_zones = BTreeMap::new(alloc);
+fn zoning_with(rt: &(impl Abort + AllocGlobal), rows: &[Texts]) -> Zoning<Global> {
+    let mut active_zones = BTreeMap::new(rt.alloc());
     for texts in rows {
-        add_row(alloc, &mut active_zones, row_of(*texts)?)?;
+        add_row(rt, &mut active_zones, row_of(rt, *texts));
     }
     let parts = ZoningParts {
-        aliases: BTreeMap::new(alloc),
-        zones: BTreeMap::new(alloc),
-        sets: BTreeMap::new(alloc),
+        aliases: BTreeMap::new(rt.alloc()),
+        zones: BTreeMap::new(rt.alloc()),
+        sets: BTreeMap::new(rt.alloc()),
         active: None,
         active_zones,
         flag: DefaultFlag::Deny,
     };
-    Ok(Zoning::from_parts(alloc, Fabric::A, parts))
+    Zoning::from_parts(rt.alloc(), Fabric::A, parts)
 }
 
 /// Whether the texts spell these rows.
-fn are_spelled(found: &BTreeSet<(Name, Member)>, listed: &[Texts]) -> Result<bool, Fail> {
+fn are_spelled(rt: &impl Abort, found: &BTreeSet<(Name, Member)>, listed: &[Texts]) -> bool {
     for (row, texts) in found.iter().zip(listed) {
-        if *row != row_of(*texts)? {
-            return Ok(false);
+        if *row != row_of(rt, *texts) {
+            return false;
         }
     }
-    Ok(found.len() == listed.len())
+    found.len() == listed.len()
 }
 
-/// Whether the active rows of a zoning are listed so.
-fn is_listed(zoning: &Zoning<Global>, listed: &[Texts]) -> Result<bool, Fail> {
-    let found = zoning.active_rows()?;
-    are_spelled(&found, listed)
-}
-
-/// Whether the rows are listed so.
-fn are_listed(alloc: Global, rows: &[Texts], listed: &[Texts]) -> Result<bool, Fail> {
-    let zoning = zoning_with(alloc, rows)?;
-    is_listed(&zoning, listed)
+/// Whether the rows are listed so where they are the active ones.
+fn are_listed(rt: &(impl Abort + AllocGlobal), rows: &[Texts], listed: &[Texts]) -> bool {
+    let zoning = zoning_with(rt, rows);
+    let found = zoning.active_rows().expect(rt, "memory");
+    are_spelled(rt, &found, listed)
 }
 
 #[test]
-fn active_rows_by_zone(rt: HostRuntime) -> Result<(), Fail> {
+fn active_rows_by_zone(rt: HostRuntime) {
     for &(rows, listed) in LISTED {
-        assert!(rt; are_listed(rt.alloc(), rows, listed)?);
+        assert!(rt; are_listed(&rt, rows, listed));
     }
-    Ok(())
 }

@@ -1,14 +1,14 @@
 //! The zoning of one fabric by itself: tables of steps, of limits, and of what is shown and sound.
-ghost use Rattle.std.specs.Prelude.{All, IfOk};
+ghost use Rattle.std.specs.Prelude.{All};
 ghost use Rattle.fab_zoning.specs.Rows.{IsPlain};
 
-use crate::rows::numbered;
+use crate::rows::{named, numbered};
 use fab_inventory::Port;
 use fab_names::{Fabric, Member, Name, Place, Wwn};
 use fab_zoning::{DefaultFlag, Why, Zoning, ZoningFault, ZoningLimit, ZoningParts};
-use std::alloc::{AllocError, Global};
+use std::alloc::Global;
 use std::collections::{BTreeMap, BTreeSet};
-use std::test::Fail;
+use std::process::Abort;
 
 /// Ports: where each is logged in, its N_Port_Name, its Node_Name and its place. Two host ports are
 /// at one place, two targets have one node, and the last is a target seen at the other fabric.
@@ -229,225 +229,182 @@ const REFUSALS: &[(Act, Want)] = &[
     (Act::DropZone("z1"), Want::InUse("z1", "s0")),
 ];
 
-/// The N_Port_Name of a port of the table.
-fn port_name(port: usize) -> Result<Wwn, Fail> {
-    match PORTS.get(port) {
-        Some((_, name, _, _)) => Ok(Wwn::read(name)?),
-        None => Ok(Wwn::read("")?),
-    }
+/// The name of a port or a node that the text spells.
+fn wwn(rt: &impl Abort, text: &str) -> Wwn {
+    Wwn::read(text).expect(rt, "the name of a port or a node")
 }
 
-/// The Node_Name of a port of the table.
-fn node_name(port: usize) -> Result<Wwn, Fail> {
-    match PORTS.get(port) {
-        Some((_, _, node, _)) => Ok(Wwn::read(node)?),
-        None => Ok(Wwn::read("")?),
-    }
-}
-
-/// Where a port of the table is logged in, if anywhere.
-fn login_of(port: usize) -> Result<Option<(Fabric, Place)>, Fail> {
-    match PORTS.get(port) {
-        Some((Some(fabric), _, _, place)) => Ok(Some((*fabric, Place::read(place)?))),
-        _ => Ok(None),
-    }
-}
-
-/// A port that nobody holds.
-fn port_at(name: Wwn, node: Wwn, at: Option<(Fabric, Place)>) -> Port {
+/// A port of the table, which nobody holds.
+fn port_of(rt: &impl Abort, port: usize) -> Port {
+    let (fabric, name, node, place) = PORTS.get(port).expect(rt, "a port");
+    let place = Place::read(place).expect(rt, "a place");
+    let at = match fabric {
+        Some(fabric) => Some((*fabric, place)),
+        None => None,
+    };
     Port {
-        name,
-        node,
+        name: wwn(rt, name),
+        node: wwn(rt, node),
         at,
         holder: None,
     }
 }
 
 /// A member.
-fn member_of(item: Item) -> Result<Member, Fail> {
+fn member_of(rt: &impl Abort, item: Item) -> Member {
     match item {
-        Item::Port(port) => Ok(Member::Port(port_name(port)?)),
-        Item::Node(port) => Ok(Member::Node(node_name(port)?)),
-        Item::Place(place) => Ok(Member::Place(Place::read(place)?)),
-        Item::Alias(alias) => Ok(Member::Alias(Name::read(alias)?)),
-    }
-}
-
-/// Puts something.
-fn put(zoning: &mut Zoning<Global>, act: Act) -> Result<Result<(), ZoningFault>, Fail> {
-    match act {
-        Act::Alias(name, port) => {
-            let member = Member::Port(port_name(port)?);
-            Ok(zoning.put_alias(Name::read(name)?, &[member]))
-        }
-        Act::Zone(name, one, other) => {
-            let members = [member_of(one)?, member_of(other)?];
-            Ok(zoning.put_zone(Name::read(name)?, &members))
-        }
-        Act::Set(name, one, other) => {
-            let zones = [Name::read(one)?, Name::read(other)?];
-            Ok(zoning.put_set(Name::read(name)?, &zones))
-        }
-        _ => Ok(Ok(())),
-    }
-}
-
-/// Drops or activates something.
-fn drop_or_activate(
-    zoning: &mut Zoning<Global>,
-    act: Act,
-) -> Result<Result<(), ZoningFault>, Fail> {
-    match act {
-        Act::DropAlias(name) => Ok(zoning.drop_alias(&Name::read(name)?)),
-        Act::DropZone(name) => Ok(zoning.drop_zone(&Name::read(name)?)),
-        Act::DropSet(name) => Ok(zoning.drop_set(&Name::read(name)?)),
-        Act::Activate(name) => Ok(zoning.activate(&Name::read(name)?)),
-        _ => Ok(Ok(())),
+        Item::Port(port) => Member::Port(port_of(rt, port).name),
+        Item::Node(port) => Member::Node(port_of(rt, port).node),
+        Item::Place(place) => Member::Place(Place::read(place).expect(rt, "a place")),
+        Item::Alias(alias) => Member::Alias(named(rt, alias)),
     }
 }
 
 /// Puts an alias, a zone and a set of nothing, and answers the first that is not refused as empty.
-fn put_nothing(zoning: &mut Zoning<Global>, name: &str) -> Result<Result<(), ZoningFault>, Fail> {
-    let name = Name::read(name)?;
+fn put_nothing(zoning: &mut Zoning<Global>, name: Name) -> Result<(), ZoningFault> {
     if zoning.put_alias(name, &[]) != Err(ZoningFault::Empty) {
-        return Ok(Ok(()));
+        return Ok(());
     }
     if zoning.put_zone(name, &[]) != Err(ZoningFault::Empty) {
-        return Ok(Ok(()));
+        return Ok(());
     }
-    Ok(zoning.put_set(name, &[]))
+    zoning.put_set(name, &[])
 }
 
-/// A zone and a port.
-fn row_of(zone: &str, port: usize) -> Result<(Name, Wwn), Fail> {
-    Ok((Name::read(zone)?, port_name(port)?))
+/// Puts, drops or activates something.
+fn define(rt: &impl Abort, zoning: &mut Zoning<Global>, act: Act) -> Result<(), ZoningFault> {
+    match act {
+        Act::Alias(name, port) => {
+            zoning.put_alias(named(rt, name), &[Member::Port(port_of(rt, port).name)])
+        }
+        Act::Zone(name, one, other) => {
+            let members = [member_of(rt, one), member_of(rt, other)];
+            zoning.put_zone(named(rt, name), &members)
+        }
+        Act::Set(name, one, other) => {
+            let zones = [named(rt, one), named(rt, other)];
+            zoning.put_set(named(rt, name), &zones)
+        }
+        Act::Nothing(name) => put_nothing(zoning, named(rt, name)),
+        Act::DropAlias(name) => zoning.drop_alias(&named(rt, name)),
+        Act::DropZone(name) => zoning.drop_zone(&named(rt, name)),
+        Act::DropSet(name) => zoning.drop_set(&named(rt, name)),
+        Act::Activate(name) => zoning.activate(&named(rt, name)),
+        _ => Ok(()),
+    }
 }
 
-/// Makes two rows active, under the name of the first zone.
+/// Makes two rows of a port each active, under the name of the first zone.
 fn set_rows(
+    rt: &impl Abort,
     zoning: &mut Zoning<Global>,
-    row: (Name, Wwn),
-    other: (Name, Wwn),
-) -> Result<(), AllocError> {
-    let (zone, port) = row;
-    let (other_zone, other_port) = other;
+    (zone, port): (&str, usize),
+    (other_zone, other_port): (&str, usize),
+) {
+    let zone = named(rt, zone);
     let rows = [
-        (zone, Member::Port(port)),
-        (other_zone, Member::Port(other_port)),
+        (zone, Member::Port(port_of(rt, port).name)),
+        (
+            named(rt, other_zone),
+            Member::Port(port_of(rt, other_port).name),
+        ),
     ];
-    zoning.set_active(zone, &rows)
+    zoning.set_active(zone, &rows).expect(rt, "memory");
 }
 
 /// Takes a step.
-fn change(zoning: &mut Zoning<Global>, act: Act) -> Result<Result<(), ZoningFault>, Fail> {
+fn change(rt: &impl Abort, zoning: &mut Zoning<Global>, act: Act) -> Result<(), ZoningFault> {
     match act {
-        Act::Copied => *zoning = zoning.copy()?,
-        Act::Nothing(name) => return put_nothing(zoning, name),
+        Act::Copied => *zoning = zoning.copy().expect(rt, "memory"),
         Act::Rows(zone, port, other_zone, other_port) => {
-            set_rows(zoning, row_of(zone, port)?, row_of(other_zone, other_port)?)?;
+            set_rows(rt, zoning, (zone, port), (other_zone, other_port));
         }
         Act::Deactivate => zoning.deactivate(),
         Act::Default(flag) => zoning.set_default(flag),
-        Act::Alias(..) | Act::Zone(..) | Act::Set(..) => return put(zoning, act),
-        _ => return drop_or_activate(zoning, act),
+        _ => return define(rt, zoning, act),
     }
-    Ok(Ok(()))
+    Ok(())
 }
 
 /// Whether a step was answered so.
-fn is_answered(answer: Result<(), ZoningFault>, want: Want) -> Result<bool, Fail> {
+fn is_answered(rt: &impl Abort, answer: Result<(), ZoningFault>, want: Want) -> bool {
     let fault = match want {
-        Want::Done => return Ok(answer.is_ok()),
+        Want::Done => return answer.is_ok(),
         Want::Empty => ZoningFault::Empty,
-        Want::Unknown(name) => ZoningFault::Unknown(Name::read(name)?),
-        Want::InUse(name, user) => ZoningFault::InUse(Name::read(name)?, Name::read(user)?),
-        _ => return Ok(false),
+        Want::Unknown(name) => ZoningFault::Unknown(named(rt, name)),
+        Want::InUse(name, user) => ZoningFault::InUse(named(rt, name), named(rt, user)),
+        _ => return false,
     };
-    Ok(answer == Err(fault))
+    answer == Err(fault)
 }
 
 /// Whether that is why.
-fn is_why(why: Option<Why<'_>>, want: Want) -> Result<bool, Fail> {
+fn is_why(why: Option<Why<'_>>, want: Want) -> bool {
     match (why, want) {
-        (Some(Why::Zone(zone)), Want::ByZone(name)) => Ok(*zone == Name::read(name)?),
-        (Some(Why::Default), Want::ByDefault) => Ok(true),
-        (None, Want::Apart) => Ok(true),
-        _ => Ok(false),
+        (Some(Why::Zone(zone)), Want::ByZone(name)) => zone.as_str() == name,
+        (Some(Why::Default), Want::ByDefault) => true,
+        (None, Want::Apart) => true,
+        _ => false,
     }
 }
 
 /// Whether two ports are joined so, asked both ways round.
-fn are_joined(zoning: &Zoning<Global>, p: usize, q: usize, want: Want) -> Result<bool, Fail> {
-    let p = port_at(port_name(p)?, node_name(p)?, login_of(p)?);
-    let q = port_at(port_name(q)?, node_name(q)?, login_of(q)?);
-    if !is_why(zoning.joined(&p, &q), want)? {
-        return Ok(false);
-    }
-    is_why(zoning.joined(&q, &p), want)
+fn are_joined(
+    rt: &impl Abort,
+    zoning: &Zoning<Global>,
+    (p, q): (usize, usize),
+    want: Want,
+) -> bool {
+    let p = port_of(rt, p);
+    let q = port_of(rt, q);
+    is_why(zoning.joined(&p, &q), want) && is_why(zoning.joined(&q, &p), want)
 }
 
 /// Whether a line is answered so.
-fn is_right(zoning: &mut Zoning<Global>, act: Act, want: Want) -> Result<bool, Fail> {
+fn is_right(rt: &impl Abort, zoning: &mut Zoning<Global>, act: Act, want: Want) -> bool {
     match act {
-        Act::Joined(p, q) => are_joined(zoning, p, q, want),
-        Act::Sound => Ok(zoning.is_sound()),
-        _ => {
-            let answer = change(zoning, act)?;
-            is_answered(answer, want)
-        }
+        Act::Joined(p, q) => are_joined(rt, zoning, (p, q), want),
+        Act::Sound => zoning.is_sound(),
+        _ => is_answered(rt, change(rt, zoning, act), want),
     }
 }
 
-/// Whether the lines of a table are right, one after the other.
-fn are_right_in(zoning: &mut Zoning<Global>, lines: &[(Act, Want)]) -> Result<bool, Fail> {
+/// The lines of a table are right, one after the other, from a zoning with nothing on.
+fn assert_right(rt: &(impl Abort + AllocGlobal), lines: &[(Act, Want)]) {
+    let mut zoning = Zoning::new(rt.alloc(), Fabric::A);
     for (act, want) in lines {
-        if !is_right(zoning, *act, *want)? {
-            return Ok(false);
-        }
+        assert!(rt; is_right(rt, &mut zoning, *act, *want));
     }
-    Ok(true)
-}
-
-/// Whether the lines of a table are right, from a zoning with nothing on.
-fn are_right(alloc: Global, lines: &[(Act, Want)]) -> Result<bool, Fail> {
-    let mut zoning = Zoning::new(alloc, Fabric::A);
-    are_right_in(&mut zoning, lines)
 }
 
 #[test]
-fn joined_by_active_set(rt: HostRuntime) -> Result<(), Fail> {
-    assert!(rt; are_right(rt.alloc(), ACTIVE_SET)?);
-    Ok(())
+fn joined_by_active_set(rt: HostRuntime) {
+    assert_right(&rt, ACTIVE_SET);
 }
 
 #[test]
-fn default_zone(rt: HostRuntime) -> Result<(), Fail> {
-    assert!(rt; are_right(rt.alloc(), DEFAULT_ZONE)?);
-    Ok(())
+fn default_zone(rt: HostRuntime) {
+    assert_right(&rt, DEFAULT_ZONE);
 }
 
 #[test]
-fn first_zone_by_name(rt: HostRuntime) -> Result<(), Fail> {
-    assert!(rt; are_right(rt.alloc(), FIRST_ZONE)?);
-    Ok(())
+fn first_zone_by_name(rt: HostRuntime) {
+    assert_right(&rt, FIRST_ZONE);
 }
 
 #[test]
-fn members_for_several_ports(rt: HostRuntime) -> Result<(), Fail> {
-    assert!(rt; are_right(rt.alloc(), SEVERAL_PORTS)?);
-    Ok(())
+fn members_for_several_ports(rt: HostRuntime) {
+    assert_right(&rt, SEVERAL_PORTS);
 }
 
 #[test]
-fn active_set_is_a_copy(rt: HostRuntime) -> Result<(), Fail> {
-    assert!(rt; are_right(rt.alloc(), COPIES)?);
-    Ok(())
+fn active_set_is_a_copy(rt: HostRuntime) {
+    assert_right(&rt, COPIES);
 }
 
 #[test]
-fn refusals_by_the_first(rt: HostRuntime) -> Result<(), Fail> {
-    assert!(rt; are_right(rt.alloc(), REFUSALS)?);
-    Ok(())
+fn refusals_by_the_first(rt: HostRuntime) {
+    assert_right(&rt, REFUSALS);
 }
 
 /// Something of which there may be so many, with so many members.
@@ -484,23 +441,23 @@ const COUNTS: &[(Kind, u32, u32, Option<ZoningLimit>)] = &[
 
 /// What the last of so many puts answers, the names coming round; the others are accepted.
 fn last_put(
-    alloc: Global,
+    rt: &(impl Abort + AllocGlobal),
     kind: Kind,
     names: u32,
     puts: u32,
-) -> Result<Result<(), ZoningFault>, Fail> {
-    let mut zoning = Zoning::new(alloc, Fabric::B);
-    let zone = numbered(alloc, 0)?;
-    put_one(&mut zoning, Kind::Zone, zone, zone)?;
+) -> Result<(), ZoningFault> {
+    let mut zoning = Zoning::new(rt.alloc(), Fabric::B);
+    let zone = numbered(rt, 0);
+    put_one(&mut zoning, Kind::Zone, zone, zone).expect(rt, "a zone");
     for number in 1..puts {
-        put_one(&mut zoning, kind, numbered(alloc, number - 1)?, zone)?;
+        put_one(&mut zoning, kind, numbered(rt, number - 1), zone).expect(rt, "one of so many");
     }
     let last = if names < puts {
         0
     } else {
         names.saturating_sub(1)
     };
-    Ok(put_one(&mut zoning, kind, numbered(alloc, last)?, zone))
+    put_one(&mut zoning, kind, numbered(rt, last), zone)
 }
 
 /// Whether it was accepted, or refused by this limit.
@@ -512,43 +469,44 @@ pub(crate) fn is_limited(answer: Result<(), ZoningFault>, limit: Option<ZoningLi
 }
 
 #[test]
-fn limits_of_a_fabric(rt: HostRuntime) -> Result<(), Fail> {
+fn limits_of_a_fabric(rt: HostRuntime) {
     for &(kind, names, puts, limit) in COUNTS {
-        let answer = last_put(rt.alloc(), kind, names, puts)?;
+        let answer = last_put(&rt, kind, names, puts);
         assert!(rt; is_limited(answer, limit));
     }
-    Ok(())
 }
 
 /// So many ports, from this number on.
-pub(crate) fn ports(alloc: Global, first: u32, count: u32) -> Result<Vec<Member>, AllocError>
-    ensures { IfOk result (λ members. All IsPlain members.items) }
+pub(crate) fn ports(rt: &(impl Abort + AllocGlobal), first: u32, count: u32) -> Vec<Member>
+    ensures { All IsPlain result.items }
 {
-    let mut members = Vec::new(alloc);
+    let mut members = Vec::new(rt.alloc());
     for number in 0..count {
         let number = u64::from(first) + u64::from(number);
-        members.push(Member::Port(Wwn::new(number + 1)))?;
+        members
+            .push(Member::Port(Wwn::new(number + 1)))
+            .expect(rt, "memory");
     }
-    Ok(members)
+    members
 }
 
 /// Puts one with so many members.
 fn put_long(
-    alloc: Global,
+    rt: &(impl Abort + AllocGlobal),
     zoning: &mut Zoning<Global>,
     kind: Kind,
     count: u32,
-) -> Result<Result<(), ZoningFault>, Fail> {
-    let name = numbered(alloc, 1)?;
+) -> Result<(), ZoningFault> {
+    let name = numbered(rt, 1);
     match kind {
-        Kind::Alias => Ok(zoning.put_alias(name, &ports(alloc, 0, count)?)),
-        Kind::Zone => Ok(zoning.put_zone(name, &ports(alloc, 0, count)?)),
+        Kind::Alias => zoning.put_alias(name, &ports(rt, 0, count)),
+        Kind::Zone => zoning.put_zone(name, &ports(rt, 0, count)),
         Kind::Set => {
-            let mut zones = Vec::new(alloc);
+            let mut zones = Vec::new(rt.alloc());
             for _ in 0..count {
-                zones.push(name)?;
+                zones.push(name).expect(rt, "memory");
             }
-            Ok(zoning.put_set(name, &zones))
+            zoning.put_set(name, &zones)
         }
     }
 }
@@ -564,27 +522,26 @@ const LENGTHS: &[(Kind, u32, Option<ZoningLimit>)] = &[
 ];
 
 #[test]
-fn limits_of_members(rt: HostRuntime) -> Result<(), Fail> {
-    let alloc = rt.alloc();
-    let mut zoning = Zoning::new(alloc, Fabric::A);
+fn limits_of_members(rt: HostRuntime) {
+    let mut zoning = Zoning::new(rt.alloc(), Fabric::A);
     for &(kind, count, limit) in LENGTHS {
-        let answer = put_long(alloc, &mut zoning, kind, count)?;
+        let answer = put_long(&rt, &mut zoning, kind, count);
         assert!(rt; is_limited(answer, limit));
     }
-    Ok(())
 }
 
 /// A map of one set of one item.
 fn single<Q: Ord + Drop, K: Ord + Drop>(
-    alloc: Global,
+    rt: &(impl Abort + AllocGlobal),
     key: Q,
     item: K,
-) -> Result<BTreeMap<Q, BTreeSet<K>>, Fail> {
-    let mut set = BTreeSet::new(alloc);
-    set.insert(item)?;
-    let mut map = BTreeMap::new(alloc);
-    map.insert(key, set)?;
-    Ok(map)
+) -> BTreeMap<Q, BTreeSet<K>> {
+    let mut set = BTreeSet::new(rt.alloc());
+    set.insert(item).expect(rt, "memory");
+    let mut map = BTreeMap::new(rt.alloc());
+    let added: Result<_, _> = map.insert(key, set);
+    added.expect(rt, "memory");
+    map
 }
 
 /// What may be wrong with parts.
@@ -604,39 +561,46 @@ fn either<T: Copy>(is_so: bool, first: T, second: T) -> T {
     if is_so { first } else { second }
 }
 
+/// The alias as a member, where it is to be one, and else a port.
+fn alias_or_port(rt: &impl Abort, is_alias: bool) -> Member {
+    if is_alias {
+        return Member::Alias(named(rt, "disk"));
+    }
+    Member::Port(port_of(rt, TP1).name)
+}
+
 /// The active rows: the zone with the member, but where they are to be without rows.
 fn active_zones(
-    alloc: Global,
+    rt: &(impl Abort + AllocGlobal),
     wrong: Wrong,
     member: Member,
     zone: Name,
-) -> Result<BTreeMap<Member, BTreeSet<Name>>, Fail> {
+) -> BTreeMap<Member, BTreeSet<Name>> {
     if wrong == Wrong::NameWithoutRows {
-        return Ok(BTreeMap::new(alloc));
+        return BTreeMap::new(rt.alloc());
     }
-    single(alloc, member, zone)
+    single(rt, member, zone)
 }
 
 /// A zoning of an alias, a zone with it, a set with that and the same active, with this wrong.
-fn parts(alloc: Global, wrong: Wrong) -> Result<Zoning<Global>, Fail> {
-    let port = Member::Port(port_name(TP1)?);
-    let disk = Name::read("disk")?;
-    let zone = Name::read("z1")?;
-    let zone_set = Name::read("s1")?;
-    let in_alias = either(wrong == Wrong::AliasInAlias, Member::Alias(disk), port);
+fn parts(rt: &(impl Abort + AllocGlobal), wrong: Wrong) -> Zoning<Global> {
+    let disk = named(rt, "disk");
+    let zone = named(rt, "z1");
+    let zone_set = named(rt, "s1");
+    let in_alias = alias_or_port(rt, wrong == Wrong::AliasInAlias);
     let in_zone = either(wrong == Wrong::UnknownAlias, zone, disk);
     let in_set = either(wrong == Wrong::UnknownZone, disk, zone);
     let active = either(wrong == Wrong::RowsWithoutName, None, Some(zone_set));
-    let member = either(wrong == Wrong::ActiveAlias, Member::Alias(disk), port);
+    let member = alias_or_port(rt, wrong == Wrong::ActiveAlias);
     let parts = ZoningParts {
-        aliases: single(alloc, disk, in_alias)?,
-        zones: single(alloc, zone, Member::Alias(in_zone))?,
-        sets: single(alloc, zone_set, in_set)?,
+        aliases: single(rt, disk, in_alias),
+        zones: single(rt, zone, Member::Alias(in_zone)),
+        sets: single(rt, zone_set, in_set),
         active,
-        active_zones: active_zones(alloc, wrong, member, zone)?,
+        active_zones: active_zones(rt, wrong, member, zone),
         flag: DefaultFlag::Permit,
     };
-    Ok(Zoning::from_parts(alloc, Fabric::A, parts))
+    Zoning::from_parts(rt.alloc(), Fabric::A, parts)
 }
 
 /// What is wrong, and whether definitions and active rows are sound.
@@ -658,24 +622,23 @@ fn is_sound_so(zoning: &Zoning<Global>, definitions: bool, active: bool) -> bool
 }
 
 #[test]
-fn parts_that_are_sound(rt: HostRuntime) -> Result<(), Fail> {
+fn parts_that_are_sound(rt: HostRuntime) {
     for &(wrong, definitions, active) in PARTS {
-        let zoning = parts(rt.alloc(), wrong)?;
+        let zoning = parts(&rt, wrong);
         assert!(rt; is_sound_so(&zoning, definitions, active));
     }
-    Ok(())
 }
 
 /// Whether just this one of three names is shown as an alias, a zone and a set, with its user.
-fn is_shown(zoning: &Zoning<Global>, text: &str) -> Result<[bool; 5], Fail> {
-    let name = Name::read(text)?;
-    Ok([
+fn is_shown(rt: &impl Abort, zoning: &Zoning<Global>, text: &str) -> [bool; 5] {
+    let name = named(rt, text);
+    [
         zoning.alias(&name).is_some(),
         zoning.zone(&name).is_some(),
         zoning.zone_set(&name).is_some(),
         zoning.user_of_alias(&name).is_some(),
         zoning.user_of_zone(&name).is_some(),
-    ])
+    ]
 }
 
 /// Names, and whether each is an alias, a zone, a set, an alias in use and a zone in use.
@@ -687,12 +650,11 @@ const SHOWN: &[(&str, [bool; 5])] = &[
 ];
 
 #[test]
-fn names_that_are_shown(rt: HostRuntime) -> Result<(), Fail> {
-    let zoning = parts(rt.alloc(), Wrong::Nothing)?;
+fn names_that_are_shown(rt: HostRuntime) {
+    let zoning = parts(&rt, Wrong::Nothing);
     for &(name, shown) in SHOWN {
-        assert!(rt; is_shown(&zoning, name)? == shown);
+        assert!(rt; is_shown(&rt, &zoning, name) == shown);
     }
-    Ok(())
 }
 
 /// How many aliases, zones, sets and active members are walked through.
@@ -717,30 +679,22 @@ fn is_active_member(zoning: &Zoning<Global>, member: Member, zone: &Name) -> boo
 }
 
 /// Whether the rest of such a zoning is shown as it was given.
-fn rest_is_shown(zoning: &Zoning<Global>) -> Result<bool, Fail> {
-    let zone = Name::read("z1")?;
-    let port = port_at(port_name(TP1)?, node_name(TP1)?, login_of(TP1)?);
-    if !zoning.has_active(&zone, &Member::Port(port.name)) {
-        return Ok(false);
-    }
+fn rest_is_shown(rt: &impl Abort, zoning: &Zoning<Global>) -> bool {
+    let zone = named(rt, "z1");
+    let port = port_of(rt, TP1);
     let zones = zoning.zones_of(&port);
-    if zones.is_empty() || !zones.contains(&zone) {
-        return Ok(false);
-    }
-    if !is_active_member(zoning, Member::Port(port.name), &zone) {
-        return Ok(false);
-    }
-    Ok(
-        zoning.fabric() == Fabric::A
-            && zoning.flag() == DefaultFlag::Permit
-            && zoning.active() == Some(Name::read("s1")?),
-    )
+    zoning.has_active(&zone, &Member::Port(port.name))
+        && !zones.is_empty()
+        && zones.contains(&zone)
+        && is_active_member(zoning, Member::Port(port.name), &zone)
+        && zoning.fabric() == Fabric::A
+        && zoning.flag() == DefaultFlag::Permit
+        && zoning.active() == Some(named(rt, "s1"))
 }
 
 #[test]
-fn the_rest_is_shown(rt: HostRuntime) -> Result<(), Fail> {
-    let zoning = parts(rt.alloc(), Wrong::Nothing)?;
+fn the_rest_is_shown(rt: HostRuntime) {
+    let zoning = parts(&rt, Wrong::Nothing);
     assert!(rt; walked(&zoning) == [1, 1, 1, 1]);
-    assert!(rt; rest_is_shown(&zoning)?);
-    Ok(())
+    assert!(rt; rest_is_shown(&rt, &zoning));
 }

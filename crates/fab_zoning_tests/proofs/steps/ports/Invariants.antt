@@ -3,4 +3,4 @@ use Rattle.fab_zoning.specs.Rows.{IsPlain}
 use Rattle.fab_zoning_tests.proofs.steps.ports.Given as goal
 
 abbrev pub invariant-loop-number : goal.invariant-loop-number
-invariant-loop-number l = All IsPlain l.members.items
+invariant-loop-number g l = All IsPlain l.members.items
