@@ -6,22 +6,20 @@ ghost use Rattle.fab_world.specs.Worlds.{records_of};
 ghost use Rattle.fab_next.specs.Nexts.{next_world, Suits};
 ghost use Rattle.fab_machine.specs.Trials.{IsStepReady};
 
-use crate::small::{Came, Heap, Means, Order, ask, came_of, carry_out, command, fill, is_made_by};
-use fab_asking::{ADA, opened, policy};
-use fab_desk_base::Command;
+use crate::small::{
+    Came, Heap, Means, Order, ask, came_of, carry_out, command, filled, is_made_by,
+};
+use fab_asking::{ADA, policy};
 use fab_machine::{Change, Proposal, propose, take_over};
 use fab_policy::Policy;
 use fab_port_book::PortBook;
 use fab_reach::PathBook;
 use fab_refusing::Refusing;
 use fab_world::World;
-use std::alloc::Global;
 use std::process::Abort;
-use std::test::Fail;
 
 /// What the desk is asked, what comes of it with ample memory, and of what before and after it the
 /// world is made and how many paths the host has.
-#[derive(Clone, Copy)]
 struct Case<'c> {
     order: Order,
     came: Came,
@@ -79,7 +77,6 @@ const CASES: &[Case<'static>] = &[
 const MOST: u64 = 10_000;
 
 /// What a refused request led to.
-#[derive(Clone, Copy, PartialEq, Eq)]
 enum Turnout {
     /// The command made fewer requests, and was carried out.
     Through,
@@ -87,176 +84,135 @@ enum Turnout {
     Without,
     /// Want of memory was answered, the desk was as before, and then it carried out the command.
     Refused,
-    /// None of these.
-    Astray,
 }
 
-/// Whether the world is as these make it, and the host has so many paths.
-fn is_as<'a, B: PathBook<Heap<'a>>>(
+/// Ends the test where the world is not as these make it, or the host has not so many paths.
+fn look<'a, R: Abort + AllocGlobal, B: PathBook<Heap<'a>>>(
+    rt: &R,
     means: Means<'a>,
     world: &mut World<Heap<'a>>,
     book: &mut B,
     made: (&[Order], usize),
-) -> Result<bool, Fail>
+)
     requires sound { IsSound world.old }
     requires stands { B.stands book.old (records_of world.old) }
     ensures sound { IsSound world.new }
     ensures stands { B.stands book.new (records_of world.new) }
 {
-    if !is_made_by(means, world, made.0)? {
-        return Ok(false);
-    }
-    Ok(ask(means, world, book, Order::Paths)? == Came::Paths(made.1))
+    assert!(rt; is_made_by::<R, B>(rt, means, world, made.0));
+    let came = ask(rt, means, world, book, Order::Paths);
+    assert!(rt; came == Came::Paths(made.1));
 }
 
-/// Whether the desk is as before, and then does what the case asks.
-fn is_as_ever<'a, B: PathBook<Heap<'a>>>(
-    means: Means<'a>,
-    world: &mut World<Heap<'a>>,
-    book: &mut B,
-    case: &Case<'_>,
-) -> Result<bool, Fail>
-    requires sound { IsSound world.old }
-    requires stands { B.stands book.old (records_of world.old) }
-    ensures sound { IsSound world.new }
-    ensures stands { B.stands book.new (records_of world.new) }
-{
-    if !is_as(means, world, book, case.before)? {
-        return Ok(false);
-    }
-    Ok(ask(means, world, book, case.order)? == case.came)
-}
-
-/// What a refused request led to, by what came of the command.
-fn led_to<'a, B: PathBook<Heap<'a>>>(
+/// What a refused request led to, by what came of the command. Ends the test where it led astray: to
+/// something else than want of memory, to a desk that is not as before, or to one that does not carry
+/// out the command then.
+fn led_to<'a, R: Abort + AllocGlobal, B: PathBook<Heap<'a>>>(
+    rt: &R,
     means: Means<'a>,
     world: &mut World<Heap<'a>>,
     book: &mut B,
     case: &Case<'_>,
     came: Came,
     refused: bool,
-) -> Result<Turnout, Fail>
+) -> Turnout
     requires sound { IsSound world.old }
     requires stands { B.stands book.old (records_of world.old) }
     ensures sound { IsSound world.new }
     ensures stands { B.stands book.new (records_of world.new) }
 {
     if came == case.came {
-        return Ok(if refused {
+        return if refused {
             Turnout::Without
         } else {
             Turnout::Through
-        });
+        };
     }
-    if came != Came::Memory || !refused {
-        return Ok(Turnout::Astray);
-    }
-    Ok(if is_as_ever(means, world, book, case)? {
-        Turnout::Refused
-    } else {
-        Turnout::Astray
-    })
+    assert!(rt; refused && came == Came::Memory);
+    look(rt, means, world, book, case.before);
+    let again = ask(rt, means, world, book, case.order);
+    assert!(rt; again == case.came);
+    Turnout::Refused
 }
 
-/// Has the desk carry out a command with the request behind so many refused: what came of it, and
-/// whether a request was refused.
-fn armed<'a, B: PathBook<Heap<'a>>>(
+/// Does what the case asks on a new world, with the request behind so many refused: what that led to.
+/// Ends the test where the world is not as the case has it then.
+fn tried<'a, R: Abort + AllocGlobal, B: PathBook<Heap<'a>>>(
+    rt: &R,
     means: Means<'a>,
     world: &mut World<Heap<'a>>,
-    book: &mut B,
-    command: Command<Heap<'a>>,
+    case: &Case<'_>,
     requests: u64,
-) -> (Came, bool)
+) -> Turnout
     requires sound { IsSound world.old }
-    requires stands { B.stands book.old (records_of world.old) }
-    ensures sound { IsSound world.new }
-    ensures stands { B.stands book.new (records_of world.new) }
 {
+    let mut book: B = filled(rt, means, world, case.before.0);
+    let command = command(rt, means.heap, case.order);
     means.heap.refuse_after(requests);
-    let came = carry_out(means, world, book, command);
+    let came = carry_out(means, world, &mut book, command);
     let refused = means.heap.has_refused();
     means.heap.refuse_none();
-    (came, refused)
-}
-
-/// Does what the case asks, with the request behind so many refused, on a desk that is ready for it.
-fn tried<'a, B: PathBook<Heap<'a>>>(
-    means: Means<'a>,
-    world: &mut World<Heap<'a>>,
-    book: &mut B,
-    case: &Case<'_>,
-    requests: u64,
-) -> Result<Turnout, Fail>
-    requires sound { IsSound world.old }
-    requires stands { B.stands book.old (records_of world.old) }
-{
-    let command = command(means.heap, means.alloc, case.order)?;
-    let (came, refused) = armed(means, world, book, command, requests);
-    let turnout = led_to(means, world, book, case, came, refused)?;
-    Ok(if is_as(means, world, book, case.after)? {
-        turnout
-    } else {
-        Turnout::Astray
-    })
-}
-
-/// The same on a new world.
-fn tried_on<'a, B: PathBook<Heap<'a>>>(
-    means: Means<'a>,
-    world: &mut World<Heap<'a>>,
-    case: &Case<'_>,
-    requests: u64,
-) -> Result<Turnout, Fail>
-    requires sound { IsSound world.old }
-{
-    let mut book: B = opened(means.heap, world)?;
-    fill(means, world, &mut book, case.before.0)?;
-    tried(means, world, &mut book, case, requests)
+    let turnout = led_to(rt, means, world, &mut book, case, came, refused);
+    look(rt, means, world, &mut book, case.after);
+    turnout
 }
 
 /// The same on an allocator of its own.
-fn refuse(alloc: Global, policy: &Policy, case: &Case<'_>, requests: u64) -> Result<Turnout, Fail> {
-    let heap = Refusing::new(alloc);
+fn refuse<R: Abort + AllocGlobal>(
+    rt: &R,
+    policy: &Policy,
+    case: &Case<'_>,
+    requests: u64,
+) -> Turnout {
+    let heap = Refusing::new(rt.alloc());
     let means = Means {
         heap: &heap,
-        alloc,
         policy,
     };
     let mut world = World::new(means.heap);
-    tried_on::<PortBook<Heap<'_>>>(means, &mut world, case, requests)
+    tried::<R, PortBook<Heap<'_>>>(rt, means, &mut world, case, requests)
 }
 
 /// How many requests of the case's command were answered with want of memory, until the command met
 /// no refusal.
-fn refusals(rt: &impl Abort, alloc: Global, policy: &Policy, case: &Case<'_>) -> Result<u64, Fail> {
+fn refusals(rt: &(impl Abort + AllocGlobal), policy: &Policy, case: &Case<'_>) -> u64 {
     let mut refusals = 0u64;
     for requests in 0..MOST {
-        match refuse(alloc, policy, case, requests)? {
-            Turnout::Through => return Ok(refusals),
+        match refuse(rt, policy, case, requests) {
+            Turnout::Through => return refusals,
             Turnout::Without => {}
             Turnout::Refused => refusals = refusals.saturating_add(1),
-            Turnout::Astray => assert!(rt; false),
         }
     }
-    Err(Fail::from("each command met a refusal"))
+    panic!(rt; "each command met a refusal")
 }
 
-/// Whether some request of the case's command was answered with want of memory, and none led astray.
-fn is_refused_in_turn(rt: &impl Abort, alloc: Global, case: &Case<'_>) -> Result<bool, Fail> {
-    let policy = policy(alloc)?;
-    Ok(refusals(rt, alloc, &policy, case)? > 0)
+/// The policy of the tests.
+fn read_policy(rt: &(impl Abort + AllocGlobal)) -> Policy {
+    match policy(rt.alloc()) {
+        Ok(policy) => policy,
+        Err(_) => panic!(rt; "a policy"),
+    }
+}
+
+/// Whether some request of the case's command was answered with want of memory. Ends the test where
+/// one led astray.
+fn is_refused_in_turn(rt: &(impl Abort + AllocGlobal), case: &Case<'_>) -> bool {
+    let policy = read_policy(rt);
+    refusals(rt, &policy, case) > 0
 }
 
 #[test]
-fn each_request_is_refused_in_turn(rt: HostRuntime) -> Result<(), Fail> {
+fn each_request_is_refused_in_turn(rt: HostRuntime) {
     for case in CASES {
-        assert!(rt; is_refused_in_turn(&rt, rt.alloc(), case)?);
+        assert!(rt; is_refused_in_turn(&rt, case));
     }
-    Ok(())
 }
 
-/// What came of a change that is taken over without memory, once there is room for it.
-fn come_without<'a, B: PathBook<Heap<'a>>>(
+/// What came of a change that is taken over without memory, once there is room for it. Ends the test
+/// where a request is made for it.
+fn come_without<'a, R: Abort, B: PathBook<Heap<'a>>>(
+    rt: &R,
     means: Means<'a>,
     world: &mut World<Heap<'a>>,
     book: &mut B,
@@ -270,68 +226,46 @@ fn come_without<'a, B: PathBook<Heap<'a>>>(
         Ok(()) => {
             means.heap.refuse_after(0);
             let reply = take_over(means.heap, change, world, book);
-            if means.heap.has_refused() {
-                return Came::Other;
-            }
+            assert!(rt; !means.heap.has_refused());
             came_of(&reply)
         }
-        Err(_) => Came::Other,
+        Err(_) => panic!(rt; "room"),
     }
 }
 
-/// Whether what is proposed for the command is a change, and is taken over without memory: what
-/// came of it.
-fn taken_over<'a, B: PathBook<Heap<'a>>>(
-    means: Means<'a>,
-    world: &mut World<Heap<'a>>,
-    book: &mut B,
-    command: Command<Heap<'a>>,
-) -> Came
-    requires sound { IsSound world.old }
-    requires stands { B.stands book.old (records_of world.old) }
-{
-    match propose(means.heap, world, book, means.policy, ADA, 0, command) {
-        Proposal::Answer(_) => Came::Other,
-        Proposal::Ready(change) => come_without(means, world, book, change),
-    }
-}
-
-/// What came of the case's command on a new world, where it was taken over without memory.
-fn taken_over_on<'a, B: PathBook<Heap<'a>>>(
+/// What came of the case's command on a new world, where it was taken over without memory. Ends the
+/// test where what is proposed for it is no change.
+fn taken_over<'a, R: Abort + AllocGlobal, B: PathBook<Heap<'a>>>(
+    rt: &R,
     means: Means<'a>,
     world: &mut World<Heap<'a>>,
     case: &Case<'_>,
-) -> Result<Came, Fail>
+) -> Came
     requires sound { IsSound world.old }
 {
-    let mut book: B = opened(means.heap, world)?;
-    fill(means, world, &mut book, case.before.0)?;
-    let command = command(means.heap, means.alloc, case.order)?;
-    Ok(taken_over(means, world, &mut book, command))
-}
-
-/// The same on an allocator of its own.
-fn take(alloc: Global, policy: &Policy, case: &Case<'_>) -> Result<Came, Fail> {
-    let heap = Refusing::new(alloc);
-    let means = Means {
-        heap: &heap,
-        alloc,
-        policy,
-    };
-    let mut world = World::new(means.heap);
-    taken_over_on::<PortBook<Heap<'_>>>(means, &mut world, case)
+    let mut book: B = filled(rt, means, world, case.before.0);
+    let command = command(rt, means.heap, case.order);
+    match propose(means.heap, world, &mut book, means.policy, ADA, 0, command) {
+        Proposal::Answer(_) => panic!(rt; "a change"),
+        Proposal::Ready(change) => come_without(rt, means, world, &mut book, change),
+    }
 }
 
 /// Whether the change that the case's command makes is taken over without memory.
-fn needs_no_memory(alloc: Global, case: &Case<'_>) -> Result<bool, Fail> {
-    let policy = policy(alloc)?;
-    Ok(take(alloc, &policy, case)? == case.came)
+fn needs_no_memory<R: Abort + AllocGlobal>(rt: &R, case: &Case<'_>) -> bool {
+    let policy = read_policy(rt);
+    let heap = Refusing::new(rt.alloc());
+    let means = Means {
+        heap: &heap,
+        policy: &policy,
+    };
+    let mut world = World::new(means.heap);
+    taken_over::<R, PortBook<Heap<'_>>>(rt, means, &mut world, case) == case.came
 }
 
 #[test]
-fn ready_changes_need_no_memory(rt: HostRuntime) -> Result<(), Fail> {
+fn ready_changes_need_no_memory(rt: HostRuntime) {
     for case in CASES {
-        assert!(rt; needs_no_memory(rt.alloc(), case)?);
+        assert!(rt; needs_no_memory(&rt, case));
     }
-    Ok(())
 }

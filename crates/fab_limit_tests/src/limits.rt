@@ -4,7 +4,7 @@ use crate::worlds::{Nearly, world};
 use fab_asking::{ADA, Ask, NO_PORTS, See, Turn, Wide, holds, holds_in};
 use fab_inventory::HolderKind::{Array, Host};
 use fab_names::Fabric;
-use std::alloc::Global;
+use std::process::Abort;
 use std::test::Fail;
 
 /// A list of one port.
@@ -103,40 +103,38 @@ const CHANGES: &[Turn] = &[
     (ADA, 0, Ask::Show(See::Holder(Host, "one")), "host one blue"),
 ];
 
-/// Whether the world answers so.
-fn is_kept(alloc: Global, nearly: Nearly, stages: &[&[Turn]]) -> Result<bool, Fail> {
-    let mut world = world(alloc, nearly)?;
-    holds_in(alloc, &mut world, stages)
+/// Ends the test where the world does not answer so.
+fn hold(rt: &(impl Abort + AllocGlobal), nearly: Nearly, stages: &[&[Turn]]) {
+    let mut world = world(rt, nearly);
+    match holds_in(rt.alloc(), &mut world, stages) {
+        Ok(is_so) => assert!(rt; is_so),
+        Err(_) => panic!(rt; "a sound world, commands, and memory"),
+    }
 }
 
 #[test]
-fn the_last_port_is_taken(rt: HostRuntime) -> Result<(), Fail> {
-    assert!(rt; is_kept(rt.alloc(), Nearly::Ports, &[PORTS])?);
-    Ok(())
+fn the_last_port_is_taken(rt: HostRuntime) {
+    hold(&rt, Nearly::Ports, &[PORTS]);
 }
 
 #[test]
-fn the_last_holder_is_taken(rt: HostRuntime) -> Result<(), Fail> {
-    assert!(rt; is_kept(rt.alloc(), Nearly::Holders, &[HOLDERS])?);
-    Ok(())
+fn the_last_holder_is_taken(rt: HostRuntime) {
+    hold(&rt, Nearly::Holders, &[HOLDERS]);
 }
 
 #[test]
-fn the_last_volume_is_taken(rt: HostRuntime) -> Result<(), Fail> {
-    assert!(rt; is_kept(rt.alloc(), Nearly::Volumes, &[VOLUMES])?);
-    Ok(())
+fn the_last_volume_is_taken(rt: HostRuntime) {
+    hold(&rt, Nearly::Volumes, &[VOLUMES]);
 }
 
 #[test]
-fn the_last_plan_is_taken(rt: HostRuntime) -> Result<(), Fail> {
-    assert!(rt; is_kept(rt.alloc(), Nearly::Plans, &[PLANS])?);
-    Ok(())
+fn the_last_plan_is_taken(rt: HostRuntime) {
+    hold(&rt, Nearly::Plans, &[PLANS]);
 }
 
 #[test]
-fn the_last_change_is_taken(rt: HostRuntime) -> Result<(), Fail> {
-    assert!(rt; is_kept(rt.alloc(), Nearly::Changes, &[CHANGES])?);
-    Ok(())
+fn the_last_change_is_taken(rt: HostRuntime) {
+    hold(&rt, Nearly::Changes, &[CHANGES]);
 }
 
 /// A list alone may have as many ports as may be known.

@@ -3,7 +3,7 @@
 use fab_asking::{
     ADA, Ask, FIRST, FIRST_INITIATOR, FIRST_TARGET, SECOND, See, Turn, WORLD, holds, holds_at_once,
 };
-use std::alloc::Global;
+use std::process::Abort;
 use std::test::Fail;
 
 /// Requests that are answered by what those before them in the list left, refused ones among them.
@@ -45,13 +45,17 @@ const MIXED: &[Turn] = &[
 /// The lists, an empty one among them.
 const LISTS: &[&[Turn]] = &[WORLD, FIRST, &[], SECOND, MIXED];
 
-/// Whether a desk answers the lists as they say, both one by one and at once.
-fn are_answered_alike(alloc: Global, lists: &[&[Turn]]) -> Result<bool, Fail> {
-    Ok(holds(alloc, lists)? && holds_at_once(alloc, lists)?)
+/// Ends the test where a desk does not answer the lists as they say, one by one or at once.
+///
+/// # Errors
+/// Where a turn says no command, or there is no memory.
+fn hold(rt: &(impl Abort + AllocGlobal), lists: &[&[Turn]]) -> Result<(), Fail> {
+    assert!(rt; holds(rt.alloc(), lists)?);
+    assert!(rt; holds_at_once(rt.alloc(), lists)?);
+    Ok(())
 }
 
 #[test]
 fn lists_are_answered_as_their_requests(rt: HostRuntime) -> Result<(), Fail> {
-    assert!(rt; are_answered_alike(rt.alloc(), LISTS)?);
-    Ok(())
+    hold(&rt, LISTS)
 }

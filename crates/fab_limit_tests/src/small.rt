@@ -12,13 +12,12 @@ use fab_machine::answer;
 use fab_names::{Fabric, Name, Wwn};
 use fab_plans_base::read_plan;
 use fab_policy::Policy;
-use fab_port_book::PortBook;
 use fab_reach::PathBook;
 use fab_refusing::Refusing;
 use fab_rows::TableRows;
 use fab_world::World;
 use std::alloc::Global;
-use std::test::Fail;
+use std::process::Abort;
 
 /// The allocator that refuses a request.
 pub type Heap<'a> = &'a Refusing<Global>;
@@ -70,72 +69,74 @@ const MOVED: &str = "port_name,node_name,domain,port
 50:00:00:00:00:00:00:01,50:00:00:00:00:00:00:00,1,2
 ";
 
-fn import<'a>(heap: Heap<'a>, alloc: Global, text: &str) -> Result<Command<Heap<'a>>, Fail> {
-    let Ok(rows) = read_ports(heap, alloc, text.as_bytes()) else {
-        return Err(Fail::from("port list"));
-    };
-    let fabric = Fabric::A;
-    Ok(Command::Import { fabric, rows })
+/// The name of this text.
+fn named(rt: &impl Abort, text: &str) -> Name {
+    Name::read(text).expect(rt, "a name")
 }
 
-fn put<'a>(
+fn import<'a, R: Abort + AllocGlobal>(rt: &R, heap: Heap<'a>, text: &str) -> Command<Heap<'a>> {
+    let rows = read_ports(heap, rt.alloc(), text.as_bytes()).expect(rt, "a port list");
+    let fabric = Fabric::A;
+    Command::Import { fabric, rows }
+}
+
+fn put<'a, R: Abort>(
+    rt: &R,
     heap: Heap<'a>,
     kind: HolderKind,
     text: &str,
     number: u64,
-) -> Result<Command<Heap<'a>>, Fail>
+) -> Command<Heap<'a>>
     requires { 0 < number }
 {
-    let (name, tenant) = (Name::read(text)?, Name::read("blue")?);
+    let (name, tenant) = (named(rt, text), named(rt, "blue"));
     let mut ports = Vec::new(heap);
-    ports.push(Wwn::new(number))?;
-    Ok(Command::PutHolder {
+    ports.push(Wwn::new(number)).expect(rt, "room for a port");
+    Command::PutHolder {
         kind,
         name,
         tenant,
         ports,
-    })
+    }
 }
 
-fn put_volume<'a>() -> Result<Command<Heap<'a>>, Fail> {
-    let (array, tenant) = (Name::read("arr1")?, Name::read("blue")?);
-    let name = Name::read("v1")?;
+fn put_volume<'a, R: Abort>(rt: &R) -> Command<Heap<'a>> {
+    let (array, tenant) = (named(rt, "arr1"), named(rt, "blue"));
+    let name = named(rt, "v1");
     let bytes = 1;
     let volume = Volume {
         array,
         tenant,
         bytes,
     };
-    Ok(Command::PutVolume { name, volume })
+    Command::PutVolume { name, volume }
 }
 
-fn stage(heap: Heap<'_>) -> Result<Command<Heap<'_>>, Fail> {
-    let plan = Name::read("p1")?;
-    let steps = read_plan(heap, FIRST_PLAN)?;
-    Ok(Command::Stage { plan, steps })
-}
-
-fn activate<'a>() -> Result<Command<Heap<'a>>, Fail> {
-    let plan = Name::read("p1")?;
-    Ok(Command::Activate { plan })
-}
-
-fn paths<'a>() -> Result<Command<Heap<'a>>, Fail> {
-    let host = Name::read("db1")?;
-    Ok(Command::Show(Query::Paths { host }))
+fn stage<'a, R: Abort>(rt: &R, heap: Heap<'a>) -> Command<Heap<'a>> {
+    let plan = named(rt, "p1");
+    let steps = read_plan(heap, FIRST_PLAN).expect(rt, "a plan");
+    Command::Stage { plan, steps }
 }
 
 /// The command.
-pub fn command(heap: Heap<'_>, alloc: Global, order: Order) -> Result<Command<Heap<'_>>, Fail> {
+pub fn command<'a, R: Abort + AllocGlobal>(
+    rt: &R,
+    heap: Heap<'a>,
+    order: Order,
+) -> Command<Heap<'a>> {
     match order {
-        Order::Ports => import(heap, alloc, PORTS),
-        Order::Host => put(heap, HolderKind::Host, "db1", FIRST_INITIATOR),
-        Order::Array => put(heap, HolderKind::Array, "arr1", FIRST_TARGET),
-        Order::Volume => put_volume(),
-        Order::Stage => stage(heap),
-        Order::Activate => activate(),
-        Order::Moved => import(heap, alloc, MOVED),
-        Order::Paths => paths(),
+        Order::Ports => import(rt, heap, PORTS),
+        Order::Host => put(rt, heap, HolderKind::Host, "db1", FIRST_INITIATOR),
+        Order::Array => put(rt, heap, HolderKind::Array, "arr1", FIRST_TARGET),
+        Order::Volume => put_volume(rt),
+        Order::Stage => stage(rt, heap),
+        Order::Activate => Command::Activate {
+            plan: named(rt, "p1"),
+        },
+        Order::Moved => import(rt, heap, MOVED),
+        Order::Paths => Command::Show(Query::Paths {
+            host: named(rt, "db1"),
+        }),
     }
 }
 
@@ -159,7 +160,6 @@ pub fn came_of(reply: &Reply<Heap<'_>>) -> Came {
 #[derive(Clone, Copy)]
 pub struct Means<'a> {
     pub heap: Heap<'a>,
-    pub alloc: Global,
     pub policy: &'a Policy,
 }
 
@@ -180,92 +180,89 @@ pub fn carry_out<'a, B: PathBook<Heap<'a>>>(
 }
 
 /// Asks the desk.
-pub fn ask<'a, B: PathBook<Heap<'a>>>(
+pub fn ask<'a, R: Abort + AllocGlobal, B: PathBook<Heap<'a>>>(
+    rt: &R,
     means: Means<'a>,
     world: &mut World<Heap<'a>>,
     book: &mut B,
     order: Order,
-) -> Result<Came, Fail>
+) -> Came
     requires sound { IsSound world.old }
     requires stands { B.stands book.old (records_of world.old) }
     ensures sound { IsSound world.new }
     ensures stands { B.stands book.new (records_of world.new) }
 {
-    let command = command(means.heap, means.alloc, order)?;
-    Ok(carry_out(means, world, book, command))
+    let command = command(rt, means.heap, order);
+    carry_out(means, world, book, command)
 }
 
 /// Asks the desk for each of these.
-pub fn fill<'a, B: PathBook<Heap<'a>>>(
+fn fill<'a, R: Abort + AllocGlobal, B: PathBook<Heap<'a>>>(
+    rt: &R,
     means: Means<'a>,
     world: &mut World<Heap<'a>>,
     book: &mut B,
     orders: &[Order],
-) -> Result<(), Fail>
+)
     requires sound { IsSound world.old }
     requires stands { B.stands book.old (records_of world.old) }
     ensures sound { IsSound world.new }
     ensures stands { B.stands book.new (records_of world.new) }
 {
     for order in orders {
-        ask(means, world, book, *order)?;
+        ask(rt, means, world, book, *order);
     }
-    Ok(())
 }
 
-/// Fills a new world.
-fn fill_new<'a, B: PathBook<Heap<'a>>>(
+/// Fills a new world: its book.
+pub fn filled<'a, R: Abort + AllocGlobal, B: PathBook<Heap<'a>>>(
+    rt: &R,
     means: Means<'a>,
     world: &mut World<Heap<'a>>,
     orders: &[Order],
-) -> Result<(), Fail>
+) -> B
     requires sound { IsSound world.old }
+    ensures sound { IsSound world.new }
+    ensures stands { B.stands result (records_of world.new) }
 {
-    let mut book: B = opened(means.heap, world)?;
-    fill(means, world, &mut book, orders)
+    let mut book: B = match opened(means.heap, world) {
+        Ok(book) => book,
+        Err(_) => panic!(rt; "a book"),
+    };
+    fill(rt, means, world, &mut book, orders);
+    book
 }
 
 /// A world of which these were asked.
-fn twin<'a>(means: Means<'a>, orders: &[Order]) -> Result<World<Heap<'a>>, Fail> {
+fn twin<'a, R: Abort + AllocGlobal, B: PathBook<Heap<'a>>>(
+    rt: &R,
+    means: Means<'a>,
+    orders: &[Order],
+) -> World<Heap<'a>> {
     let mut world = World::new(means.heap);
-    fill_new::<PortBook<Heap<'a>>>(means, &mut world, orders)?;
-    Ok(world)
+    let _book: B = filled(rt, means, &mut world, orders);
+    world
 }
 
-/// How many tables have rows.
-fn tables(rows: &TableRows<Heap<'_>>) -> usize {
-    let lengths = [
-        rows.counts.len(),
-        rows.ports.len(),
-        rows.holders.len(),
-        rows.volumes.len(),
-        rows.config.len(),
-        rows.plans.len(),
-        rows.approvals.len(),
-        rows.undo.len(),
-        rows.paths.len(),
-    ];
-    lengths.iter().filter(|length| **length != 0).count()
-}
-
-/// Whether the worlds have the same rows.
-fn are_alike<'a>(
-    heap: Heap<'a>,
-    world: &World<Heap<'a>>,
-    other: &World<Heap<'a>>,
-) -> Result<bool, Fail> {
-    let Ok(changes) = changes(heap, world, other) else {
-        return Err(Fail::from("changes"));
-    };
-    Ok(tables(&changes.removed) == 0 && tables(&changes.added) == 0)
+/// Whether no table has rows.
+fn are_none(rows: &TableRows<Heap<'_>>) -> bool {
+    if rows.counts.len() != 0 || rows.ports.len() != 0 || rows.holders.len() != 0 {
+        return false;
+    }
+    if rows.volumes.len() != 0 || rows.config.len() != 0 || rows.plans.len() != 0 {
+        return false;
+    }
+    rows.approvals.len() == 0 && rows.undo.len() == 0 && rows.paths.len() == 0
 }
 
 /// Whether the world is as these make it.
-pub fn is_made_by<'a>(
+pub fn is_made_by<'a, R: Abort + AllocGlobal, B: PathBook<Heap<'a>>>(
+    rt: &R,
     means: Means<'a>,
     world: &World<Heap<'a>>,
     orders: &[Order],
-) -> Result<bool, Fail> {
-    let twin = twin(means, orders)?;
-    are_alike(means.heap, &twin, world)
+) -> bool {
+    let twin = twin::<R, B>(rt, means, orders);
+    let changes = changes(means.heap, &twin, world).expect(rt, "changes");
+    are_none(&changes.removed) && are_none(&changes.added)
 }

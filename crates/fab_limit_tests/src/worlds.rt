@@ -5,9 +5,9 @@ use fab_names::{Fabric, Name, Place, Wwn};
 use fab_plans::Staged;
 use fab_plans_base::read_plan;
 use fab_world::{AnyPlan, KeptPlan, World};
-use std::alloc::{AllocError, Global};
+use std::alloc::Global;
 use std::collections::BTreeMap;
-use std::test::Fail;
+use std::process::Abort;
 
 /// What there is one less of than there may be.
 #[derive(Clone, Copy)]
@@ -24,91 +24,88 @@ pub enum Nearly {
     Changes,
 }
 
+/// The name of this text.
+fn named(rt: &impl Abort, text: &str) -> Name {
+    Name::read(text).expect(rt, "a name")
+}
+
 /// The name of the letter and the number.
-fn numbered(alloc: Global, letter: &str, number: u64) -> Result<Name, Fail> {
-    let text = format!(in alloc; "{letter}{number}")?;
-    Ok(Name::read(text.as_str())?)
+fn numbered(rt: &(impl Abort + AllocGlobal), letter: &str, number: u64) -> Name {
+    let text = format!(in rt.alloc(); "{letter}{number}").expect(rt, "room for a name");
+    named(rt, text.as_str())
 }
 
-fn row(number: u64) -> Result<PortRow, Fail> {
-    if number == 0 {
-        return Err(Fail::from("port"));
-    }
-    Ok(PortRow {
-        name: Wwn::new(number),
-        node: Wwn::new(1),
-        place: Place::new(1, 1),
-    })
-}
-
-fn rows(alloc: Global) -> Result<Vec<PortRow, Global>, Fail> {
-    let mut rows = Vec::new(alloc);
+fn put_ports(rt: &(impl Abort + AllocGlobal), inventory: &mut Inventory<Global>) {
+    let mut rows = Vec::new(rt.alloc());
     for number in 1..4096 {
-        rows.push(row(number)?)?;
+        let row = PortRow {
+            name: Wwn::new(number),
+            node: Wwn::new(1),
+            place: Place::new(1, 1),
+        };
+        rows.push(row).expect(rt, "room for a port");
     }
-    Ok(rows)
+    inventory
+        .import(Fabric::A, rows.as_slice())
+        .expect(rt, "ports");
 }
 
-fn put_ports(alloc: Global, inventory: &mut Inventory<Global>) -> Result<(), Fail> {
-    let rows = rows(alloc)?;
-    inventory.import(Fabric::A, rows.as_slice())?;
-    Ok(())
-}
-
-fn put_holders(alloc: Global, inventory: &mut Inventory<Global>) -> Result<(), Fail> {
-    let tenant = Name::read("blue")?;
+fn put_holders(rt: &(impl Abort + AllocGlobal), inventory: &mut Inventory<Global>) {
+    let tenant = named(rt, "blue");
     for number in 0..2047 {
-        let name = numbered(alloc, "h", number)?;
-        inventory.put_holder(name, HolderKind::Host, tenant, &[])?;
+        let name = numbered(rt, "h", number);
+        inventory
+            .put_holder(name, HolderKind::Host, tenant, &[])
+            .expect(rt, "a host");
     }
-    Ok(())
 }
 
-fn put_volumes(alloc: Global, inventory: &mut Inventory<Global>) -> Result<(), Fail> {
-    let (array, tenant) = (Name::read("arr")?, Name::read("blue")?);
-    inventory.put_holder(array, HolderKind::Array, tenant, &[])?;
+fn put_volumes(rt: &(impl Abort + AllocGlobal), inventory: &mut Inventory<Global>) {
+    let (array, tenant) = (named(rt, "arr"), named(rt, "blue"));
+    inventory
+        .put_holder(array, HolderKind::Array, tenant, &[])
+        .expect(rt, "an array");
     for number in 0..4095 {
-        inventory.put_volume(numbered(alloc, "v", number)?, array, tenant, 1)?;
+        let name = numbered(rt, "v", number);
+        inventory
+            .put_volume(name, array, tenant, 1)
+            .expect(rt, "a volume");
     }
-    Ok(())
 }
 
 /// A plan of one step.
-fn plan(alloc: Global, author: Name) -> Result<KeptPlan<Global>, Fail> {
-    let steps = read_plan(alloc, "deactivate A")?;
-    let inner = AnyPlan::Staged(Staged::new(alloc, author, steps));
-    Ok(KeptPlan { inner })
+fn plan(rt: &(impl Abort + AllocGlobal), author: Name) -> KeptPlan<Global> {
+    let steps = read_plan(rt.alloc(), "deactivate A").expect(rt, "a plan");
+    let inner = AnyPlan::Staged(Staged::new(rt.alloc(), author, steps));
+    KeptPlan { inner }
 }
 
 fn put_plans(
-    alloc: Global,
+    rt: &(impl Abort + AllocGlobal),
     plans: &mut BTreeMap<Name, KeptPlan<Global>, Global>,
-) -> Result<(), Fail> {
-    let author = Name::read("ada")?;
+) {
+    let author = named(rt, "ada");
     for number in 0..99_999 {
-        let name = numbered(alloc, "p", number)?;
-        plans.insert(name, plan(alloc, author)?)?;
+        let name = numbered(rt, "p", number);
+        let put: Result<_, _> = plans.insert(name, plan(rt, author));
+        put.expect(rt, "room for a plan");
     }
-    Ok(())
 }
 
 /// Fills a new world.
-fn fill(alloc: Global, world: &mut World<Global>, nearly: Nearly) -> Result<(), Fail> {
+fn fill(rt: &(impl Abort + AllocGlobal), world: &mut World<Global>, nearly: Nearly) {
     match nearly {
-        Nearly::Ports => put_ports(alloc, &mut world.inventory),
-        Nearly::Holders => put_holders(alloc, &mut world.inventory),
-        Nearly::Volumes => put_volumes(alloc, &mut world.inventory),
-        Nearly::Plans => put_plans(alloc, &mut world.plans),
-        Nearly::Changes => {
-            world.revision = 999_999_999;
-            Ok(())
-        }
+        Nearly::Ports => put_ports(rt, &mut world.inventory),
+        Nearly::Holders => put_holders(rt, &mut world.inventory),
+        Nearly::Volumes => put_volumes(rt, &mut world.inventory),
+        Nearly::Plans => put_plans(rt, &mut world.plans),
+        Nearly::Changes => world.revision = 999_999_999,
     }
 }
 
 /// The world.
-pub fn world(alloc: Global, nearly: Nearly) -> Result<World<Global>, Fail> {
-    let mut world = World::new(alloc);
-    fill(alloc, &mut world, nearly)?;
-    Ok(world)
+pub fn world(rt: &(impl Abort + AllocGlobal), nearly: Nearly) -> World<Global> {
+    let mut world = World::new(rt.alloc());
+    fill(rt, &mut world, nearly);
+    world
 }

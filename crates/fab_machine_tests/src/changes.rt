@@ -1,15 +1,14 @@
 //! The worked changes: what each gains and loses, and what is there then.
 
+use crate::replies::hold;
 use fab_asking::rows::{
     ACTIVE_IS_A_COPY, DEFAULT_ZONE, PLACE_AND_NODE, PORTS_GONE, UNDONE, UNIT_CLASH, UNMAPPED,
     VOLUME_GONE, ZONES_OVERLAP,
 };
 use fab_asking::{
     ADA, Ask, FIRST, FIRST_INITIATOR, FIRST_PLAN, FIRST_TARGET, NO_PORTS, SECOND, See, Turn, WORLD,
-    holds,
 };
 use fab_names::Fabric;
-use std::test::Fail;
 
 /// A host's port and a target, and the default zone permits.
 const ROW_2: &[Turn] = &[
@@ -53,15 +52,13 @@ const ROW_2: &[Turn] = &[
 ];
 
 #[test]
-fn row_2(rt: HostRuntime) -> Result<(), Fail> {
-    assert!(rt; holds(rt.alloc(), &[ROW_2])?);
-    Ok(())
+fn row_2(rt: HostRuntime) {
+    hold(&rt, &[ROW_2]);
 }
 
 #[test]
-fn row_3(rt: HostRuntime) -> Result<(), Fail> {
-    assert!(rt; holds(rt.alloc(), &[WORLD, FIRST, PORTS_GONE])?);
-    Ok(())
+fn row_3(rt: HostRuntime) {
+    hold(&rt, &[WORLD, FIRST, PORTS_GONE]);
 }
 
 /// A port that is logged in at the other fabric stays there.
@@ -87,57 +84,48 @@ const OTHER_FABRIC: &[Turn] = &[
 ];
 
 #[test]
-fn ports_of_the_other_fabric_stay(rt: HostRuntime) -> Result<(), Fail> {
-    assert!(rt; holds(rt.alloc(), &[WORLD, OTHER_FABRIC])?);
-    Ok(())
+fn ports_of_the_other_fabric_stay(rt: HostRuntime) {
+    hold(&rt, &[WORLD, OTHER_FABRIC]);
 }
 
 #[test]
-fn row_5(rt: HostRuntime) -> Result<(), Fail> {
-    assert!(rt; holds(rt.alloc(), &[WORLD, FIRST])?);
-    Ok(())
+fn row_5(rt: HostRuntime) {
+    hold(&rt, &[WORLD, FIRST]);
 }
 
 #[test]
-fn row_6(rt: HostRuntime) -> Result<(), Fail> {
-    assert!(rt; holds(rt.alloc(), &[WORLD, FIRST, ACTIVE_IS_A_COPY])?);
-    Ok(())
+fn row_6(rt: HostRuntime) {
+    hold(&rt, &[WORLD, FIRST, ACTIVE_IS_A_COPY]);
 }
 
 #[test]
-fn row_7(rt: HostRuntime) -> Result<(), Fail> {
-    assert!(rt; holds(rt.alloc(), &[WORLD, FIRST, ZONES_OVERLAP])?);
-    Ok(())
+fn row_7(rt: HostRuntime) {
+    hold(&rt, &[WORLD, FIRST, ZONES_OVERLAP]);
 }
 
 #[test]
-fn row_8(rt: HostRuntime) -> Result<(), Fail> {
-    assert!(rt; holds(rt.alloc(), &[WORLD, FIRST, DEFAULT_ZONE])?);
-    Ok(())
+fn row_8(rt: HostRuntime) {
+    hold(&rt, &[WORLD, FIRST, DEFAULT_ZONE]);
 }
 
 #[test]
-fn row_9(rt: HostRuntime) -> Result<(), Fail> {
-    assert!(rt; holds(rt.alloc(), &[WORLD, FIRST, SECOND, PLACE_AND_NODE])?);
-    Ok(())
+fn row_9(rt: HostRuntime) {
+    hold(&rt, &[WORLD, FIRST, SECOND, PLACE_AND_NODE]);
 }
 
 #[test]
-fn row_14(rt: HostRuntime) -> Result<(), Fail> {
-    assert!(rt; holds(rt.alloc(), &[WORLD, FIRST, UNIT_CLASH])?);
-    Ok(())
+fn row_14(rt: HostRuntime) {
+    hold(&rt, &[WORLD, FIRST, UNIT_CLASH]);
 }
 
 #[test]
-fn row_15(rt: HostRuntime) -> Result<(), Fail> {
-    assert!(rt; holds(rt.alloc(), &[WORLD, FIRST, UNMAPPED, VOLUME_GONE])?);
-    Ok(())
+fn row_15(rt: HostRuntime) {
+    hold(&rt, &[WORLD, FIRST, UNMAPPED, VOLUME_GONE]);
 }
 
 #[test]
-fn plans_are_undone_in_turn(rt: HostRuntime) -> Result<(), Fail> {
-    assert!(rt; holds(rt.alloc(), &[WORLD, FIRST, UNMAPPED, UNDONE])?);
-    Ok(())
+fn plans_are_undone_in_turn(rt: HostRuntime) {
+    hold(&rt, &[WORLD, FIRST, UNMAPPED, UNDONE]);
 }
 
 /// The same plan again, another of its name, and the same of another author.
@@ -156,7 +144,6 @@ A 10:00:00:00:00:00:00:01 50:00:00:00:00:00:00:01 v1 0",
 ];
 
 #[test]
-fn row_18(rt: HostRuntime) -> Result<(), Fail> {
-    assert!(rt; holds(rt.alloc(), &[WORLD, FIRST, ROW_18])?);
-    Ok(())
+fn row_18(rt: HostRuntime) {
+    hold(&rt, &[WORLD, FIRST, ROW_18]);
 }

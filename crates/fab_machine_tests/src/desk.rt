@@ -1,20 +1,21 @@
 //! A desk whose changes are told as rows, and a second one that is a change behind.
-ghost use Rattle.std.specs.Prelude.{IfOk};
 ghost use Rattle.fab_world.specs.Soundness.{IsSound};
 ghost use Rattle.fab_world.specs.Worlds.{records_of};
 
-use crate::asks::{Ask, command, policy, token};
+use crate::callers::{policy, token};
 use crate::same::are_same;
+use fab_asking::{Ask, command, opened};
 use fab_changes::{Changes, changes};
+use fab_desk_base::Command;
 use fab_machine::{Proposal, answer, carry_through, lists_of, propose};
 use fab_next_changes::next_changes;
 use fab_policy::Policy;
 use fab_port_book::PortBook;
-use fab_reach::{PathBook, View};
+use fab_reach::PathBook;
 use fab_rows::TableRows;
 use fab_world::World;
 use std::alloc::Global;
-use std::test::Fail;
+use std::process::Abort;
 
 /// How many rows of each table: counts, ports, holders, volumes, configuration, plans, approvals,
 /// changes to undo, paths.
@@ -23,9 +24,9 @@ pub type Sizes = [usize; 9];
 /// What is asked, and how many rows that removes and adds.
 pub type Turn = (Ask, Sizes, Sizes);
 
-/// How many rows there are of each table.
-fn sizes(rows: &TableRows<Global>) -> Sizes {
-    [
+/// Whether there are so many rows of each table.
+fn are_so_many(rows: &TableRows<Global>, sizes: &Sizes) -> bool {
+    let found = [
         rows.counts.len(),
         rows.ports.len(),
         rows.holders.len(),
@@ -35,58 +36,68 @@ fn sizes(rows: &TableRows<Global>) -> Sizes {
         rows.approvals.len(),
         rows.undo.len(),
         rows.paths.len(),
-    ]
+    ];
+    found == *sizes
+}
+
+/// The command for what is asked.
+fn asked_for(rt: &(impl Abort + AllocGlobal), ask: Ask) -> Command<Global> {
+    match command(rt.alloc(), ask) {
+        Ok(command) => command,
+        Err(_) => panic!(rt; "a command"),
+    }
 }
 
 /// The rows that are told of the change that is asked for, by its parts. Then the change is taken
-/// over.
-fn told<B: PathBook<Global>>(
-    alloc: Global,
+/// over. Ends the test where what is proposed is no change.
+fn told<R: Abort + AllocGlobal, B: PathBook<Global>>(
+    rt: &R,
     world: &mut World<Global>,
     book: &mut B,
     policy: &Policy,
     ask: Ask,
-) -> Result<Changes<Global>, Fail>
+) -> Changes<Global>
     requires sound { IsSound world.old }
     requires stands { B.stands book.old (records_of world.old) }
     ensures sound { IsSound world.new }
     ensures stands { B.stands book.new (records_of world.new) }
 {
-    let asked = command(alloc, ask)?;
-    let change = match propose(alloc, world, book, policy, token(ask), 0, asked) {
+    let asked = asked_for(rt, ask);
+    let change = match propose(rt.alloc(), world, book, policy, token(ask), 0, asked) {
         Proposal::Ready(change) => change,
-        Proposal::Answer(_) => return Err(Fail::from("answer")),
+        Proposal::Answer(_) => panic!(rt; "a change"),
     };
-    let delta = lists_of(alloc, book, &change.step)?;
-    let told = next_changes(alloc, world, &change.next, &delta)?;
-    let _reply = carry_through(alloc, change, world, book);
-    Ok(told)
+    let delta = match lists_of(rt.alloc(), book, &change.step) {
+        Ok(delta) => delta,
+        Err(_) => panic!(rt; "room for lists of paths"),
+    };
+    let told = next_changes(rt.alloc(), world, &change.next, &delta).expect(rt, "room for rows");
+    let _reply = carry_through(rt.alloc(), change, world, book);
+    told
 }
 
 /// Whether the changes are those by which the worlds differ.
 fn are_wanted(
-    alloc: Global,
+    rt: &(impl Abort + AllocGlobal),
     before: &World<Global>,
     after: &World<Global>,
     told: &Changes<Global>,
-) -> Result<bool, Fail> {
-    let Ok(wanted) = changes(alloc, before, after) else {
-        return Err(Fail::from("changes"));
-    };
-    Ok(are_same(told, &wanted))
+) -> bool {
+    let wanted = changes(rt.alloc(), before, after).expect(rt, "changes");
+    are_same(told, &wanted)
 }
 
 /// Whether the desk tells the turn's rows as the worlds before and after it do, and so many. The
 /// second desk is a change behind, and follows then.
-fn is_told<B: PathBook<Global>>(
-    alloc: Global,
+fn is_told<R: Abort + AllocGlobal, B: PathBook<Global>>(
+    rt: &R,
     world: &mut World<Global>,
     book: &mut B,
     behind: &mut World<Global>,
     second: &mut B,
     policy: &Policy,
-    turn: Turn,
-) -> Result<bool, Fail>
+    turn: &Turn,
+) -> bool
     requires sound { IsSound world.old }
     requires stands { B.stands book.old (records_of world.old) }
     requires behind_sound { IsSound behind.old }
@@ -96,75 +107,63 @@ fn is_told<B: PathBook<Global>>(
     ensures behind_sound { IsSound behind.new }
     ensures behind_stands { B.stands second.new (records_of behind.new) }
 {
-    let told = told(alloc, world, book, policy, turn.0)?;
-    let wanted = are_wanted(alloc, behind, world, &told)?;
-    let again = command(alloc, turn.0)?;
-    let _reply = answer(alloc, behind, second, policy, token(turn.0), 0, again);
-    Ok(wanted && sizes(&told.removed) == turn.1 && sizes(&told.added) == turn.2)
+    let told = told(rt, world, book, policy, turn.0);
+    let wanted = are_wanted(rt, behind, world, &told);
+    let again = asked_for(rt, turn.0);
+    let _reply = answer(rt.alloc(), behind, second, policy, token(turn.0), 0, again);
+    wanted && are_so_many(&told.removed, &turn.1) && are_so_many(&told.added, &turn.2)
 }
 
-/// The same of each turn.
-fn are_told<B: PathBook<Global>>(
-    alloc: Global,
+/// Ends the test where the same is not so of some turn.
+fn tell_all<R: Abort + AllocGlobal, B: PathBook<Global>>(
+    rt: &R,
     world: &mut World<Global>,
     book: &mut B,
     behind: &mut World<Global>,
     second: &mut B,
     policy: &Policy,
     turns: &[Turn],
-) -> Result<bool, Fail>
+)
     requires sound { IsSound world.old }
     requires stands { B.stands book.old (records_of world.old) }
     requires behind_sound { IsSound behind.old }
     requires behind_stands { B.stands second.old (records_of behind.old) }
 {
     for turn in turns {
-        if !is_told(alloc, world, book, behind, second, policy, *turn)? {
-            return Ok(false);
-        }
+        assert!(rt; is_told(rt, world, book, behind, second, policy, turn));
     }
-    Ok(true)
 }
 
-/// A book that stands at the world.
-fn opened<B: PathBook<Global>>(alloc: Global, world: &World<Global>) -> Result<B, Fail>
-    ensures { IfOk result (λ book. B.stands book (records_of world.now)) }
-{
-    let view = View::of(&world.inventory, &world.config);
-    if !view.is_serving() {
-        return Err(Fail::from("world"));
-    }
-    let book = B::open(alloc, &view)?;
-    Ok(book)
-}
-
-/// Whether two new desks go through the turns so.
-fn is_kept<B: PathBook<Global>>(
-    alloc: Global,
+/// Has two new desks go through the turns.
+fn go_through<R: Abort + AllocGlobal, B: PathBook<Global>>(
+    rt: &R,
     policy: &Policy,
     turns: &[Turn],
-) -> Result<bool, Fail> {
-    let mut world = World::new(alloc);
-    let mut book: B = opened(alloc, &world)?;
-    let mut behind = World::new(alloc);
-    let mut second: B = opened(alloc, &behind)?;
-    are_told(
-        alloc,
+) {
+    let mut world = World::new(rt.alloc());
+    let mut book: B = match opened(rt.alloc(), &world) {
+        Ok(book) => book,
+        Err(_) => panic!(rt; "a book"),
+    };
+    let mut behind = World::new(rt.alloc());
+    let mut second: B = match opened(rt.alloc(), &behind) {
+        Ok(book) => book,
+        Err(_) => panic!(rt; "a second book"),
+    };
+    tell_all(
+        rt,
         &mut world,
         &mut book,
         &mut behind,
         &mut second,
         policy,
         turns,
-    )
+    );
 }
 
-/// Whether a new desk tells the rows of each turn's change by its parts as the worlds before and after
-/// it tell them, and so many.
-///
-/// # Errors
-/// Where a turn says no command or no change, or there is no memory.
-pub fn holds(alloc: Global, turns: &[Turn]) -> Result<bool, Fail> {
-    let policy = policy(alloc)?;
-    is_kept::<PortBook<Global>>(alloc, &policy, turns)
+/// Ends the test where a new desk does not tell the rows of each turn's change by its parts as the
+/// worlds before and after it tell them, and so many; and where a turn says no command or no change.
+pub fn tell<R: Abort + AllocGlobal>(rt: &R, turns: &[Turn]) {
+    let policy = policy(rt);
+    go_through::<R, PortBook<Global>>(rt, &policy, turns);
 }

@@ -1,38 +1,33 @@
 //! What the policy allows and denies.
 
+use crate::replies::hold;
 use fab_asking::rows::{APPROVALS, NO_APPROVAL, REFUSED_PLAN, SIGNED, STAGED, WINDOW};
 use fab_asking::{
-    ADA, Ask, FIRST, FIRST_INITIATOR, FIRST_TARGET, PORTS, SECOND, SECOND_INITIATOR, See, Turn,
-    WORLD, holds,
+    ADA, Ask, FIRST, FIRST_INITIATOR, PORTS, SECOND, SECOND_INITIATOR, See, Turn, WORLD,
 };
 use fab_inventory::HolderKind::Host;
 use fab_names::Fabric;
-use std::test::Fail;
 
 #[test]
-fn row_10(rt: HostRuntime) -> Result<(), Fail> {
+fn row_10(rt: HostRuntime) {
     for turns in WINDOW {
-        assert!(rt; holds(rt.alloc(), &[WORLD, STAGED, SIGNED, turns])?);
+        hold(&rt, &[WORLD, STAGED, SIGNED, turns]);
     }
-    Ok(())
 }
 
 #[test]
-fn row_11(rt: HostRuntime) -> Result<(), Fail> {
-    assert!(rt; holds(rt.alloc(), &[WORLD, STAGED, NO_APPROVAL])?);
-    Ok(())
+fn row_11(rt: HostRuntime) {
+    hold(&rt, &[WORLD, STAGED, NO_APPROVAL]);
 }
 
 #[test]
-fn row_12(rt: HostRuntime) -> Result<(), Fail> {
-    assert!(rt; holds(rt.alloc(), &[WORLD, STAGED, APPROVALS])?);
-    Ok(())
+fn row_12(rt: HostRuntime) {
+    hold(&rt, &[WORLD, STAGED, APPROVALS]);
 }
 
 #[test]
-fn row_13(rt: HostRuntime) -> Result<(), Fail> {
-    assert!(rt; holds(rt.alloc(), &[WORLD, REFUSED_PLAN])?);
-    Ok(())
+fn row_13(rt: HostRuntime) {
+    hold(&rt, &[WORLD, REFUSED_PLAN]);
 }
 
 /// Another tenant's host is neither changed nor shown.
@@ -49,9 +44,8 @@ const ROW_17: &[Turn] = &[
 ];
 
 #[test]
-fn row_17(rt: HostRuntime) -> Result<(), Fail> {
-    assert!(rt; holds(rt.alloc(), &[WORLD, ROW_17])?);
-    Ok(())
+fn row_17(rt: HostRuntime) {
+    hold(&rt, &[WORLD, ROW_17]);
 }
 
 /// A plan that names no tenant's things takes another tenant's paths.
@@ -77,9 +71,8 @@ const LOST_PATHS: &[Turn] = &[
 ];
 
 #[test]
-fn lost_paths_touch_their_tenants(rt: HostRuntime) -> Result<(), Fail> {
-    assert!(rt; holds(rt.alloc(), &[WORLD, FIRST, SECOND, LOST_PATHS])?);
-    Ok(())
+fn lost_paths_touch_their_tenants(rt: HostRuntime) {
+    hold(&rt, &[WORLD, FIRST, SECOND, LOST_PATHS]);
 }
 
 /// A caller without the role puts a host, and an operator puts another tenant's.
@@ -118,7 +111,6 @@ const PUTS: &[Turn] = &[
 ];
 
 #[test]
-fn puts_are_judged(rt: HostRuntime) -> Result<(), Fail> {
-    assert!(rt; holds(rt.alloc(), &[WORLD, PUTS])?);
-    Ok(())
+fn puts_are_judged(rt: HostRuntime) {
+    hold(&rt, &[WORLD, PUTS]);
 }

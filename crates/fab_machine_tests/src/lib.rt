@@ -3,19 +3,21 @@
 //! parts of each and by the worlds before and after it. Nothing here is part of the product.
 #![tactic(auto)]
 
-mod asks;
+#[cfg(test)]
+mod callers;
 #[cfg(test)]
 mod changes;
+#[cfg(test)]
 mod desk;
 #[cfg(test)]
 mod judged;
 #[cfg(test)]
 mod refusals;
+#[cfg(test)]
+mod replies;
+#[cfg(test)]
 mod same;
 #[cfg(test)]
 mod shows;
 #[cfg(test)]
 mod worked;
-
-pub use asks::Ask;
-pub use desk::{Sizes, Turn, holds};

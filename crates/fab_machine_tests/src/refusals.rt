@@ -1,12 +1,12 @@
 //! What the records refuse, with all that a refusal names.
 
+use crate::replies::hold;
 use fab_asking::{
     ADA, Ask, FIRST, FIRST_INITIATOR, FIRST_TARGET, SECOND_INITIATOR, SECOND_TARGET, See,
-    THIRD_INITIATOR, Turn, WORLD, Wide, holds,
+    THIRD_INITIATOR, Turn, WORLD, Wide,
 };
 use fab_inventory::HolderKind::{Array, Host};
 use fab_names::Fabric;
-use std::test::Fail;
 
 /// A host that is not there.
 const ABSENT: &[Turn] = &[(ADA, 0, Ask::Drop(Host, "db9"), "not-found")];
@@ -17,9 +17,8 @@ const ROW_20: &[Turn] = &[
 ];
 
 #[test]
-fn row_20(rt: HostRuntime) -> Result<(), Fail> {
-    assert!(rt; holds(rt.alloc(), &[WORLD, ABSENT, FIRST, ROW_20])?);
-    Ok(())
+fn row_20(rt: HostRuntime) {
+    hold(&rt, &[WORLD, ABSENT, FIRST, ROW_20]);
 }
 
 /// Puts and drops.
@@ -110,9 +109,8 @@ const STOCK: &[Turn] = &[
 ];
 
 #[test]
-fn stock_is_refused(rt: HostRuntime) -> Result<(), Fail> {
-    assert!(rt; holds(rt.alloc(), &[WORLD, FIRST, STOCK])?);
-    Ok(())
+fn stock_is_refused(rt: HostRuntime) {
+    hold(&rt, &[WORLD, FIRST, STOCK]);
 }
 
 /// Plans whose second step the records refuse.
@@ -188,9 +186,8 @@ const STEPS: &[Turn] = &[
 ];
 
 #[test]
-fn steps_are_refused(rt: HostRuntime) -> Result<(), Fail> {
-    assert!(rt; holds(rt.alloc(), &[WORLD, FIRST, STEPS])?);
-    Ok(())
+fn steps_are_refused(rt: HostRuntime) {
+    hold(&rt, &[WORLD, FIRST, STEPS]);
 }
 
 /// Plans in another state than the command is for, and plans that are not there.
@@ -214,9 +211,8 @@ const STATES: &[Turn] = &[
 ];
 
 #[test]
-fn states_are_refused(rt: HostRuntime) -> Result<(), Fail> {
-    assert!(rt; holds(rt.alloc(), &[WORLD, FIRST, STATES])?);
-    Ok(())
+fn states_are_refused(rt: HostRuntime) {
+    hold(&rt, &[WORLD, FIRST, STATES]);
 }
 
 /// The first plan's things are dropped by a second.
@@ -299,11 +295,10 @@ const GONE: &[&[Turn]] = &[
 ];
 
 #[test]
-fn what_is_gone_bars_the_way_back(rt: HostRuntime) -> Result<(), Fail> {
+fn what_is_gone_bars_the_way_back(rt: HostRuntime) {
     for &turns in GONE {
-        assert!(rt; holds(rt.alloc(), &[WORLD, FIRST, DROPPED, turns])?);
+        hold(&rt, &[WORLD, FIRST, DROPPED, turns]);
     }
-    Ok(())
 }
 
 /// A plan of 70 steps that would leave more paths than there may be.
@@ -325,7 +320,6 @@ const MANY: &[Turn] = &[
 ];
 
 #[test]
-fn too_many_paths_are_refused(rt: HostRuntime) -> Result<(), Fail> {
-    assert!(rt; holds(rt.alloc(), &[MANY])?);
-    Ok(())
+fn too_many_paths_are_refused(rt: HostRuntime) {
+    hold(&rt, &[MANY]);
 }

@@ -1,12 +1,12 @@
 //! What reads show.
 
+use crate::replies::hold;
 use fab_asking::{
     ADA, Ask, FIRST, FIRST_INITIATOR, FIRST_TARGET, SECOND, SECOND_INITIATOR, SECOND_TARGET, See,
-    Turn, WORLD, holds,
+    Turn, WORLD,
 };
 use fab_inventory::HolderKind::{Array, Host};
 use fab_names::Fabric;
-use std::test::Fail;
 
 const INVENTORY: &[Turn] = &[
     (
@@ -42,9 +42,8 @@ const INVENTORY: &[Turn] = &[
 ];
 
 #[test]
-fn inventory_is_shown(rt: HostRuntime) -> Result<(), Fail> {
-    assert!(rt; holds(rt.alloc(), &[WORLD, FIRST, SECOND, INVENTORY])?);
-    Ok(())
+fn inventory_is_shown(rt: HostRuntime) {
+    hold(&rt, &[WORLD, FIRST, SECOND, INVENTORY]);
 }
 
 const ZONING: &[Turn] = &[
@@ -112,9 +111,8 @@ dp=12,5",
 ];
 
 #[test]
-fn zoning_is_shown(rt: HostRuntime) -> Result<(), Fail> {
-    assert!(rt; holds(rt.alloc(), &[WORLD, FIRST, SECOND, ZONING])?);
-    Ok(())
+fn zoning_is_shown(rt: HostRuntime) {
+    hold(&rt, &[WORLD, FIRST, SECOND, ZONING]);
 }
 
 const GROUPS: &[Turn] = &[
@@ -152,9 +150,8 @@ A 10:00:00:00:00:00:00:01 50:00:00:00:00:00:00:01 v1 0",
 ];
 
 #[test]
-fn groups_are_shown(rt: HostRuntime) -> Result<(), Fail> {
-    assert!(rt; holds(rt.alloc(), &[WORLD, FIRST, SECOND, GROUPS])?);
-    Ok(())
+fn groups_are_shown(rt: HostRuntime) {
+    hold(&rt, &[WORLD, FIRST, SECOND, GROUPS]);
 }
 
 /// Plans in three states, with approvals.
@@ -209,9 +206,8 @@ default B deny
 ];
 
 #[test]
-fn plans_are_shown(rt: HostRuntime) -> Result<(), Fail> {
-    assert!(rt; holds(rt.alloc(), &[WORLD, FIRST, SECOND, PLANS])?);
-    Ok(())
+fn plans_are_shown(rt: HostRuntime) {
+    hold(&rt, &[WORLD, FIRST, SECOND, PLANS]);
 }
 
 /// What a caller of one tenant sees of another's.
@@ -248,7 +244,6 @@ const FOREIGN: &[Turn] = &[
 ];
 
 #[test]
-fn tenants_see_their_own(rt: HostRuntime) -> Result<(), Fail> {
-    assert!(rt; holds(rt.alloc(), &[WORLD, FIRST, SECOND, FOREIGN])?);
-    Ok(())
+fn tenants_see_their_own(rt: HostRuntime) {
+    hold(&rt, &[WORLD, FIRST, SECOND, FOREIGN]);
 }

@@ -1,13 +1,24 @@
 //! A desk's day: each kind of change, and how many rows of each table it moves.
 
-use crate::{Ask, Sizes, Turn, holds};
+use crate::desk::{Sizes, Turn, tell};
+use fab_asking::Ask;
 use fab_inventory::HolderKind::{Array, Host};
 use fab_names::Fabric;
-use std::test::Fail;
 
 const I1: u64 = 0x1000_0000_0000_0001;
 
 const TP1: u64 = 0x5000_0000_0000_0001;
+
+/// The host's port is logged in.
+const HOST_PORT: &str = "port_name,node_name,domain,port
+10:00:00:00:00:00:00:01,10:00:00:00:00:00:00:01,1,1
+";
+
+/// The host's port and the array's are logged in, at one place.
+const BOTH_PORTS: &str = "port_name,node_name,domain,port
+10:00:00:00:00:00:00:01,10:00:00:00:00:00:00:01,1,1
+50:00:00:00:00:00:00:01,50:00:00:00:00:00:00:01,1,1
+";
 
 /// All may communicate in fabric A, and the host gets the volume.
 const FIRST: &str = "default A permit
@@ -41,15 +52,14 @@ const APPROVAL: Sizes = [0, 0, 0, 0, 0, 0, 1, 0, 0];
 
 /// What there is to be changed: nothing is told twice, and a port's row changes with its holder.
 const STOCK: &[Turn] = &[
-    (Ask::Login(Fabric::A, &[I1]), COUNT, PORT),
-    (Ask::Put(Host, "db1", &[I1]), PORT, HOLDER),
-    (Ask::Put(Host, "db1", &[I1]), COUNT, COUNT),
+    (Ask::Import(Fabric::A, HOST_PORT), COUNT, PORT),
+    (Ask::Put(Host, "db1", "blue", &[I1]), PORT, HOLDER),
+    (Ask::Put(Host, "db1", "blue", &[I1]), COUNT, COUNT),
 ];
 
 #[test]
-fn inventories(rt: HostRuntime) -> Result<(), Fail> {
-    assert!(rt; holds(rt.alloc(), STOCK)?);
-    Ok(())
+fn inventories(rt: HostRuntime) {
+    tell(&rt, STOCK);
 }
 
 /// Plans that are staged, staged once more, approved, approved again, and withdrawn.
@@ -59,7 +69,7 @@ const PLANS: &[Turn] = &[
     (Ask::Approve("p1"), NONE, APPROVAL),
     (Ask::Approve("p1"), NONE, NONE),
     (
-        Ask::Put(Host, "db1", &[]),
+        Ask::Put(Host, "db1", "blue", &[]),
         COUNT,
         [1, 0, 1, 0, 0, 0, 0, 0, 0],
     ),
@@ -68,23 +78,22 @@ const PLANS: &[Turn] = &[
 ];
 
 #[test]
-fn plans(rt: HostRuntime) -> Result<(), Fail> {
-    assert!(rt; holds(rt.alloc(), PLANS)?);
-    Ok(())
+fn plans(rt: HostRuntime) {
+    tell(&rt, PLANS);
 }
 
 /// A host, an array, and a volume; a plan by which the host reaches the volume; a second plan; the
 /// host without its port, and with it again; and both plans rolled back.
 const PATHS: &[Turn] = &[
     (
-        Ask::Login(Fabric::A, &[I1, TP1]),
+        Ask::Import(Fabric::A, BOTH_PORTS),
         COUNT,
         [1, 2, 0, 0, 0, 0, 0, 0, 0],
     ),
-    (Ask::Put(Host, "db1", &[I1]), PORT, HOLDER),
-    (Ask::Put(Array, "arr1", &[TP1]), PORT, HOLDER),
+    (Ask::Put(Host, "db1", "blue", &[I1]), PORT, HOLDER),
+    (Ask::Put(Array, "arr1", "blue", &[TP1]), PORT, HOLDER),
     (
-        Ask::PutVolume("v1", "arr1"),
+        Ask::PutVolume("v1", "arr1", "blue", 4096),
         COUNT,
         [1, 0, 0, 1, 0, 0, 0, 0, 0],
     ),
@@ -101,12 +110,12 @@ const PATHS: &[Turn] = &[
         [1, 0, 0, 0, 1, 1, 0, 1, 0],
     ),
     (
-        Ask::Put(Host, "db1", &[]),
+        Ask::Put(Host, "db1", "blue", &[]),
         [1, 1, 0, 0, 0, 0, 0, 0, 1],
         PORT,
     ),
     (
-        Ask::Put(Host, "db1", &[I1]),
+        Ask::Put(Host, "db1", "blue", &[I1]),
         PORT,
         [1, 1, 0, 0, 0, 0, 0, 0, 1],
     ),
@@ -123,7 +132,6 @@ const PATHS: &[Turn] = &[
 ];
 
 #[test]
-fn paths(rt: HostRuntime) -> Result<(), Fail> {
-    assert!(rt; holds(rt.alloc(), PATHS)?);
-    Ok(())
+fn paths(rt: HostRuntime) {
+    tell(&rt, PATHS);
 }

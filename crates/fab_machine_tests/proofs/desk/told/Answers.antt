@@ -13,9 +13,9 @@ next_changes-requires-clause-keeps g c =
     let change = c.in-Ready.change in
     let next = next_world w change.next in
     let proposed = c.in-Ready.ensures.proposes in
-    let delta = c.in_ok-delta.delta in
-    let moved = c.in_ok-delta.ensures (records_of w) (records_of next) proposed.step in
-    keeps_hosts c.args.policy.now w (request_of c.token.result.now 0 c.in_ok-asked.asked) (reply_of change.report delta) next (proposed.replies delta moved)
+    let delta = c.in-Ok.delta in
+    let moved = c.in-Ok.ensures (records_of w) (records_of next) proposed.step in
+    keeps_hosts c.args.policy.now w (request_of c.token.result.now 0 c.asked_for-asked.result) (reply_of change.report delta) next (proposed.replies delta moved)
 
 pub returns-clause-sound : goal.returns-clause-sound
 returns-clause-sound g c = elim c.carry_through-reply.ensures.done [

@@ -1,6 +1,6 @@
 use Rattle.fab_world.specs.Soundness.{IsSound}
 use Rattle.fab_world.specs.Worlds.{records_of}
-use Rattle.fab_machine_tests.proofs.desk.are_told.Given as goal
+use Rattle.fab_machine_tests.proofs.desk.tell_all.Given as goal
 
 abbrev pub invariant-loop-turn : goal.invariant-loop-turn
 invariant-loop-turn g l = record {
