@@ -1,10 +1,12 @@
 //! Lines of a configuration: settings, zoning items, active rows, groups and their parts.
 
+use crate::texts::{are_same, text};
 use fab_lines::{ActiveLine, GroupLine, MOST_NUMBER, MetaLine, MetaRow, PartLine, ZoningLine};
 use fab_mapping_base::LAST_UNIT;
 use fab_names::{Name, Wwn};
 use fab_rows::{PartRow, StoragePart};
-use std::alloc::{AllocError, Global};
+use std::alloc::Global;
+use std::process::Abort;
 
 /// Keys and values of `meta`, and whether they show a row.
 const META: &[(&str, &str, bool)] = &[
@@ -27,40 +29,42 @@ const META: &[(&str, &str, bool)] = &[
 ];
 
 /// The line of the row, where its number is one that is kept.
-fn meta_again(alloc: Global, row: &MetaRow) -> Result<Option<MetaLine<Global>>, AllocError> {
-    match row {
+fn meta_again(rt: &(impl Abort + AllocGlobal), row: &MetaRow) -> Option<MetaLine<Global>> {
+    let alloc = rt.alloc();
+    let again = match row {
         MetaRow::Schema(number) if *number <= MOST_NUMBER => {
-            Ok(Some(MetaLine::print(alloc, &MetaRow::Schema(*number))?))
+            MetaLine::print(alloc, &MetaRow::Schema(*number))
         }
         MetaRow::Revision(number) if *number <= MOST_NUMBER => {
-            Ok(Some(MetaLine::print(alloc, &MetaRow::Revision(*number))?))
+            MetaLine::print(alloc, &MetaRow::Revision(*number))
         }
-        MetaRow::Setting(setting) => Ok(Some(MetaLine::of_setting(alloc, setting)?)),
-        _ => Ok(None),
-    }
+        MetaRow::Setting(setting) => MetaLine::of_setting(alloc, setting),
+        _ => return None,
+    };
+    Some(again.expect(rt, "memory"))
 }
 
 /// Whether the columns show a row whose line they are.
-fn shows_meta(alloc: Global, key: &'static str, value: &'static str) -> Result<bool, AllocError> {
+fn shows_meta(rt: &(impl Abort + AllocGlobal), key: &'static str, value: &'static str) -> bool {
     let line = MetaLine {
-        key: key.to_string(alloc)?,
-        value: value.to_string(alloc)?,
+        key: text(rt, key),
+        value: text(rt, value),
     };
     let Some(row) = line.read() else {
-        return Ok(false);
+        return false;
     };
-    let Some(again) = meta_again(alloc, &row)? else {
-        return Ok(false);
+    let Some(again) = meta_again(rt, &row) else {
+        return false;
     };
-    Ok(again.key.as_str() == key && again.value.as_str() == value)
+    let texts = [again.key.as_str(), again.value.as_str()];
+    are_same(&texts, &[key, value])
 }
 
 #[test]
-fn settings(rt: HostRuntime) -> Result<(), AllocError> {
+fn settings(rt: HostRuntime) {
     for &(key, value, shown) in META {
-        assert!(rt; shows_meta(rt.alloc(), key, value)? == shown);
+        assert!(rt; shows_meta(&rt, key, value) == shown);
     }
-    Ok(())
 }
 
 /// Columns of `zoning`, and whether they show a row.
@@ -78,31 +82,31 @@ const ZONING: &[([&str; 4], bool)] = &[
 ];
 
 /// Whether the columns show a row whose line they are.
-fn shows_zoning(alloc: Global, columns: &[&'static str; 4]) -> Result<bool, AllocError> {
+fn shows_zoning(rt: &(impl Abort + AllocGlobal), columns: &[&'static str; 4]) -> bool {
     let line = ZoningLine {
-        fabric: columns[0].to_string(alloc)?,
-        kind: columns[1].to_string(alloc)?,
-        name: columns[2].to_string(alloc)?,
-        item: columns[3].to_string(alloc)?,
+        fabric: text(rt, columns[0]),
+        kind: text(rt, columns[1]),
+        name: text(rt, columns[2]),
+        item: text(rt, columns[3]),
     };
     let Some(row) = line.read() else {
-        return Ok(false);
+        return false;
     };
-    let again = ZoningLine::print(alloc, &row)?;
-    Ok(
-        again.fabric.as_str() == columns[0]
-            && again.kind.as_str() == columns[1]
-            && again.name.as_str() == columns[2]
-            && again.item.as_str() == columns[3],
-    )
+    let again = ZoningLine::print(rt.alloc(), &row).expect(rt, "memory");
+    let texts = [
+        again.fabric.as_str(),
+        again.kind.as_str(),
+        again.name.as_str(),
+        again.item.as_str(),
+    ];
+    are_same(&texts, columns)
 }
 
 #[test]
-fn zoning(rt: HostRuntime) -> Result<(), AllocError> {
+fn zoning(rt: HostRuntime) {
     for (columns, shown) in ZONING {
-        assert!(rt; shows_zoning(rt.alloc(), columns)? == *shown);
+        assert!(rt; shows_zoning(&rt, columns) == *shown);
     }
-    Ok(())
 }
 
 /// Columns of `active`, and whether they show a row.
@@ -115,29 +119,29 @@ const ACTIVE: &[([&str; 3], bool)] = &[
 ];
 
 /// Whether the columns show a row whose line they are.
-fn shows_active(alloc: Global, columns: &[&'static str; 3]) -> Result<bool, AllocError> {
+fn shows_active(rt: &(impl Abort + AllocGlobal), columns: &[&'static str; 3]) -> bool {
     let line = ActiveLine {
-        fabric: columns[0].to_string(alloc)?,
-        zone: columns[1].to_string(alloc)?,
-        member: columns[2].to_string(alloc)?,
+        fabric: text(rt, columns[0]),
+        zone: text(rt, columns[1]),
+        member: text(rt, columns[2]),
     };
     let Some(row) = line.read() else {
-        return Ok(false);
+        return false;
     };
-    let again = ActiveLine::print(alloc, &row)?;
-    Ok(
-        again.fabric.as_str() == columns[0]
-            && again.zone.as_str() == columns[1]
-            && again.member.as_str() == columns[2],
-    )
+    let again = ActiveLine::print(rt.alloc(), &row).expect(rt, "memory");
+    let texts = [
+        again.fabric.as_str(),
+        again.zone.as_str(),
+        again.member.as_str(),
+    ];
+    are_same(&texts, columns)
 }
 
 #[test]
-fn active(rt: HostRuntime) -> Result<(), AllocError> {
+fn active(rt: HostRuntime) {
     for (columns, shown) in ACTIVE {
-        assert!(rt; shows_active(rt.alloc(), columns)? == *shown);
+        assert!(rt; shows_active(&rt, columns) == *shown);
     }
-    Ok(())
 }
 
 /// Columns of `groups`, and whether they show a row.
@@ -154,37 +158,32 @@ const GROUPS: &[([&str; 4], i64, bool)] = &[
 ];
 
 /// Whether the columns show a row whose line they are.
-fn shows_group(
-    alloc: Global,
-    columns: &[&'static str; 4],
-    exposed: i64,
-) -> Result<bool, AllocError> {
+fn shows_group(rt: &(impl Abort + AllocGlobal), columns: &[&'static str; 4], exposed: i64) -> bool {
     let line = GroupLine {
-        kind: columns[0].to_string(alloc)?,
-        name: columns[1].to_string(alloc)?,
-        tenant: columns[2].to_string(alloc)?,
-        array: columns[3].to_string(alloc)?,
+        kind: text(rt, columns[0]),
+        name: text(rt, columns[1]),
+        tenant: text(rt, columns[2]),
+        array: text(rt, columns[3]),
         exposed,
     };
     let Some(row) = line.read() else {
-        return Ok(false);
+        return false;
     };
-    let again = GroupLine::print(alloc, &row)?;
-    Ok(
-        again.kind.as_str() == columns[0]
-            && again.name.as_str() == columns[1]
-            && again.tenant.as_str() == columns[2]
-            && again.array.as_str() == columns[3]
-            && again.exposed == exposed,
-    )
+    let again = GroupLine::print(rt.alloc(), &row).expect(rt, "memory");
+    let texts = [
+        again.kind.as_str(),
+        again.name.as_str(),
+        again.tenant.as_str(),
+        again.array.as_str(),
+    ];
+    again.exposed == exposed && are_same(&texts, columns)
 }
 
 #[test]
-fn groups(rt: HostRuntime) -> Result<(), AllocError> {
+fn groups(rt: HostRuntime) {
     for (columns, exposed, shown) in GROUPS {
-        assert!(rt; shows_group(rt.alloc(), columns, *exposed)? == *shown);
+        assert!(rt; shows_group(&rt, columns, *exposed) == *shown);
     }
-    Ok(())
 }
 
 /// Columns of `group_parts`, and whether they show a row.
@@ -207,89 +206,84 @@ const PARTS: &[([&str; 5], bool)] = &[
     (["host", "hosts1", "host", "db1", "v1"], false),
 ];
 
+/// The line of a unit, where it is within its range.
+fn unit_again(
+    rt: &(impl Abort + AllocGlobal),
+    name: Name,
+    unit: u16,
+    volume: Name,
+) -> Option<PartLine<Global>> {
+    if unit > LAST_UNIT {
+        return None;
+    }
+    let row = PartRow::Storage(name, StoragePart::Unit(unit, volume));
+    Some(PartLine::print(rt.alloc(), &row).expect(rt, "memory"))
+}
+
+/// The line of a host group that is served.
+fn hosts_again(rt: &(impl Abort + AllocGlobal), name: Name, hosts: Name) -> PartLine<Global> {
+    let row = PartRow::Storage(name, StoragePart::HostGroup(hosts));
+    PartLine::print(rt.alloc(), &row).expect(rt, "memory")
+}
+
+/// The line of a target.
+fn target_again(rt: &(impl Abort + AllocGlobal), name: Name, target: Wwn) -> PartLine<Global> {
+    let row = PartRow::Storage(name, StoragePart::Target(target));
+    PartLine::print(rt.alloc(), &row).expect(rt, "memory")
+}
+
+/// The line of a part of a storage group, where its unit is within its range.
+fn storage_part_again(
+    rt: &(impl Abort + AllocGlobal),
+    name: Name,
+    part: StoragePart,
+) -> Option<PartLine<Global>> {
+    match part {
+        StoragePart::Unit(unit, volume) => unit_again(rt, name, unit, volume),
+        StoragePart::HostGroup(hosts) => Some(hosts_again(rt, name, hosts)),
+        StoragePart::Target(target) => Some(target_again(rt, name, target)),
+    }
+}
+
 /// The line of the row, where its unit is within its range.
-fn part_again(alloc: Global, row: PartRow) -> Result<Option<PartLine<Global>>, AllocError> {
+fn part_again(rt: &(impl Abort + AllocGlobal), row: PartRow) -> Option<PartLine<Global>> {
     match row {
-        PartRow::Host(name, host) => Ok(Some(PartLine::print(alloc, &PartRow::Host(name, host))?)),
-        PartRow::Storage(name, part) => storage_part_again(alloc, name, part),
+        PartRow::Host(name, host) => {
+            let row = PartRow::Host(name, host);
+            Some(PartLine::print(rt.alloc(), &row).expect(rt, "memory"))
+        }
+        PartRow::Storage(name, part) => storage_part_again(rt, name, part),
     }
 }
 
 /// Whether the columns show a row whose line they are.
-fn shows_part(alloc: Global, columns: &[&'static str; 5]) -> Result<bool, AllocError> {
+fn shows_part(rt: &(impl Abort + AllocGlobal), columns: &[&'static str; 5]) -> bool {
     let line = PartLine {
-        kind: columns[0].to_string(alloc)?,
-        name: columns[1].to_string(alloc)?,
-        part: columns[2].to_string(alloc)?,
-        item: columns[3].to_string(alloc)?,
-        volume: columns[4].to_string(alloc)?,
+        kind: text(rt, columns[0]),
+        name: text(rt, columns[1]),
+        part: text(rt, columns[2]),
+        item: text(rt, columns[3]),
+        volume: text(rt, columns[4]),
     };
     let Some(row) = line.read() else {
-        return Ok(false);
+        return false;
     };
-    let Some(again) = part_again(alloc, row)? else {
-        return Ok(false);
+    let Some(again) = part_again(rt, row) else {
+        return false;
     };
-    Ok(
-        again.kind.as_str() == columns[0]
-            && again.name.as_str() == columns[1]
-            && again.part.as_str() == columns[2]
-            && again.item.as_str() == columns[3]
-            && again.volume.as_str() == columns[4],
-    )
+    let texts = [
+        again.kind.as_str(),
+        again.name.as_str(),
+        again.part.as_str(),
+        again.item.as_str(),
+        again.volume.as_str(),
+    ];
+    are_same(&texts, columns)
 }
 
 #[test]
-fn parts(rt: HostRuntime) -> Result<(), AllocError> {
+fn parts(rt: HostRuntime) {
     for (columns, shown) in PARTS {
-        assert!(rt; shows_part(rt.alloc(), columns)? == *shown);
-    }
-    Ok(())
-}
-
-/// The line of a unit, where it is within its range.
-fn unit_again(
-    alloc: Global,
-    name: Name,
-    unit: u16,
-    volume: Name,
-) -> Result<Option<PartLine<Global>>, AllocError> {
-    if unit > LAST_UNIT {
-        return Ok(None);
-    }
-    let row = PartRow::Storage(name, StoragePart::Unit(unit, volume));
-    Ok(Some(PartLine::print(alloc, &row)?))
-}
-
-/// The line of a host group that is served.
-fn hosts_again(
-    alloc: Global,
-    name: Name,
-    hosts: Name,
-) -> Result<Option<PartLine<Global>>, AllocError> {
-    let row = PartRow::Storage(name, StoragePart::HostGroup(hosts));
-    Ok(Some(PartLine::print(alloc, &row)?))
-}
-
-/// The line of a target.
-fn target_again(
-    alloc: Global,
-    name: Name,
-    target: Wwn,
-) -> Result<Option<PartLine<Global>>, AllocError> {
-    let row = PartRow::Storage(name, StoragePart::Target(target));
-    Ok(Some(PartLine::print(alloc, &row)?))
-}
-
-/// The line of a part of a storage group.
-fn storage_part_again(
-    alloc: Global,
-    name: Name,
-    part: StoragePart,
-) -> Result<Option<PartLine<Global>>, AllocError> {
-    match part {
-        StoragePart::Unit(unit, volume) => unit_again(alloc, name, unit, volume),
-        StoragePart::HostGroup(hosts) => hosts_again(alloc, name, hosts),
-        StoragePart::Target(target) => target_again(alloc, name, target),
+        assert!(rt; shows_part(&rt, columns) == *shown);
     }
 }

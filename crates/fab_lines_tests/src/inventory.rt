@@ -1,7 +1,9 @@
 //! Lines of ports, holders and volumes.
 
+use crate::texts::{are_same, text};
 use fab_lines::{HolderLine, PortLine, VolumeLine};
-use std::alloc::{AllocError, Global};
+use std::alloc::Global;
+use std::process::Abort;
 
 /// The columns of a line of `ports`.
 type PortCase = (
@@ -150,23 +152,11 @@ const PORTS: &[(PortCase, bool)] = &[
 ];
 
 /// A text, or null.
-fn or_null(alloc: Global, text: Option<&'static str>) -> Result<Option<String>, AllocError> {
-    match text {
-        Some(text) => Ok(Some(text.to_string(alloc)?)),
-        None => Ok(None),
+fn or_null(rt: &(impl Abort + AllocGlobal), column: Option<&str>) -> Option<String> {
+    match column {
+        Some(column) => Some(text(rt, column)),
+        None => None,
     }
-}
-
-/// The line of these columns.
-fn port_line(alloc: Global, case: &PortCase) -> Result<PortLine<Global>, AllocError> {
-    Ok(PortLine {
-        wwpn: case.0.to_string(alloc)?,
-        wwnn: case.1.to_string(alloc)?,
-        fabric: or_null(alloc, case.2)?,
-        domain: case.3,
-        slot: case.4,
-        holder: or_null(alloc, case.5)?,
-    })
 }
 
 /// Whether two texts, or nulls, are the same.
@@ -189,21 +179,27 @@ fn is_same_port(a: &PortLine<Global>, b: &PortLine<Global>) -> bool {
 }
 
 /// Whether the columns show a port whose line they are.
-fn shows_port(alloc: Global, case: &PortCase) -> Result<bool, AllocError> {
-    let line = port_line(alloc, case)?;
-    let Some(port) = line.read() else {
-        return Ok(false);
+fn shows_port(rt: &(impl Abort + AllocGlobal), case: &PortCase) -> bool {
+    let line = PortLine {
+        wwpn: text(rt, case.0),
+        wwnn: text(rt, case.1),
+        fabric: or_null(rt, case.2),
+        domain: case.3,
+        slot: case.4,
+        holder: or_null(rt, case.5),
     };
-    let again = PortLine::print(alloc, &port)?;
-    Ok(is_same_port(&line, &again))
+    let Some(port) = line.read() else {
+        return false;
+    };
+    let again = PortLine::print(rt.alloc(), &port).expect(rt, "memory");
+    is_same_port(&line, &again)
 }
 
 #[test]
-fn ports(rt: HostRuntime) -> Result<(), AllocError> {
+fn ports(rt: HostRuntime) {
     for (case, shown) in PORTS {
-        assert!(rt; shows_port(rt.alloc(), case)? == *shown);
+        assert!(rt; shows_port(&rt, case) == *shown);
     }
-    Ok(())
 }
 
 /// Columns of `holders`, and whether they show a holder.
@@ -218,33 +214,33 @@ const HOLDERS: &[(&str, &str, &str, bool)] = &[
 
 /// Whether the columns show a holder whose line they are.
 fn shows_holder(
-    alloc: Global,
+    rt: &(impl Abort + AllocGlobal),
     name: &'static str,
     kind: &'static str,
     tenant: &'static str,
-) -> Result<bool, AllocError> {
+) -> bool {
     let line = HolderLine {
-        name: name.to_string(alloc)?,
-        kind: kind.to_string(alloc)?,
-        tenant: tenant.to_string(alloc)?,
+        name: text(rt, name),
+        kind: text(rt, kind),
+        tenant: text(rt, tenant),
     };
     let Some(holder) = line.read() else {
-        return Ok(false);
+        return false;
     };
-    let again = HolderLine::print(alloc, &holder)?;
-    Ok(
-        again.name.as_str() == name
-            && again.kind.as_str() == kind
-            && again.tenant.as_str() == tenant,
-    )
+    let again = HolderLine::print(rt.alloc(), &holder).expect(rt, "memory");
+    let texts = [
+        again.name.as_str(),
+        again.kind.as_str(),
+        again.tenant.as_str(),
+    ];
+    are_same(&texts, &[name, kind, tenant])
 }
 
 #[test]
-fn holders(rt: HostRuntime) -> Result<(), AllocError> {
+fn holders(rt: HostRuntime) {
     for &(name, kind, tenant, shown) in HOLDERS {
-        assert!(rt; shows_holder(rt.alloc(), name, kind, tenant)? == shown);
+        assert!(rt; shows_holder(&rt, name, kind, tenant) == shown);
     }
-    Ok(())
 }
 
 /// Names, arrays, tenants and bytes of volumes, and whether they show one.
@@ -259,34 +255,33 @@ const VOLUMES: &[(&str, &str, &str, i64, bool)] = &[
 
 /// Whether the columns show a volume whose line they are.
 fn shows_volume(
-    alloc: Global,
+    rt: &(impl Abort + AllocGlobal),
     name: &'static str,
     array: &'static str,
     tenant: &'static str,
     bytes: i64,
-) -> Result<bool, AllocError> {
+) -> bool {
     let line = VolumeLine {
-        name: name.to_string(alloc)?,
-        array: array.to_string(alloc)?,
-        tenant: tenant.to_string(alloc)?,
+        name: text(rt, name),
+        array: text(rt, array),
+        tenant: text(rt, tenant),
         bytes,
     };
     let Some(volume) = line.read() else {
-        return Ok(false);
+        return false;
     };
-    let again = VolumeLine::print(alloc, &volume)?;
-    Ok(
-        again.name.as_str() == name
-            && again.array.as_str() == array
-            && again.tenant.as_str() == tenant
-            && again.bytes == bytes,
-    )
+    let again = VolumeLine::print(rt.alloc(), &volume).expect(rt, "memory");
+    let texts = [
+        again.name.as_str(),
+        again.array.as_str(),
+        again.tenant.as_str(),
+    ];
+    again.bytes == bytes && are_same(&texts, &[name, array, tenant])
 }
 
 #[test]
-fn volumes(rt: HostRuntime) -> Result<(), AllocError> {
+fn volumes(rt: HostRuntime) {
     for &(name, array, tenant, bytes, shown) in VOLUMES {
-        assert!(rt; shows_volume(rt.alloc(), name, array, tenant, bytes)? == shown);
+        assert!(rt; shows_volume(&rt, name, array, tenant, bytes) == shown);
     }
-    Ok(())
 }

@@ -10,3 +10,5 @@ mod inventory;
 mod plans;
 #[cfg(test)]
 mod records;
+#[cfg(test)]
+mod texts;

@@ -1,8 +1,9 @@
 //! Lines of plans and of changes to undo.
 
+use crate::texts::{are_same, text};
 use fab_lines::PlanLine;
 use fab_undo_lines::UndoLine;
-use std::alloc::{AllocError, Global};
+use std::process::Abort;
 
 /// Names, authors, texts and states of plans, their positions, and whether they show a plan.
 const PLANS: &[([&str; 4], i64, bool)] = &[
@@ -21,37 +22,32 @@ const PLANS: &[([&str; 4], i64, bool)] = &[
 ];
 
 /// Whether the columns show a plan whose line they are.
-fn shows_plan(
-    alloc: Global,
-    columns: &[&'static str; 4],
-    position: i64,
-) -> Result<bool, AllocError> {
+fn shows_plan(rt: &(impl Abort + AllocGlobal), columns: &[&'static str; 4], position: i64) -> bool {
     let line = PlanLine {
-        name: columns[0].to_string(alloc)?,
-        author: columns[1].to_string(alloc)?,
-        text: columns[2].to_string(alloc)?,
-        state: columns[3].to_string(alloc)?,
+        name: text(rt, columns[0]),
+        author: text(rt, columns[1]),
+        text: text(rt, columns[2]),
+        state: text(rt, columns[3]),
         position,
     };
     let Some(row) = line.read() else {
-        return Ok(false);
+        return false;
     };
-    let again = PlanLine::print(alloc, &row)?;
-    Ok(
-        again.name.as_str() == columns[0]
-            && again.author.as_str() == columns[1]
-            && again.text.as_str() == columns[2]
-            && again.state.as_str() == columns[3]
-            && again.position == position,
-    )
+    let again = PlanLine::print(rt.alloc(), &row).expect(rt, "memory");
+    let texts = [
+        again.name.as_str(),
+        again.author.as_str(),
+        again.text.as_str(),
+        again.state.as_str(),
+    ];
+    again.position == position && are_same(&texts, columns)
 }
 
 #[test]
-fn plans(rt: HostRuntime) -> Result<(), AllocError> {
+fn plans(rt: HostRuntime) {
     for (columns, position, shown) in PLANS {
-        assert!(rt; shows_plan(rt.alloc(), columns, *position)? == *shown);
+        assert!(rt; shows_plan(&rt, columns, *position) == *shown);
     }
-    Ok(())
 }
 
 /// Signs and entries of changes to undo, and whether they show a row.
@@ -93,27 +89,27 @@ const CHANGES: &[(&str, &str, bool)] = &[
 ];
 
 /// Whether the columns show a change whose line they are.
-fn shows_change(
-    alloc: Global,
-    sign: &'static str,
-    entry: &'static str,
-) -> Result<bool, AllocError> {
+fn shows_change(rt: &(impl Abort + AllocGlobal), sign: &'static str, entry: &'static str) -> bool {
     let line = UndoLine {
-        plan: "p1".to_string(alloc)?,
-        sign: sign.to_string(alloc)?,
-        entry: entry.to_string(alloc)?,
+        plan: text(rt, "p1"),
+        sign: text(rt, sign),
+        entry: text(rt, entry),
     };
     let Some(row) = line.read() else {
-        return Ok(false);
+        return false;
     };
-    let again = UndoLine::print(alloc, &row)?;
-    Ok(again.plan.as_str() == "p1" && again.sign.as_str() == sign && again.entry.as_str() == entry)
+    let again = UndoLine::print(rt.alloc(), &row).expect(rt, "memory");
+    let texts = [
+        again.plan.as_str(),
+        again.sign.as_str(),
+        again.entry.as_str(),
+    ];
+    are_same(&texts, &["p1", sign, entry])
 }
 
 #[test]
-fn changes(rt: HostRuntime) -> Result<(), AllocError> {
+fn changes(rt: HostRuntime) {
     for &(sign, entry, shown) in CHANGES {
-        assert!(rt; shows_change(rt.alloc(), sign, entry)? == shown);
+        assert!(rt; shows_change(&rt, sign, entry) == shown);
     }
-    Ok(())
 }

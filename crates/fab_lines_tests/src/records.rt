@@ -1,7 +1,8 @@
 //! Lines of approvals and of paths.
 
+use crate::texts::{are_same, text};
 use fab_lines::{ApprovalLine, PathLine};
-use std::alloc::{AllocError, Global};
+use std::process::Abort;
 
 /// Plans, callers and revisions, and whether they show an approval.
 const APPROVALS: &[(&str, &str, i64, bool)] = &[
@@ -14,29 +15,29 @@ const APPROVALS: &[(&str, &str, i64, bool)] = &[
 
 /// Whether the columns show an approval whose line they are.
 fn shows_approval(
-    alloc: Global,
+    rt: &(impl Abort + AllocGlobal),
     plan: &'static str,
     caller: &'static str,
     revision: i64,
-) -> Result<bool, AllocError> {
+) -> bool {
     let line = ApprovalLine {
-        plan: plan.to_string(alloc)?,
-        caller: caller.to_string(alloc)?,
+        plan: text(rt, plan),
+        caller: text(rt, caller),
         revision,
     };
     let Some(row) = line.read() else {
-        return Ok(false);
+        return false;
     };
-    let again = ApprovalLine::print(alloc, &row)?;
-    Ok(again.plan.as_str() == plan && again.caller.as_str() == caller && again.revision == revision)
+    let again = ApprovalLine::print(rt.alloc(), &row).expect(rt, "memory");
+    let texts = [again.plan.as_str(), again.caller.as_str()];
+    again.revision == revision && are_same(&texts, &[plan, caller])
 }
 
 #[test]
-fn approvals(rt: HostRuntime) -> Result<(), AllocError> {
+fn approvals(rt: HostRuntime) {
     for &(plan, caller, revision, shown) in APPROVALS {
-        assert!(rt; shows_approval(rt.alloc(), plan, caller, revision)? == shown);
+        assert!(rt; shows_approval(&rt, plan, caller, revision) == shown);
     }
-    Ok(())
 }
 
 /// Columns of `paths`, and whether they show a path.
@@ -80,33 +81,32 @@ const PATHS: &[([&str; 5], i64, bool)] = &[
 ];
 
 /// Whether the columns show a path whose line they are.
-fn shows_path(alloc: Global, columns: &[&'static str; 5], lun: i64) -> Result<bool, AllocError> {
+fn shows_path(rt: &(impl Abort + AllocGlobal), columns: &[&'static str; 5], lun: i64) -> bool {
     let line = PathLine {
-        host: columns[0].to_string(alloc)?,
-        fabric: columns[1].to_string(alloc)?,
-        initiator: columns[2].to_string(alloc)?,
-        target: columns[3].to_string(alloc)?,
-        volume: columns[4].to_string(alloc)?,
+        host: text(rt, columns[0]),
+        fabric: text(rt, columns[1]),
+        initiator: text(rt, columns[2]),
+        target: text(rt, columns[3]),
+        volume: text(rt, columns[4]),
         lun,
     };
     let Some(row) = line.read() else {
-        return Ok(false);
+        return false;
     };
-    let again = PathLine::print(alloc, &row)?;
-    Ok(
-        again.host.as_str() == columns[0]
-            && again.fabric.as_str() == columns[1]
-            && again.initiator.as_str() == columns[2]
-            && again.target.as_str() == columns[3]
-            && again.volume.as_str() == columns[4]
-            && again.lun == lun,
-    )
+    let again = PathLine::print(rt.alloc(), &row).expect(rt, "memory");
+    let texts = [
+        again.host.as_str(),
+        again.fabric.as_str(),
+        again.initiator.as_str(),
+        again.target.as_str(),
+        again.volume.as_str(),
+    ];
+    again.lun == lun && are_same(&texts, columns)
 }
 
 #[test]
-fn paths(rt: HostRuntime) -> Result<(), AllocError> {
+fn paths(rt: HostRuntime) {
     for (columns, lun, shown) in PATHS {
-        assert!(rt; shows_path(rt.alloc(), columns, *lun)? == *shown);
+        assert!(rt; shows_path(&rt, columns, *lun) == *shown);
     }
-    Ok(())
 }

@@ -6,8 +6,8 @@ use fab_names::{Fabric, Name, Wwn};
 use fab_reach::Path;
 use fab_wire_base::requests::Refusal;
 use fab_zoning::DefaultFlag;
-use std::alloc::{AllocError, Global};
-use std::test::Fail;
+use std::alloc::Global;
+use std::process::Abort;
 
 /// Which answer it is.
 #[derive(Clone, Copy)]
@@ -24,26 +24,19 @@ pub enum Kind {
     Active,
 }
 
-fn path() -> Result<Path, Fail> {
-    Ok(Path {
+/// The paths of a host that has one.
+fn shown_paths(rt: &(impl Abort + AllocGlobal)) -> Answer<Global> {
+    let host = Name::read("db1").expect(rt, "a name");
+    let path = Path {
         fabric: Fabric::A,
-        initiator: Wwn::read("10:00:00:00:00:00:00:01")?,
-        target: Wwn::read("50:00:00:00:00:00:00:01")?,
-        volume: Name::read("v1")?,
+        initiator: Wwn::read("10:00:00:00:00:00:00:01").expect(rt, "a port"),
+        target: Wwn::read("50:00:00:00:00:00:00:01").expect(rt, "a port"),
+        volume: Name::read("v1").expect(rt, "a name"),
         unit: 0,
-    })
-}
-
-fn one_path(alloc: Global, path: Path) -> Result<Vec<Path>, AllocError> {
-    let mut paths = Vec::new(alloc);
-    paths.push(path)?;
-    Ok(paths)
-}
-
-fn shown_paths(alloc: Global) -> Result<Answer<Global>, Fail> {
-    let host = Name::read("db1")?;
-    let paths = one_path(alloc, path()?)?;
-    Ok(Answer::Replied(Reply::Shown(Shown::Paths { host, paths })))
+    };
+    let mut paths = Vec::new(rt.alloc());
+    paths.push(path).expect(rt, "memory");
+    Answer::Replied(Reply::Shown(Shown::Paths { host, paths }))
 }
 
 fn nothing_active(alloc: Global) -> Answer<Global> {
@@ -56,12 +49,12 @@ fn nothing_active(alloc: Global) -> Answer<Global> {
 }
 
 /// The answer of a kind.
-pub fn answer_of(alloc: Global, kind: Kind) -> Result<Answer<Global>, Fail> {
+pub fn answer_of(rt: &(impl Abort + AllocGlobal), kind: Kind) -> Answer<Global> {
     match kind {
-        Kind::Unheard => Ok(Answer::Refused(Refusal::NoCaller)),
-        Kind::Refused => Ok(Answer::Replied(Reply::Refused(DeskFault::NotFound))),
-        Kind::Changed => Ok(Answer::Replied(Reply::Changed { revision: 7 })),
-        Kind::Paths => shown_paths(alloc),
-        Kind::Active => Ok(nothing_active(alloc)),
+        Kind::Unheard => Answer::Refused(Refusal::NoCaller),
+        Kind::Refused => Answer::Replied(Reply::Refused(DeskFault::NotFound)),
+        Kind::Changed => Answer::Replied(Reply::Changed { revision: 7 }),
+        Kind::Paths => shown_paths(rt),
+        Kind::Active => nothing_active(rt.alloc()),
     }
 }

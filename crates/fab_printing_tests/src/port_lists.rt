@@ -3,8 +3,7 @@
 use fab_files_base::port_list::{FileFault, read_ports};
 use fab_inventory::PortRow;
 use fab_names::{Place, Wwn};
-use std::alloc::Global;
-use std::test::Fail;
+use std::process::Abort;
 
 /// Texts, and how many rows they list or which record is the first faulty one.
 const CASES: &[(&[u8], Result<usize, FileFault>)] = &[
@@ -106,8 +105,8 @@ const LIST: &[&[u8]] = &[
     b"5000000000000001,5000000000000000,239,0\n",
 ];
 
-fn listed(alloc: Global, text: &[u8]) -> Result<usize, FileFault> {
-    match read_ports(alloc, alloc, text) {
+fn listed(rt: &impl AllocGlobal, text: &[u8]) -> Result<usize, FileFault> {
+    match read_ports(rt.alloc(), rt.alloc(), text) {
         Ok(rows) => Ok(rows.len()),
         Err(fault) => Err(fault),
     }
@@ -115,19 +114,22 @@ fn listed(alloc: Global, text: &[u8]) -> Result<usize, FileFault> {
 
 #[test]
 fn texts_are_judged(rt: HostRuntime) {
-    let alloc = rt.alloc();
-    for (i, (text, wanted)) in CASES.iter().enumerate() {
-        assert!(rt; listed(alloc, text) == *wanted);
+    for (text, wanted) in CASES {
+        assert!(rt; listed(&rt, text) == *wanted);
     }
 }
 
-#[test]
-fn rows_are_given(rt: HostRuntime) -> Result<(), Fail> {
-    let alloc = rt.alloc();
-    let mut text = Vec::new(alloc);
+/// The rows of the whole list.
+fn rows_of_list(rt: &(impl Abort + AllocGlobal)) -> Vec<PortRow> {
+    let mut text = Vec::new(rt.alloc());
     for &line in LIST {
-        text.extend_from_slice(line)?;
+        text.extend_from_slice(line).expect(rt, "memory");
     }
+    read_ports(rt.alloc(), rt.alloc(), text.as_slice()).expect(rt, "rows")
+}
+
+#[test]
+fn rows_are_given(rt: HostRuntime) {
     let first = PortRow {
         name: Wwn::new(0x100000000000000a),
         node: Wwn::new(0x20000000000000ff),
@@ -138,23 +140,24 @@ fn rows_are_given(rt: HostRuntime) -> Result<(), Fail> {
         node: Wwn::new(0x5000000000000000),
         place: Place::new(239, 0),
     };
-    let rows = read_ports(alloc, alloc, text.as_slice())
-        .ok()
-        .ok_or("no rows")?;
+    let rows = rows_of_list(&rt);
     assert!(rt; rows.as_slice() == [first, second].as_slice());
-    Ok(())
+}
+
+/// The first size of those tried at which a list is not read as one of so many rows.
+fn first_misread(rt: &(impl Abort + AllocGlobal)) -> Option<usize> {
+    let mut text = Vec::from_slice(rt.alloc(), LIST[0]).expect(rt, "memory");
+    for size in 0..4100 {
+        let is_tried = size < 100 || size % 100 == 96;
+        if is_tried && listed(rt, text.as_slice()) != Ok(size) {
+            return Some(size);
+        }
+        text.extend_from_slice(LIST[1]).expect(rt, "memory");
+    }
+    None
 }
 
 #[test]
-fn lists_of_every_size_are_read(rt: HostRuntime) -> Result<(), Fail> {
-    let alloc = rt.alloc();
-    let mut text = Vec::new(alloc);
-    text.extend_from_slice(LIST[0])?;
-    for size in 0..4100 {
-        if size < 100 || size % 100 == 96 {
-            assert!(rt; listed(alloc, text.as_slice()) == Ok(size));
-        }
-        text.extend_from_slice(LIST[1])?;
-    }
-    Ok(())
+fn lists_of_every_size_are_read(rt: HostRuntime) {
+    assert_eq!(rt; first_misread(&rt), None);
 }

@@ -5,7 +5,7 @@ use fab_answers::answers::Answer;
 use fab_exchanges::streams::Breaking;
 use fab_printing::{End, Form, PrintFault, print};
 use std::alloc::Global;
-use std::test::Fail;
+use std::process::Abort;
 
 /// An answer, the form in which it is printed, how it ended, and the text.
 type Case = (Kind, Form, End, &'static str);
@@ -64,31 +64,22 @@ const CASES: &[Case] = &[
     ),
 ];
 
-/// Whether an answer is printed so.
-fn is_printed(alloc: Global, answer: &Answer<Global>, form: Form, end: End, text: &str) -> bool {
-    match print(alloc, Vec::new(alloc), form, answer) {
-        Ok((bytes, came)) => came == end && bytes.as_slice() == text.as_bytes(),
-        Err(_) => false,
-    }
-}
-
-/// Fails unless the answer is printed so.
-fn prints(alloc: Global, case: &Case) -> Result<(), Fail> {
-    let answer = answer_of(alloc, case.0)?;
-    if is_printed(alloc, &answer, case.1, case.2, case.3) {
-        Ok(())
-    } else {
-        Err(Fail::new(format_args!("{}", case.3)))
-    }
+/// Ends the test unless the answer is printed so.
+fn prints(rt: &(impl Abort + AllocGlobal), case: &Case) {
+    let answer = answer_of(rt, case.0);
+    let printed = print(rt.alloc(), Vec::new(rt.alloc()), case.1, &answer);
+    let (bytes, came) = printed.expect(rt, case.3);
+    let text = String::from_utf8(bytes).expect(rt, case.3);
+    assert_eq!(rt; text.as_str(), case.3);
+    assert!(rt; came == case.2);
 }
 
 /// Each form of answers that fit it, and of others.
 #[test]
-fn answers_in_each_form(rt: HostRuntime) -> Result<(), Fail> {
+fn answers_in_each_form(rt: HostRuntime) {
     for case in CASES {
-        prints(rt.alloc(), case)?;
+        prints(&rt, case);
     }
-    Ok(())
 }
 
 /// What a writer has taken that takes five bytes a write, and fails at the first, second or third.
@@ -96,10 +87,10 @@ const BEGINNINGS: &[&str] = &["", "{\"rev", "{\"revision"];
 
 /// Whether printing to a writer that takes five bytes a write, and fails at this write, ends there:
 /// it has taken just this beginning of the text, though it would take more.
-fn ends_at(alloc: Global, answer: &Answer<Global>, k: u64, taken: &str) -> bool {
-    let mut writer = Breaking::new(alloc, 5, k);
+fn ends_at(rt: &impl AllocGlobal, answer: &Answer<Global>, k: u64, taken: &str) -> bool {
+    let mut writer = Breaking::new(rt.alloc(), 5, k);
     let came = matches!(
-        print(alloc, &mut writer, Form::Json, answer),
+        print(rt.alloc(), &mut writer, Form::Json, answer),
         Err(PrintFault::Stream)
     );
     came && writer.taken() == taken.as_bytes()
@@ -107,10 +98,9 @@ fn ends_at(alloc: Global, answer: &Answer<Global>, k: u64, taken: &str) -> bool 
 
 /// A writer that fails is not asked again.
 #[test]
-fn writer_fails(rt: HostRuntime) -> Result<(), Fail> {
-    let answer = answer_of(rt.alloc(), Kind::Changed)?;
+fn writer_fails(rt: HostRuntime) {
+    let answer = answer_of(&rt, Kind::Changed);
     for (k, taken) in BEGINNINGS.iter().enumerate() {
-        assert!(rt; ends_at(rt.alloc(), &answer, k as u64, taken));
+        assert!(rt; ends_at(&rt, &answer, k as u64, taken));
     }
-    Ok(())
 }

@@ -7,7 +7,7 @@ use fab_names::{Fabric, Member, Name, Wwn};
 use fab_reach::Path;
 use fab_zoning::DefaultFlag;
 use std::alloc::Global;
-use std::test::Fail;
+use std::process::Abort;
 
 /// A path: its fabric, initiator, target, volume and unit.
 type Row = (&'static str, &'static str, &'static str, &'static str, u16);
@@ -143,124 +143,92 @@ const ACTIVE: &[Active] = &[
     },
 ];
 
-/// A path from its texts.
-fn path_of(row: &Row) -> Result<Path, Fail> {
-    let fabric = Fabric::read(row.0)?;
-    let initiator = Wwn::read(row.1)?;
-    let target = Wwn::read(row.2)?;
-    let volume = Name::read(row.3)?;
-    Ok(Path {
-        fabric,
-        initiator,
-        target,
-        volume,
-        unit: row.4,
-    })
-}
-
 /// Paths from their texts.
-fn paths_of(alloc: Global, rows: &[Row]) -> Result<Vec<Path>, Fail> {
-    let mut paths = Vec::new(alloc);
+fn paths_of(rt: &(impl Abort + AllocGlobal), rows: &[Row]) -> Vec<Path> {
+    let mut paths = Vec::new(rt.alloc());
     for row in rows {
-        paths.push(path_of(row)?)?;
+        let path = Path {
+            fabric: Fabric::read(row.0).expect(rt, "a fabric"),
+            initiator: Wwn::read(row.1).expect(rt, "a port"),
+            target: Wwn::read(row.2).expect(rt, "a port"),
+            volume: Name::read(row.3).expect(rt, "a name"),
+            unit: row.4,
+        };
+        paths.push(path).expect(rt, "memory");
     }
-    Ok(paths)
-}
-
-/// Whether this is the text of the paths.
-fn is_csv(alloc: Global, host: &Name, paths: &[Path], text: &str) -> bool {
-    let mut writer = Counted::new(Vec::new(alloc));
-    let done = paths_csv(&mut writer, host, paths).is_ok();
-    done && writer.into_inner().as_slice() == text.as_bytes()
-}
-
-/// Whether this is the report on the paths.
-fn is_report(alloc: Global, host: &Name, paths: &[Path], text: &str) -> bool {
-    let mut writer = Counted::new(Vec::new(alloc));
-    let done = report(alloc, &mut writer, host, paths).is_ok();
-    done && writer.into_inner().as_slice() == text.as_bytes()
-}
-
-/// How many bytes the report on the paths has.
-fn report_len(alloc: Global, host: &Name, paths: &[Path]) -> u64 {
-    let mut size = Size::new();
-    let _ = report(alloc, &mut size, host, paths);
-    size.bytes()
+    paths
 }
 
 /// Whether the paths have this text.
-fn csv_is_right(alloc: Global, case: &Lines) -> Result<bool, Fail> {
-    let host = Name::read(case.0)?;
-    let paths = paths_of(alloc, case.1)?;
-    Ok(is_csv(alloc, &host, &paths, case.2))
+fn csv_is_right(rt: &(impl Abort + AllocGlobal), case: &Lines) -> bool {
+    let host = Name::read(case.0).expect(rt, "a name");
+    let paths = paths_of(rt, case.1);
+    let mut writer = Counted::new(Vec::new(rt.alloc()));
+    let done = paths_csv(&mut writer, &host, paths.as_slice()).is_ok();
+    done && writer.into_inner().as_slice() == case.2.as_bytes()
 }
 
 /// Whether the report on the paths is this text, also by a count of its bytes.
-fn report_is_right(alloc: Global, case: &Lines) -> Result<bool, Fail> {
-    let host = Name::read(case.0)?;
-    let paths = paths_of(alloc, case.1)?;
-    Ok(
-        is_report(alloc, &host, &paths, case.2)
-            && report_len(alloc, &host, &paths) == case.2.len() as u64,
-    )
+fn report_is_right(rt: &(impl Abort + AllocGlobal), case: &Lines) -> bool {
+    let host = Name::read(case.0).expect(rt, "a name");
+    let paths = paths_of(rt, case.1);
+    let mut writer = Counted::new(Vec::new(rt.alloc()));
+    let done = report(rt.alloc(), &mut writer, &host, paths.as_slice()).is_ok();
+    let mut size = Size::new();
+    let _ = report(rt.alloc(), &mut size, &host, paths.as_slice());
+    done && writer.into_inner().as_slice() == case.2.as_bytes()
+        && size.bytes() == case.2.len() as u64
 }
 
 /// A zone from its texts.
-fn zone_of(alloc: Global, name: &str, texts: &[&str]) -> Result<ZoneMembers<Global>, Fail> {
-    let name = Name::read(name)?;
-    let mut members = Vec::new(alloc);
+fn zone_of(rt: &(impl Abort + AllocGlobal), name: &str, texts: &[&str]) -> ZoneMembers<Global> {
+    let name = Name::read(name).expect(rt, "a name");
+    let mut members = Vec::new(rt.alloc());
     for text in texts {
-        members.push(Member::read(text)?)?;
+        let member = Member::read(text).expect(rt, "a member");
+        members.push(member).expect(rt, "memory");
     }
-    Ok(ZoneMembers { name, members })
+    ZoneMembers { name, members }
 }
 
 /// Zones from their texts.
 fn zones_of(
-    alloc: Global,
+    rt: &(impl Abort + AllocGlobal),
     zones: &[(&'static str, &'static [&'static str])],
-) -> Result<Vec<ZoneMembers<Global>>, Fail> {
-    let mut list = Vec::new(alloc);
+) -> Vec<ZoneMembers<Global>> {
+    let mut list = Vec::new(rt.alloc());
     for (name, texts) in zones {
-        list.push(zone_of(alloc, name, texts)?)?;
+        list.push(zone_of(rt, name, texts)).expect(rt, "memory");
     }
-    Ok(list)
-}
-
-/// Whether this is the text of the active set.
-fn is_active_text(alloc: Global, case: &Active, zones: &[ZoneMembers<Global>]) -> bool {
-    let mut writer = Counted::new(Vec::new(alloc));
-    let set = Name::read(case.set).ok();
-    let done = active_text(&mut writer, case.fabric, set, case.flag, zones).is_ok();
-    done && writer.into_inner().as_slice() == case.text.as_bytes()
+    list
 }
 
 /// Whether the active set has this text.
-fn active_is_right(alloc: Global, case: &Active) -> Result<bool, Fail> {
-    let zones = zones_of(alloc, case.zones)?;
-    Ok(is_active_text(alloc, case, &zones))
+fn active_is_right(rt: &(impl Abort + AllocGlobal), case: &Active) -> bool {
+    let zones = zones_of(rt, case.zones);
+    let mut writer = Counted::new(Vec::new(rt.alloc()));
+    let set = Name::read(case.set).ok();
+    let done = active_text(&mut writer, case.fabric, set, case.flag, zones.as_slice()).is_ok();
+    done && writer.into_inner().as_slice() == case.text.as_bytes()
 }
 
 #[test]
-fn paths_are_listed(rt: HostRuntime) -> Result<(), Fail> {
+fn paths_are_listed(rt: HostRuntime) {
     for case in CSV {
-        assert!(rt; csv_is_right(rt.alloc(), case)?);
+        assert!(rt; csv_is_right(&rt, case));
     }
-    Ok(())
 }
 
 #[test]
-fn volumes_are_reported(rt: HostRuntime) -> Result<(), Fail> {
+fn volumes_are_reported(rt: HostRuntime) {
     for case in REPORTS {
-        assert!(rt; report_is_right(rt.alloc(), case)?);
+        assert!(rt; report_is_right(&rt, case));
     }
-    Ok(())
 }
 
 #[test]
-fn active_sets_are_shown(rt: HostRuntime) -> Result<(), Fail> {
+fn active_sets_are_shown(rt: HostRuntime) {
     for case in ACTIVE {
-        assert!(rt; active_is_right(rt.alloc(), case)?);
+        assert!(rt; active_is_right(&rt, case));
     }
-    Ok(())
 }

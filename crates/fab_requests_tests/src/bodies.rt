@@ -1,11 +1,11 @@
 //! Bodies: those that are taken, those that are not, and what stands behind them.
 
 use crate::steps::{
-    Case, QUESTION, QUESTIONED, STAGE, STAGE_HEAD, STAGED, Wanted, first_other, hears,
+    Case, QUESTION, QUESTIONED, READS, STAGE, STAGE_HEAD, STAGED, Wanted, first_other, hears,
 };
 use fab_wire_base::kinds::Kind;
 use fab_wire_base::requests::Refusal;
-use std::alloc::Global;
+use std::process::Abort;
 
 const BODIES: &[Case] = &[
     (
@@ -68,8 +68,8 @@ const BODIES: &[Case] = &[
 
 #[test]
 fn bodies_are_taken(rt: HostRuntime) {
-    for most in [1, 2, 7, 8192] {
-        assert!(rt; first_other(rt.alloc(), BODIES, most).is_none());
+    for &most in READS {
+        assert_eq!(rt; first_other(&rt, BODIES, most), None);
     }
 }
 
@@ -77,7 +77,7 @@ fn bodies_are_taken(rt: HostRuntime) {
 #[test]
 fn reads_are_cut(rt: HostRuntime) {
     for most in 1..STAGE.len() + 2 {
-        assert!(rt; hears(rt.alloc(), STAGE, most, STAGED));
+        assert!(rt; hears(&rt, STAGE, most, STAGED));
     }
 }
 
@@ -94,15 +94,15 @@ fn cut(len: usize) -> Wanted<'static> {
     }
 }
 
-fn hears_cut(alloc: Global, len: usize) -> bool {
-    hears(alloc, &STAGE[..len.min(STAGE.len())], 8192, cut(len))
+fn hears_cut(rt: &(impl Abort + AllocGlobal), len: usize) -> bool {
+    hears(rt, &STAGE[..len.min(STAGE.len())], 8192, cut(len))
 }
 
 /// An input that ends early is a bad head up to the body, and then a body that is too short.
 #[test]
 fn inputs_are_cut(rt: HostRuntime) {
     for len in 0..STAGE.len() + 1 {
-        assert!(rt; hears_cut(rt.alloc(), len));
+        assert!(rt; hears_cut(&rt, len));
     }
 }
 
@@ -111,7 +111,7 @@ fn inputs_are_cut(rt: HostRuntime) {
 fn question_is_cut(rt: HostRuntime) {
     for len in 1..QUESTION.len() {
         let wanted = Wanted::Refused(Refusal::BadHead);
-        assert!(rt; hears(rt.alloc(), &QUESTION[..len], 8192, wanted));
+        assert!(rt; hears(&rt, &QUESTION[..len], 8192, wanted));
     }
-    assert!(rt; hears(rt.alloc(), QUESTION, 1, QUESTIONED));
+    assert!(rt; hears(&rt, QUESTION, 1, QUESTIONED));
 }

@@ -5,7 +5,7 @@ use fab_json::counted::Counted;
 use fab_refusing::Refusing;
 use fab_wire_base::hear::Heard;
 use fab_wire_base::requests::Refusal;
-use std::alloc::Global;
+use std::process::Abort;
 
 /// What comes of an input.
 #[derive(Clone, Copy, PartialEq, Eq)]
@@ -19,10 +19,15 @@ enum Came {
 }
 
 /// Hears an input where the request for memory behind so many is refused.
-fn came_of(alloc: Global, input: &[u8], requests: u64, wanted: Wanted<'_>) -> Came {
-    let heap = Refusing::new(alloc);
+fn came_of(
+    rt: &(impl Abort + AllocGlobal),
+    input: &[u8],
+    requests: u64,
+    wanted: Wanted<'_>,
+) -> Came {
+    let heap = Refusing::new(rt.alloc());
     heap.refuse_after(requests);
-    let heard = heard_by(&heap, alloc, &mut Counted::new(input));
+    let heard = heard_by(rt, &heap, &mut Counted::new(input));
     let is_want = matches!(heard, Heard::Memory);
     let is_right = is_wanted(wanted, &heard);
     if heap.has_refused() && is_want {
@@ -35,9 +40,9 @@ fn came_of(alloc: Global, input: &[u8], requests: u64, wanted: Wanted<'_>) -> Ca
 }
 
 /// How many requests for memory an input makes, where each refusal of one is told.
-fn requests_of(alloc: Global, input: &[u8], wanted: Wanted<'_>) -> Option<u64> {
+fn requests_of(rt: &(impl Abort + AllocGlobal), input: &[u8], wanted: Wanted<'_>) -> Option<u64> {
     for requests in 0..1000u64 {
-        match came_of(alloc, input, requests, wanted) {
+        match came_of(rt, input, requests, wanted) {
             Came::Wanted => return Some(requests),
             Came::Refused => {}
             Came::Other => return None,
@@ -49,17 +54,15 @@ fn requests_of(alloc: Global, input: &[u8], wanted: Wanted<'_>) -> Option<u64> {
 /// A token, a target and a body are kept, and nothing else.
 #[test]
 fn refused_growth(rt: HostRuntime) {
-    let alloc = rt.alloc();
-    assert!(rt; requests_of(alloc, STAGE, STAGED) == Some(3));
-    assert!(rt; requests_of(alloc, QUESTION, QUESTIONED) == Some(2));
+    assert_eq!(rt; requests_of(&rt, STAGE, STAGED), Some(3));
+    assert_eq!(rt; requests_of(&rt, QUESTION, QUESTIONED), Some(2));
 }
 
 /// A refusal takes no memory of what requests are kept in, and nor does an empty input.
 #[test]
 fn refusals_take_nothing(rt: HostRuntime) {
-    let alloc = rt.alloc();
     let unknown = b"GET /hosts/db1 HTTP/1.1\r\n\r\n";
     let no_caller = Wanted::Refused(Refusal::NoCaller);
-    assert!(rt; requests_of(alloc, b"", Wanted::Nothing) == Some(0));
-    assert!(rt; requests_of(alloc, unknown, no_caller) == Some(0));
+    assert_eq!(rt; requests_of(&rt, b"", Wanted::Nothing), Some(0));
+    assert_eq!(rt; requests_of(&rt, unknown, no_caller), Some(0));
 }

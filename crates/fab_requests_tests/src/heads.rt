@@ -1,11 +1,8 @@
 //! Heads that are heard or refused, and the order of their checks.
 
-use crate::steps::{Case, QUESTION, QUESTIONED, STAGE, STAGED, Wanted, first_other};
+use crate::steps::{Case, QUESTION, QUESTIONED, READS, STAGE, STAGED, Wanted, first_other};
 use fab_wire_base::kinds::{Kind, Route};
 use fab_wire_base::requests::Refusal;
-
-/// How many bytes a read gets at most.
-const READS: &[usize] = &[1, 2, 7, 8192];
 
 /// Requests as their lines may be written, and what is no head.
 const HEADS: &[Case] = &[
@@ -68,7 +65,7 @@ const HEADS: &[Case] = &[
 #[test]
 fn heads_are_read(rt: HostRuntime) {
     for &most in READS {
-        assert!(rt; first_other(rt.alloc(), HEADS, most).is_none());
+        assert_eq!(rt; first_other(&rt, HEADS, most), None);
     }
 }
 
@@ -131,7 +128,7 @@ const LENGTHS: &[Case] = &[
 
 #[test]
 fn lengths_are_judged_first(rt: HostRuntime) {
-    assert!(rt; first_other(rt.alloc(), LENGTHS, 8192).is_none());
+    assert_eq!(rt; first_other(&rt, LENGTHS, 8192), None);
 }
 
 /// Heads that name no known caller, each with a route that takes the method.
@@ -188,7 +185,7 @@ const CALLERS: &[Case] = &[
 
 #[test]
 fn callers_are_known(rt: HostRuntime) {
-    assert!(rt; first_other(rt.alloc(), CALLERS, 8192).is_none());
+    assert_eq!(rt; first_other(&rt, CALLERS, 8192), None);
 }
 
 /// Heads with several faults: the first check that fails is told.
@@ -234,6 +231,6 @@ const ORDER: &[Case] = &[
 #[test]
 fn checks_are_in_order(rt: HostRuntime) {
     for &most in READS {
-        assert!(rt; first_other(rt.alloc(), ORDER, most).is_none());
+        assert_eq!(rt; first_other(&rt, ORDER, most), None);
     }
 }

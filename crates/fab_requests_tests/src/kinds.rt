@@ -3,29 +3,23 @@
 use crate::steps::{Wanted, hears};
 use fab_wire_base::kinds::{Kind, Route};
 use fab_wire_base::requests::Refusal;
-use std::alloc::{AllocError, Global};
-use std::test::Fail;
+use std::process::Abort;
 
-/// A request with two more bytes behind its head, and a length that says so.
-fn request(alloc: Global, method: &[u8], target: &[u8]) -> Result<Vec<u8>, AllocError> {
-    let mut input = Vec::from_slice(alloc, method)?;
-    input.extend_from_slice(b" ")?;
-    input.extend_from_slice(target)?;
-    input.extend_from_slice(
-        b" HTTP/1.1\r\nAuthorization: Bearer t-bob\r\nContent-Length: 2\r\n\r\n{}",
-    )?;
-    Ok(input)
-}
+/// What follows a target: the rest of a head, whose length is that of the two bytes behind it.
+const REST: &[u8] = b" HTTP/1.1\r\nAuthorization: Bearer t-bob\r\nContent-Length: 2\r\n\r\n{}";
 
 /// Whether this is heard of a method and a target.
 fn is_heard(
-    alloc: Global,
+    rt: &(impl Abort + AllocGlobal),
     method: &[u8],
     target: &[u8],
     wanted: Wanted<'_>,
-) -> Result<bool, AllocError> {
-    let input = request(alloc, method, target)?;
-    Ok(hears(alloc, input.as_slice(), 8192, wanted))
+) -> bool {
+    let mut input = Vec::from_slice(rt.alloc(), method).expect(rt, "memory");
+    input.extend_from_slice(b" ").expect(rt, "memory");
+    input.extend_from_slice(target).expect(rt, "memory");
+    input.extend_from_slice(REST).expect(rt, "memory");
+    hears(rt, input.as_slice(), 8192, wanted)
 }
 
 /// A method, a target, what they ask for, and the body that goes with it.
@@ -67,20 +61,19 @@ const KINDS: &[Asks] = &[
 ];
 
 /// The place of the first kind that is not heard.
-fn first_unheard(alloc: Global, kinds: &[Asks]) -> Result<Option<usize>, AllocError> {
+fn first_unheard(rt: &(impl Abort + AllocGlobal), kinds: &[Asks]) -> Option<usize> {
     for (i, asks) in kinds.iter().enumerate() {
         let wanted = Wanted::Asked(b"t-bob", asks.2, asks.1, asks.3);
-        if !is_heard(alloc, asks.0, asks.1, wanted)? {
-            return Ok(Some(i));
+        if !is_heard(rt, asks.0, asks.1, wanted) {
+            return Some(i);
         }
     }
-    Ok(None)
+    None
 }
 
 #[test]
-fn each_kind_is_heard(rt: HostRuntime) -> Result<(), Fail> {
-    assert!(rt; first_unheard(rt.alloc(), KINDS)?.is_none());
-    Ok(())
+fn each_kind_is_heard(rt: HostRuntime) {
+    assert_eq!(rt; first_unheard(&rt, KINDS), None);
 }
 
 /// Methods that a path which takes GET alone does not take.
@@ -118,30 +111,29 @@ const ROUTES: &[Takes] = &[
 ];
 
 /// Whether a path takes none of the methods that it should not take.
-fn is_choosy(alloc: Global, takes: &Takes) -> Result<bool, AllocError> {
+fn is_choosy(rt: &(impl Abort + AllocGlobal), takes: &Takes) -> bool {
     let wanted = Wanted::Refused(Refusal::BadMethod(takes.1));
     for method in takes.2 {
-        if !is_heard(alloc, method, takes.0, wanted)? {
-            return Ok(false);
+        if !is_heard(rt, method, takes.0, wanted) {
+            return false;
         }
     }
-    Ok(true)
+    true
 }
 
 /// The place of the first path that takes a method that it should not take.
-fn first_lavish(alloc: Global, routes: &[Takes]) -> Result<Option<usize>, AllocError> {
+fn first_lavish(rt: &(impl Abort + AllocGlobal), routes: &[Takes]) -> Option<usize> {
     for (i, takes) in routes.iter().enumerate() {
-        if !is_choosy(alloc, takes)? {
-            return Ok(Some(i));
+        if !is_choosy(rt, takes) {
+            return Some(i);
         }
     }
-    Ok(None)
+    None
 }
 
 #[test]
-fn other_methods_are_refused(rt: HostRuntime) -> Result<(), Fail> {
-    assert!(rt; first_lavish(rt.alloc(), ROUTES)?.is_none());
-    Ok(())
+fn other_methods_are_refused(rt: HostRuntime) {
+    assert_eq!(rt; first_lavish(&rt, ROUTES), None);
 }
 
 /// Targets that have no route.
@@ -165,17 +157,16 @@ const NOWHERE: &[&[u8]] = &[
 ];
 
 /// The place of the first target that has a route.
-fn first_routed(alloc: Global, targets: &[&[u8]]) -> Result<Option<usize>, AllocError> {
+fn first_routed(rt: &(impl Abort + AllocGlobal), targets: &[&[u8]]) -> Option<usize> {
     for (i, target) in targets.iter().enumerate() {
-        if !is_heard(alloc, b"GET", target, Wanted::Refused(Refusal::NoRoute))? {
-            return Ok(Some(i));
+        if !is_heard(rt, b"GET", target, Wanted::Refused(Refusal::NoRoute)) {
+            return Some(i);
         }
     }
-    Ok(None)
+    None
 }
 
 #[test]
-fn other_targets_have_no_route(rt: HostRuntime) -> Result<(), Fail> {
-    assert!(rt; first_routed(rt.alloc(), NOWHERE)?.is_none());
-    Ok(())
+fn other_targets_have_no_route(rt: HostRuntime) {
+    assert_eq!(rt; first_routed(&rt, NOWHERE), None);
 }

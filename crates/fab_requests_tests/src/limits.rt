@@ -3,32 +3,27 @@
 use crate::steps::{QUESTION, QUESTIONED, Wanted, hears};
 use fab_wire_base::kinds::Kind;
 use fab_wire_base::requests::Refusal;
-use std::alloc::{AllocError, Global};
-use std::test::Fail;
+use std::process::Abort;
 
 /// The question without its last, empty line.
-fn open_question(alloc: Global) -> Result<Vec<u8>, AllocError> {
-    Vec::from_slice(alloc, &QUESTION[..99])
+fn open_question(rt: &(impl Abort + AllocGlobal)) -> Vec<u8> {
+    Vec::from_slice(rt.alloc(), &QUESTION[..99]).expect(rt, "memory")
 }
 
-/// The question with one line more, so that its head has this many bytes.
-fn padded(alloc: Global, size: usize) -> Result<Vec<u8>, AllocError> {
-    let mut input = open_question(alloc)?;
-    input.extend_from_slice(b"x: ")?;
-    input.resize(size.saturating_sub(4), b'a')?;
-    input.extend_from_slice(b"\r\n\r\n")?;
-    Ok(input)
-}
-
-/// Whether this is heard of a head of so many bytes.
+/// Whether this is heard of a head of so many bytes: the question with one line more.
 fn hears_head(
-    alloc: Global,
+    rt: &(impl Abort + AllocGlobal),
     size: usize,
     most: usize,
     wanted: Wanted<'_>,
-) -> Result<bool, AllocError> {
-    let input = padded(alloc, size)?;
-    Ok(input.len() == size && hears(alloc, input.as_slice(), most, wanted))
+) -> bool {
+    let mut input = open_question(rt);
+    input.extend_from_slice(b"x: ").expect(rt, "memory");
+    input
+        .resize(size.saturating_sub(4), b'a')
+        .expect(rt, "memory");
+    input.extend_from_slice(b"\r\n\r\n").expect(rt, "memory");
+    input.len() == size && hears(rt, input.as_slice(), most, wanted)
 }
 
 /// The size of a head, and what is heard of it.
@@ -40,63 +35,60 @@ const SIZES: &[(usize, Wanted<'static>)] = &[
 ];
 
 #[test]
-fn heads_are_limited(rt: HostRuntime) -> Result<(), Fail> {
+fn heads_are_limited(rt: HostRuntime) {
     for &(size, wanted) in SIZES {
-        assert!(rt; hears_head(rt.alloc(), size, 100, wanted)?);
-        assert!(rt; hears_head(rt.alloc(), size, 100000, wanted)?);
+        assert!(rt; hears_head(&rt, size, 100, wanted));
+        assert!(rt; hears_head(&rt, size, 100000, wanted));
     }
-    Ok(())
 }
 
-/// The question with so many lines more.
-fn many_lines(alloc: Global, lines: u32) -> Result<Vec<u8>, AllocError> {
-    let mut input = open_question(alloc)?;
+/// Whether the question is heard with so many lines more, in a head of so many bytes.
+fn hears_lines(rt: &(impl Abort + AllocGlobal), lines: u32, size: usize) -> bool {
+    let mut input = open_question(rt);
     for _ in 0..lines {
-        input.extend_from_slice(b"a:1\r\n")?;
+        input.extend_from_slice(b"a:1\r\n").expect(rt, "memory");
     }
-    input.extend_from_slice(b"\r\n")?;
-    Ok(input)
+    input.extend_from_slice(b"\r\n").expect(rt, "memory");
+    input.len() == size && hears(rt, input.as_slice(), 100, QUESTIONED)
 }
 
 /// The number of lines is no limit.
 #[test]
-fn lines_are_not_counted(rt: HostRuntime) -> Result<(), Fail> {
-    let input = many_lines(rt.alloc(), 1600)?;
-    assert!(rt; input.len() == 8101);
-    assert!(rt; hears(rt.alloc(), input.as_slice(), 100, QUESTIONED));
-    Ok(())
+fn lines_are_not_counted(rt: HostRuntime) {
+    assert!(rt; hears_lines(&rt, 1600, 8101));
 }
 
 /// A head of 8192 bytes, of which one line fills what the others leave, and a body behind it, with
 /// two bytes more.
-fn longest_with_body(alloc: Global) -> Result<Vec<u8>, AllocError> {
-    let mut input = Vec::from_slice(
-        alloc,
-        b"PUT /hosts/db1 HTTP/1.1\r\nAuthorization: Bearer t-ada\r\nContent-Length: 2\r\nx: ",
-    )?;
-    input.resize(8188, b'a')?;
-    input.extend_from_slice(b"\r\n\r\n{}{}")?;
-    Ok(input)
+fn longest_with_body(rt: &(impl Abort + AllocGlobal)) -> Vec<u8> {
+    let begin =
+        b"PUT /hosts/db1 HTTP/1.1\r\nAuthorization: Bearer t-ada\r\nContent-Length: 2\r\nx: ";
+    let mut input = Vec::from_slice(rt.alloc(), begin).expect(rt, "memory");
+    input.resize(8188, b'a').expect(rt, "memory");
+    input
+        .extend_from_slice(b"\r\n\r\n{}{}")
+        .expect(rt, "memory");
+    input
 }
 
 /// The body behind the longest head is taken.
 #[test]
-fn body_behind_the_longest_head(rt: HostRuntime) -> Result<(), Fail> {
-    let input = longest_with_body(rt.alloc())?;
+fn body_behind_the_longest_head(rt: HostRuntime) {
+    let input = longest_with_body(&rt);
     let wanted = Wanted::Asked(b"t-ada", Kind::PutHost, b"/hosts/db1", b"{}");
-    assert!(rt; hears(rt.alloc(), input.as_slice(), 100000, wanted));
-    assert!(rt; hears(rt.alloc(), input.as_slice(), 819, wanted));
-    Ok(())
+    assert!(rt; hears(&rt, input.as_slice(), 100000, wanted));
+    assert!(rt; hears(&rt, input.as_slice(), 819, wanted));
 }
 
 /// The greatest length of a body.
 const MOST: usize = 1048576;
 
 /// A head, and so many letters behind it.
-fn import(alloc: Global, head: &[u8], letters: usize) -> Result<Vec<u8>, AllocError> {
-    let mut input = Vec::from_slice(alloc, head)?;
-    input.resize(head.len().saturating_add(letters), b'a')?;
-    Ok(input)
+fn import(rt: &(impl Abort + AllocGlobal), head: &[u8], letters: usize) -> Vec<u8> {
+    let mut input = Vec::from_slice(rt.alloc(), head).expect(rt, "memory");
+    let size = head.len().saturating_add(letters);
+    input.resize(size, b'a').expect(rt, "memory");
+    input
 }
 
 /// The head of an import whose body has the greatest length.
@@ -108,28 +100,27 @@ const TOO_LARGE: &[u8] =
     b"POST /imports/A HTTP/1.1\r\nAuthorization: Bearer t-ada\r\nContent-Length: 1048577\r\n\r\n";
 
 /// Whether the body of the greatest length is heard, of an input with so many letters.
-fn hears_largest(alloc: Global, letters: usize) -> Result<bool, AllocError> {
-    let input = import(alloc, LARGEST, letters)?;
+fn hears_largest(rt: &(impl Abort + AllocGlobal), letters: usize) -> bool {
+    let input = import(rt, LARGEST, letters);
     let end = LARGEST.len() + MOST;
-    let Some(body) = input.as_slice().get(LARGEST.len()..end) else {
-        return Ok(false);
-    };
+    let body = input
+        .as_slice()
+        .get(LARGEST.len()..end)
+        .expect(rt, "a body");
     let wanted = Wanted::Asked(b"t-ada", Kind::Import, b"/imports/A", body);
-    Ok(hears(alloc, input.as_slice(), 65536, wanted))
+    hears(rt, input.as_slice(), 65536, wanted)
 }
 
 /// Whether a head is refused so, with so many letters behind it.
-fn refuses(alloc: Global, head: &[u8], letters: usize, why: Refusal) -> Result<bool, AllocError> {
-    let input = import(alloc, head, letters)?;
-    Ok(hears(alloc, input.as_slice(), 65536, Wanted::Refused(why)))
+fn refuses(rt: &(impl Abort + AllocGlobal), head: &[u8], letters: usize, why: Refusal) -> bool {
+    let input = import(rt, head, letters);
+    hears(rt, input.as_slice(), 65536, Wanted::Refused(why))
 }
 
 #[test]
-fn bodies_are_limited(rt: HostRuntime) -> Result<(), Fail> {
-    let alloc = rt.alloc();
-    assert!(rt; hears_largest(alloc, MOST)?);
-    assert!(rt; hears_largest(alloc, MOST + 1)?);
-    assert!(rt; refuses(alloc, LARGEST, MOST - 1, Refusal::BadBody(0))?);
-    assert!(rt; refuses(alloc, TOO_LARGE, MOST + 1, Refusal::TooLarge)?);
-    Ok(())
+fn bodies_are_limited(rt: HostRuntime) {
+    assert!(rt; hears_largest(&rt, MOST));
+    assert!(rt; hears_largest(&rt, MOST + 1));
+    assert!(rt; refuses(&rt, LARGEST, MOST - 1, Refusal::BadBody(0)));
+    assert!(rt; refuses(&rt, TOO_LARGE, MOST + 1, Refusal::TooLarge));
 }

@@ -3,28 +3,27 @@
 use crate::tells::tell;
 use fab_requests::meaning;
 use fab_wire_base::kinds::Kind;
-use std::alloc::Global;
-use std::test::Fail;
+use std::process::Abort;
 
 /// A kind, a target, a body, and the text of what they mean.
 type Case = (Kind, &'static [u8], &'static [u8], &'static str);
 
 /// Whether this is what is meant.
-fn is_meant(alloc: Global, case: Case) -> Result<bool, Fail> {
-    let meant = meaning(alloc, alloc, case.0, case.1, case.2);
-    let mut text = String::new(alloc);
-    tell(&mut text, &meant)?;
-    Ok(text.as_str() == case.3)
+fn is_meant(rt: &(impl Abort + AllocGlobal), case: Case) -> bool {
+    let meant = meaning(rt.alloc(), rt.alloc(), case.0, case.1, case.2);
+    let mut text = String::new(rt.alloc());
+    tell(rt, &mut text, &meant);
+    text.as_str() == case.3
 }
 
 /// The place in a table of the first case of which something else is meant.
-fn first_other(alloc: Global, cases: &[Case]) -> Result<Option<usize>, Fail> {
+fn first_other(rt: &(impl Abort + AllocGlobal), cases: &[Case]) -> Option<usize> {
     for (i, case) in cases.iter().enumerate() {
-        if !is_meant(alloc, *case)? {
-            return Ok(Some(i));
+        if !is_meant(rt, *case) {
+            return Some(i);
         }
     }
-    Ok(None)
+    None
 }
 
 /// Each kind, with a path that names something and a body as it takes it.
@@ -103,9 +102,8 @@ const KINDS: &[Case] = &[
 ];
 
 #[test]
-fn each_kind_is_meant(rt: HostRuntime) -> Result<(), Fail> {
-    assert!(rt; first_other(rt.alloc(), KINDS)?.is_none());
-    Ok(())
+fn each_kind_is_meant(rt: HostRuntime) {
+    assert_eq!(rt; first_other(&rt, KINDS), None);
 }
 
 /// Escapes are read in the parts of a path, and a part that is no text of what should stand there
@@ -149,9 +147,8 @@ const PARTS: &[Case] = &[
 ];
 
 #[test]
-fn parts_are_read(rt: HostRuntime) -> Result<(), Fail> {
-    assert!(rt; first_other(rt.alloc(), PARTS)?.is_none());
-    Ok(())
+fn parts_are_read(rt: HostRuntime) {
+    assert_eq!(rt; first_other(&rt, PARTS), None);
 }
 
 /// Bodies with a fault, also where the path names nothing, and paths that name nothing behind a
@@ -235,7 +232,6 @@ const BODIES: &[Case] = &[
 ];
 
 #[test]
-fn bodies_are_read_first(rt: HostRuntime) -> Result<(), Fail> {
-    assert!(rt; first_other(rt.alloc(), BODIES)?.is_none());
-    Ok(())
+fn bodies_are_read_first(rt: HostRuntime) {
+    assert_eq!(rt; first_other(&rt, BODIES), None);
 }

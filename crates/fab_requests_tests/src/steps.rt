@@ -10,8 +10,9 @@ use fab_wire_base::hear::{Asked, Heard, hear};
 use fab_wire_base::kinds::Kind;
 use fab_wire_base::requests::Refusal;
 use fab_wire_base::routes::Routes;
-use std::alloc::{Allocator, Global};
+use std::alloc::Allocator;
 use std::io::Read;
+use std::process::Abort;
 
 /// A plan to be staged: a head of `STAGE_HEAD` bytes, and a body of 13.
 pub const STAGE: &[u8] =
@@ -39,6 +40,9 @@ pub const QUESTIONED: Wanted<'static> = Wanted::Asked(
     b"/joined/10:00:00:00:00:00:00:01/50:00:00:00:00:00:00:01",
     b"",
 );
+
+/// How many bytes a read gets at most.
+pub const READS: &[usize] = &[1, 2, 7, 8192];
 
 /// The callers of these tests: two, whose tokens are `t-ada` and `t-bob`.
 pub struct Two;
@@ -93,29 +97,32 @@ pub fn is_wanted<A: Allocator>(wanted: Wanted<'_>, heard: &Heard<A>) -> bool {
     }
 }
 
-/// What is heard, by routes that are made for it; want of memory where there is none for them.
+/// What is heard, by routes that are made for it.
 pub fn heard_by<A: Allocator + Copy, R: Read>(
+    rt: &(impl Abort + AllocGlobal),
     alloc: A,
-    global: Global,
     reader: &mut Counted<R>,
 ) -> Heard<A> {
-    match Routes::new(global) {
-        Ok(routes) => hear(alloc, &routes, &Two, reader),
-        Err(_) => Heard::Memory,
-    }
+    let routes = Routes::new(rt.alloc()).expect(rt, "memory");
+    hear(alloc, &routes, &Two, reader)
 }
 
 /// Whether this is heard of an input whose reads get so many bytes at most.
-pub fn hears(alloc: Global, input: &[u8], most: usize, wanted: Wanted<'_>) -> bool {
+pub fn hears(
+    rt: &(impl Abort + AllocGlobal),
+    input: &[u8],
+    most: usize,
+    wanted: Wanted<'_>,
+) -> bool {
     let mut reader = Counted::new(Slow::new(input, most, u64::MAX));
-    let heard = heard_by(alloc, alloc, &mut reader);
+    let heard = heard_by(rt, rt.alloc(), &mut reader);
     is_wanted(wanted, &heard)
 }
 
 /// The place in a table of the first input of which something else is heard.
-pub fn first_other(alloc: Global, cases: &[Case], most: usize) -> Option<usize> {
+pub fn first_other(rt: &(impl Abort + AllocGlobal), cases: &[Case], most: usize) -> Option<usize> {
     for (i, case) in cases.iter().enumerate() {
-        if !hears(alloc, case.0, most, case.1) {
+        if !hears(rt, case.0, most, case.1) {
             return Some(i);
         }
     }

@@ -4,7 +4,7 @@ use crate::steps::{QUESTION, QUESTIONED, STAGE, STAGED, Wanted, heard_by, is_wan
 use fab_exchanges::streams::Slow;
 use fab_json::counted::Counted;
 use fab_wire_base::hear::Heard;
-use std::alloc::Global;
+use std::process::Abort;
 
 /// Whether so many reads were made, and so many of them failed.
 fn has_counted(reader: Counted<Slow<'_>>, reads: u64, failures: u64) -> bool {
@@ -13,17 +13,22 @@ fn has_counted(reader: Counted<Slow<'_>>, reads: u64, failures: u64) -> bool {
 }
 
 /// Whether hearing an input byte by byte ends at this read, which alone fails: it is the last.
-fn ends_at_read(alloc: Global, input: &[u8], k: u64) -> bool {
+fn ends_at_read(rt: &(impl Abort + AllocGlobal), input: &[u8], k: u64) -> bool {
     let mut reader = Counted::new(Slow::new(input, 1, k));
-    let heard = heard_by(alloc, alloc, &mut reader);
+    let heard = heard_by(rt, rt.alloc(), &mut reader);
     let is_failed = matches!(heard, Heard::ReadFailed);
     is_failed && has_counted(reader, k.saturating_add(1), 1)
 }
 
 /// Whether a request is heard where the read of this number would fail, and is never made.
-fn ends_before_read(alloc: Global, input: &[u8], k: u64, wanted: Wanted<'_>) -> bool {
+fn ends_before_read(
+    rt: &(impl Abort + AllocGlobal),
+    input: &[u8],
+    k: u64,
+    wanted: Wanted<'_>,
+) -> bool {
     let mut reader = Counted::new(Slow::new(input, 1, k));
-    let heard = heard_by(alloc, alloc, &mut reader);
+    let heard = heard_by(rt, rt.alloc(), &mut reader);
     let is_heard = is_wanted(wanted, &heard);
     is_heard && has_counted(reader, k, 0)
 }
@@ -32,27 +37,25 @@ fn ends_before_read(alloc: Global, input: &[u8], k: u64, wanted: Wanted<'_>) -> 
 #[test]
 fn reader_fails(rt: HostRuntime) {
     for k in 0..STAGE.len() as u64 {
-        assert!(rt; ends_at_read(rt.alloc(), STAGE, k));
+        assert!(rt; ends_at_read(&rt, STAGE, k));
     }
     for k in 0..QUESTION.len() as u64 {
-        assert!(rt; ends_at_read(rt.alloc(), QUESTION, k));
+        assert!(rt; ends_at_read(&rt, QUESTION, k));
     }
 }
 
 /// Behind a request nothing is read.
 #[test]
 fn nothing_is_read_behind(rt: HostRuntime) {
-    let alloc = rt.alloc();
-    assert!(rt; ends_before_read(alloc, STAGE, 88, STAGED));
-    assert!(rt; ends_before_read(alloc, QUESTION, 101, QUESTIONED));
+    assert!(rt; ends_before_read(&rt, STAGE, 88, STAGED));
+    assert!(rt; ends_before_read(&rt, QUESTION, 101, QUESTIONED));
 }
 
 /// A read that fails at the very end of an input, where a head or a body is not whole, is told, and
 /// not the end.
 #[test]
 fn failure_in_place_of_the_end(rt: HostRuntime) {
-    let alloc = rt.alloc();
-    assert!(rt; ends_at_read(alloc, b"", 0));
-    assert!(rt; ends_at_read(alloc, &STAGE[..40], 40));
-    assert!(rt; ends_at_read(alloc, &STAGE[..80], 80));
+    assert!(rt; ends_at_read(&rt, b"", 0));
+    assert!(rt; ends_at_read(&rt, &STAGE[..40], 40));
+    assert!(rt; ends_at_read(&rt, &STAGE[..80], 80));
 }

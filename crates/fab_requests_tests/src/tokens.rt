@@ -32,7 +32,7 @@ fn first_other(texts: &[(&[u8], bool)]) -> Option<usize> {
 
 #[test]
 fn tokens_have_a_form(rt: HostRuntime) {
-    assert!(rt; first_other(TEXTS).is_none());
+    assert_eq!(rt; first_other(TEXTS), None);
     assert!(rt; is_token(&LETTERS[..128]));
     assert!(rt; !is_token(LETTERS));
 }

@@ -3,48 +3,84 @@
 use super::doubles::{Broken, Full, Ticking};
 use super::echo::Echo;
 use fab_serving::{ServeFault, Watch, serve_on};
-use std::io;
 use std::io::{Read, Write};
-use std::net::{Ipv4Addr, Shutdown, SocketAddr, TcpListener, TcpStream};
-use std::test::Fail;
+use std::net::{Ipv4Addr, Net, Shutdown, SocketAddr, TcpListener, TcpStream};
+use std::process::Abort;
 use std::time::{Clock, Duration};
 
-fn listen(rt: &HostRuntime) -> io::Result<TcpListener> {
-    TcpListener::bind(rt, SocketAddr::from((Ipv4Addr::LOCALHOST, 0)))
+fn listen(rt: &(impl Abort + Net<Listener = TcpListener, Stream = TcpStream>)) -> TcpListener {
+    let address = SocketAddr::from((Ipv4Addr::LOCALHOST, 0));
+    TcpListener::bind(rt, address).expect(rt, "a listener")
 }
 
 /// A connection over which these bytes were sent.
-fn told(rt: &HostRuntime, listener: &TcpListener, bytes: &[u8]) -> io::Result<TcpStream> {
-    let mut stream = TcpStream::connect(rt, listener.local_addr()?)?;
-    stream.write_all(bytes)?;
-    Ok(stream)
+fn told(
+    rt: &(impl Abort + Net<Stream = TcpStream>),
+    listener: &TcpListener,
+    bytes: &[u8],
+) -> TcpStream {
+    let address = listener.local_addr().expect(rt, "an address");
+    let mut stream = TcpStream::connect(rt, address).expect(rt, "a connection");
+    stream.write_all(bytes).expect(rt, "bytes sent");
+    stream
 }
 
 /// A connection over which these bytes were sent, and the end.
-fn told_whole(rt: &HostRuntime, listener: &TcpListener, bytes: &[u8]) -> io::Result<TcpStream> {
-    let stream = told(rt, listener, bytes)?;
-    stream.shutdown(Shutdown::Write)?;
-    Ok(stream)
+fn told_whole(
+    rt: &(impl Abort + Net<Stream = TcpStream>),
+    listener: &TcpListener,
+    bytes: &[u8],
+) -> TcpStream {
+    let stream = told(rt, listener, bytes);
+    stream.shutdown(Shutdown::Write).expect(rt, "the end sent");
+    stream
 }
 
 /// Whether the answer is this one, whole.
-fn is_answered(rt: &HostRuntime, stream: TcpStream, answer: &[u8]) -> io::Result<bool> {
+fn is_answered(rt: &(impl Abort + AllocGlobal), stream: &TcpStream, answer: &[u8]) -> bool {
     let mut stream = stream;
     let mut bytes = Vec::new(rt.alloc());
-    stream.read_to_end(&mut bytes)?;
-    Ok(bytes.as_slice() == answer)
+    stream.read_to_end(&mut bytes).expect(rt, "an answer");
+    bytes.as_slice() == answer
+}
+
+/// What is told over each of some connections, and the answer.
+type Turns = &'static [(&'static [u8], &'static [u8])];
+
+/// Connections over which this was sent, and the end.
+fn told_each(
+    rt: &(impl Abort + AllocGlobal + Net<Stream = TcpStream>),
+    listener: &TcpListener,
+    turns: Turns,
+) -> Vec<TcpStream> {
+    let mut streams = Vec::new(rt.alloc());
+    for turn in turns {
+        let stream = told_whole(rt, listener, turn.0);
+        streams.push(stream).expect(rt, "memory");
+    }
+    streams
+}
+
+/// Whether the answers are these, whole.
+fn are_answered(rt: &(impl Abort + AllocGlobal), streams: &[TcpStream], turns: Turns) -> bool {
+    for (stream, turn) in streams.iter().zip(turns) {
+        if !is_answered(rt, stream, turn.1) {
+            return false;
+        }
+    }
+    true
 }
 
 /// What the log says of as many connections as `stores` has values. They come at 1000, 1001 and so on;
 /// what the echo is opened anew over is taken from `stores` in its order, where there is something. The
 /// clock is read whenever it is opened, so that by a clock that goes on at each reading that takes time.
 fn log_of<C: Clock>(
-    rt: &HostRuntime,
+    rt: &(impl Abort + AllocGlobal),
     clock: &C,
     most_milliseconds: u64,
     listener: &TcpListener,
     stores: &[Option<bool>],
-) -> Result<String, Fail> {
+) -> String {
     let mut watch = Watch::new(rt.alloc(), clock, Vec::new(rt.alloc()));
     watch.most = Duration::from_millis(most_milliseconds);
     let mut moment = 999u64;
@@ -66,24 +102,49 @@ fn log_of<C: Clock>(
                 _ => Err(()),
             }
         },
-    )?;
-    Ok(String::from_utf8(watch.log)?)
+    )
+    .expect(rt, "connections");
+    String::from_utf8(watch.log).expect(rt, "a text")
 }
 
 /// How long a connection may last, but in the tests of just that.
 const LONG: u64 = 30000;
 
-/// The log of one connection over which these bytes were sent, by a clock that has gone on by so many
-/// seconds at each reading, where a connection may last so many milliseconds.
-fn log_of_one(rt: &HostRuntime, bytes: &[u8], step: u64, most: u64) -> Result<String, Fail> {
-    let listener = listen(rt)?;
-    let _stream = told_whole(rt, &listener, bytes)?;
-    log_of(rt, &Ticking::by(step), most, &listener, &[None])
+/// Whether this is the line of a connection over which these bytes were sent, by a clock that has gone
+/// on by so many seconds at each reading, where a connection may last so many milliseconds.
+fn has_line(
+    rt: &(impl Abort + AllocGlobal + Net<Listener = TcpListener, Stream = TcpStream>),
+    bytes: &[u8],
+    step: u64,
+    most: u64,
+    line: &str,
+) -> bool {
+    let listener = listen(rt);
+    let _stream = told_whole(rt, &listener, bytes);
+    let log = log_of(rt, &Ticking::by(step), most, &listener, &[None]);
+    log.as_str() == line
+}
+
+/// Ends the test unless connections over which this is told are answered so, and the log is this one.
+/// The clock goes on by so many seconds at each reading, a connection may last so many milliseconds, and
+/// the echo is opened anew as `log_of` says.
+fn serves(
+    rt: &(impl Abort + AllocGlobal + Net<Listener = TcpListener, Stream = TcpStream>),
+    turns: Turns,
+    (step, most): (u64, u64),
+    stores: &[Option<bool>],
+    log: &str,
+) {
+    let listener = listen(rt);
+    let streams = told_each(rt, &listener, turns);
+    let came = log_of(rt, &Ticking::by(step), most, &listener, stores);
+    assert_eq!(rt; came.as_str(), log);
+    assert!(rt; are_answered(rt, streams.as_slice(), turns));
 }
 
 /// What ends the serving of connections, one at most.
 fn end_of<C: Clock>(
-    rt: &HostRuntime,
+    rt: &impl AllocGlobal,
     clock: &C,
     listener: &TcpListener,
     moment: Option<u64>,
@@ -106,38 +167,40 @@ fn end_of<C: Clock>(
     }
 }
 
-#[test]
-fn two_connections_are_served_in_turn(rt: HostRuntime) -> Result<(), Fail> {
-    let listener = listen(&rt)?;
-    let one = told_whole(&rt, &listener, b"one")?;
-    let two = told_whole(&rt, &listener, b"two")?;
-    let log = log_of(&rt, &Ticking::by(0), LONG, &listener, &[None, None])?;
-    assert!(rt; is_answered(&rt, one, b"one")?);
-    assert!(rt; is_answered(&rt, two, b"two")?);
-    assert!(rt; log.as_str() == "1000 answered 200 0 ms\n1001 answered 200 0 ms\n");
-    Ok(())
+/// The same of a connection over which a byte was sent.
+fn end_of_one<C: Clock>(
+    rt: &(impl Abort + AllocGlobal + Net<Stream = TcpStream>),
+    clock: &C,
+    listener: &TcpListener,
+    moment: Option<u64>,
+) -> &'static str {
+    let _stream = told_whole(rt, listener, b"1");
+    end_of(rt, clock, listener, moment, None)
 }
+
+const TWO: Turns = &[(b"one", b"one"), (b"two", b"two")];
+
+#[test]
+fn two_connections_are_served_in_turn(rt: HostRuntime) {
+    let log = "1000 answered 200 0 ms\n1001 answered 200 0 ms\n";
+    serves(&rt, TWO, (0, LONG), &[None, None], log);
+}
+
+const HALTED: Turns = &[
+    (b"!1", b"halted"),
+    (b"2", b"halted"),
+    (b"3", b"halted"),
+    (b"4", b"4"),
+];
 
 /// It is halted by the first; no store is there before the second, and one that is refused before
 /// the third.
 #[test]
-fn a_halted_server_is_opened_anew_before_the_next(rt: HostRuntime) -> Result<(), Fail> {
-    let listener = listen(&rt)?;
-    let first = told_whole(&rt, &listener, b"!1")?;
-    let second = told_whole(&rt, &listener, b"2")?;
-    let third = told_whole(&rt, &listener, b"3")?;
-    let fourth = told_whole(&rt, &listener, b"4")?;
+fn a_halted_server_is_opened_anew_before_the_next(rt: HostRuntime) {
     let stores = [None, Some(false), Some(true), None];
-    let log = log_of(&rt, &Ticking::by(0), LONG, &listener, &stores)?;
-    for stream in [first, second, third] {
-        assert!(rt; is_answered(&rt, stream, b"halted")?);
-    }
-    assert!(rt; is_answered(&rt, fourth, b"4")?);
-    assert!(rt;
-        log.as_str()
-            == "1000 answered 503 0 ms\n1001 answered 503 0 ms\n1002 answered 503 0 ms\n1003 answered 200 0 ms\n"
-    );
-    Ok(())
+    let log =
+        "1000 answered 503 0 ms\n1001 answered 503 0 ms\n1002 answered 503 0 ms\n1003 answered 200 0 ms\n";
+    serves(&rt, HALTED, (0, LONG), &stores, log);
 }
 
 /// Bytes, how many seconds the clock goes on at each reading, how many milliseconds a connection may
@@ -153,61 +216,53 @@ const LINES: &[(&[u8], u64, u64, &str)] = &[
 ];
 
 #[test]
-fn each_connection_has_its_line(rt: HostRuntime) -> Result<(), Fail> {
+fn each_connection_has_its_line(rt: HostRuntime) {
     for &(bytes, step, most, line) in LINES {
-        assert!(rt; log_of_one(&rt, bytes, step, most)?.as_str() == line);
+        assert!(rt; has_line(&rt, bytes, step, most, line));
     }
-    Ok(())
 }
+
+const ANEW: Turns = &[(b"!", b"halted"), (b"a", b"a")];
 
 /// Opening the server anew takes ten seconds, which the log counts, and the 30 seconds and a bit that
 /// the connection has do not: it has as many as the one before.
 #[test]
-fn opening_anew_is_no_part_of_a_connections_time(rt: HostRuntime) -> Result<(), Fail> {
-    let listener = listen(&rt)?;
-    let _halting = told_whole(&rt, &listener, b"!")?;
-    let _next = told_whole(&rt, &listener, b"a")?;
-    let log = log_of(&rt, &Ticking::by(10), 30001, &listener, &[Some(true), None])?;
-    assert!(rt; log.as_str() == "1000 answered 503 50000 ms\n1001 answered 200 60000 ms\n");
-    Ok(())
+fn opening_anew_is_no_part_of_a_connections_time(rt: HostRuntime) {
+    let log = "1000 answered 503 50000 ms\n1001 answered 200 60000 ms\n";
+    serves(&rt, ANEW, (10, 30001), &[Some(true), None], log);
 }
 
 /// A client that sends nothing and one that takes nothing, by the system's own clock.
 #[test]
-fn a_slow_client_is_given_up(rt: HostRuntime) -> Result<(), Fail> {
-    let listener = listen(&rt)?;
-    let _silent = told(&rt, &listener, b"")?;
-    let log = log_of(&rt, &rt, 50, &listener, &[None])?;
+fn a_slow_client_is_given_up(rt: HostRuntime) {
+    let listener = listen(&rt);
+    let _silent = told(&rt, &listener, b"");
+    let log = log_of(&rt, &rt, 50, &listener, &[None]);
     assert!(rt; log.starts_with("1000 unread "));
-    let _full = told(&rt, &listener, b"*")?;
-    let log = log_of(&rt, &rt, 50, &listener, &[None])?;
+    let _full = told(&rt, &listener, b"*");
+    let log = log_of(&rt, &rt, 50, &listener, &[None]);
     assert!(rt; log.starts_with("1000 unsent "));
-    Ok(())
 }
 
 /// Of what is sent only 64 bytes are read.
 #[test]
-fn an_answer_is_not_lost_where_more_is_sent_than_read(rt: HostRuntime) -> Result<(), Fail> {
-    let listener = listen(&rt)?;
-    let stream = told_whole(&rt, &listener, &[b'x'; 100000])?;
-    log_of(&rt, &rt, LONG, &listener, &[None])?;
-    assert!(rt; is_answered(&rt, stream, &[b'x'; 64])?);
-    Ok(())
+fn an_answer_is_not_lost_where_more_is_sent_than_read(rt: HostRuntime) {
+    let listener = listen(&rt);
+    let stream = told_whole(&rt, &listener, &[b'x'; 100000]);
+    log_of(&rt, &rt, LONG, &listener, &[None]);
+    assert!(rt; is_answered(&rt, &stream, &[b'x'; 64]));
 }
 
 /// A log that takes nothing ends nothing.
 #[test]
-fn serving_ends_with_the_count_the_listener_or_a_clock(rt: HostRuntime) -> Result<(), Fail> {
-    let listener = listen(&rt)?;
-    listener.set_nonblocking(true)?;
+fn serving_ends_with_the_count_the_listener_or_a_clock(rt: HostRuntime) {
+    let listener = listen(&rt);
+    listener.set_nonblocking(true).expect(&rt, "no blocking");
     assert!(rt; end_of(&rt, &rt, &listener, Some(1), Some(0)) == "done");
     assert!(rt; end_of(&rt, &rt, &listener, Some(1), None) == "listener");
-    let _one = told_whole(&rt, &listener, b"1")?;
-    assert!(rt; end_of(&rt, &rt, &listener, None, None) == "no clock");
-    let _two = told_whole(&rt, &listener, b"2")?;
-    assert!(rt; end_of(&rt, &Broken, &listener, Some(1), None) == "no clock");
-    let three = told_whole(&rt, &listener, b"3")?;
+    assert!(rt; end_of_one(&rt, &rt, &listener, None) == "no clock");
+    assert!(rt; end_of_one(&rt, &Broken, &listener, Some(1)) == "no clock");
+    let stream = told_whole(&rt, &listener, b"2");
     assert!(rt; end_of(&rt, &rt, &listener, Some(1), Some(1)) == "done");
-    assert!(rt; is_answered(&rt, three, b"3")?);
-    Ok(())
+    assert!(rt; is_answered(&rt, &stream, b"2"));
 }

@@ -1,18 +1,10 @@
 //! What a world shows: look-ups that take no memory.
 use crate::script::Call;
-use crate::worlds::{INITIATOR, TARGET, World, name};
-use fab_inventory::{Holder, HolderKind, Port, Volume};
+use crate::worlds::{INITIATOR, TARGET, World, name, port};
+use fab_inventory::{Holder, HolderKind, Port};
 use fab_names::{Fabric, Name, Wwn};
 use fab_zoning::Why;
-use std::test::Fail;
-
-/// The port of this number.
-fn port(number: u64) -> Result<Wwn, Fail> {
-    if number == 0 {
-        return Err(Fail::from("port"));
-    }
-    Ok(Wwn::new(number))
-}
+use std::process::Abort;
 
 /// Whether the port is logged in at fabric A.
 fn is_at_a(port: Option<Port>) -> bool {
@@ -42,12 +34,6 @@ fn is_held_by(port: Option<Port>, holder: &str) -> bool {
     }
 }
 
-/// Whether the port of this number is the holder's.
-fn is_held(world: &World<'_>, holder: &str, number: u64) -> Result<bool, Fail> {
-    let port = port(number)?;
-    Ok(is_held_by(world.inventory.port(&port), holder))
-}
-
 fn is_of_kind(there: Option<Holder>, kind: HolderKind) -> bool {
     match there {
         Some(there) => there.kind == kind && there.tenant.as_str() == "blue",
@@ -55,29 +41,25 @@ fn is_of_kind(there: Option<Holder>, kind: HolderKind) -> bool {
     }
 }
 
-/// Whether there is a holder of this kind and name.
-fn is_there(world: &World<'_>, kind: HolderKind, holder: &str) -> Result<bool, Fail> {
-    let name = name(holder)?;
-    Ok(is_of_kind(world.inventory.holder(&name), kind))
-}
-
 /// Whether there is a holder of this kind and name, which holds the port of this number.
-pub fn holds(world: &World<'_>, kind: HolderKind, holder: &str, number: u64) -> Result<bool, Fail> {
-    let is_there = is_there(world, kind, holder)?;
-    Ok(is_there && is_held(world, holder, number)?)
-}
-
-fn is_on_array(there: Option<Volume>) -> bool {
-    match there {
-        Some(there) => there.array.as_str() == "arr1" && there.bytes == 1,
-        None => false,
-    }
+pub fn holds(
+    rt: &impl Abort,
+    world: &World<'_>,
+    kind: HolderKind,
+    holder: &str,
+    number: u64,
+) -> bool {
+    let there = world.inventory.holder(&name(rt, holder));
+    let held = world.inventory.port(&port(rt, number));
+    is_of_kind(there, kind) && is_held_by(held, holder)
 }
 
 /// Whether the volume is on the array.
-pub fn has_volume(world: &World<'_>, volume: &str) -> Result<bool, Fail> {
-    let name = name(volume)?;
-    Ok(is_on_array(world.inventory.volume(&name)))
+pub fn has_volume(rt: &impl Abort, world: &World<'_>, volume: &str) -> bool {
+    match world.inventory.volume(&name(rt, volume)) {
+        Some(there) => there.array.as_str() == "arr1" && there.bytes == 1,
+        None => false,
+    }
 }
 
 /// Why both ports may communicate.
@@ -99,43 +81,32 @@ fn is_why(found: Option<Why<'_>>, cause: Cause) -> bool {
     }
 }
 
-/// Whether this is why the ports may communicate, if they are there.
-fn is_cause(world: &World<'_>, one: Option<Port>, other: Option<Port>, cause: Cause) -> bool {
+/// Whether this is why both ports may communicate.
+pub fn is_joined(world: &World<'_>, cause: Cause) -> bool {
+    let one = world.inventory.port(&Wwn::new(INITIATOR));
+    let other = world.inventory.port(&Wwn::new(TARGET));
     match (one, other) {
         (Some(one), Some(other)) => is_why(world.config.a.joined(&one, &other), cause),
         _ => false,
     }
 }
 
-/// Whether this is why both ports may communicate.
-pub fn is_joined(world: &World<'_>, cause: Cause) -> bool {
-    let one = world.inventory.port(&Wwn::new(INITIATOR));
-    let other = world.inventory.port(&Wwn::new(TARGET));
-    is_cause(world, one, other, cause)
-}
-
 /// Whether the storage group of this name maps the volume at unit 0.
-fn maps_at(world: &World<'_>, group: &Name, volume: &str) -> bool {
-    match world.config.mapping.group(group) {
+fn maps(rt: &impl Abort, world: &World<'_>, group: &str, volume: &str) -> bool {
+    match world.config.mapping.group(&name(rt, group)) {
         Some(group) => is_named(group.unit(0), volume),
         None => false,
     }
 }
 
-/// The same.
-fn maps(world: &World<'_>, group: &str, volume: &str) -> Result<bool, Fail> {
-    let name = name(group)?;
-    Ok(maps_at(world, &name, volume))
-}
-
 /// Whether the world shows what the call did.
-pub fn shows(world: &World<'_>, call: Call) -> Result<bool, Fail> {
+pub fn shows(rt: &impl Abort, world: &World<'_>, call: Call) -> bool {
     match call {
-        Call::Import => Ok(are_logged_in(world)),
-        Call::PutHolder(kind, holder, number) => holds(world, kind, holder, number),
-        Call::PutVolume(volume) => has_volume(world, volume),
-        Call::Activate | Call::SetActive => Ok(is_joined(world, Cause::Zone)),
-        Call::Map(group, volume) => maps(world, group, volume),
-        _ => Ok(true),
+        Call::Import => are_logged_in(world),
+        Call::PutHolder(kind, holder, number) => holds(rt, world, kind, holder, number),
+        Call::PutVolume(volume) => has_volume(rt, world, volume),
+        Call::Activate | Call::SetActive => is_joined(world, Cause::Zone),
+        Call::Map(group, volume) => maps(rt, world, group, volume),
+        _ => true,
     }
 }

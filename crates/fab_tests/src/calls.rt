@@ -1,30 +1,29 @@
-//! Whether a call is accepted. A refusal other than want of memory fails the test.
+//! Whether a call is accepted. A refusal other than want of memory ends the test.
 use crate::books::opens;
-use crate::rows::{are_configs_alike, are_inventories_alike};
+use crate::rows::{config_moves, inventory_moves};
 use crate::script::Call;
-use crate::worlds::{Heap, INITIATOR, TARGET, World, name};
-use fab_inventory::{HolderKind, Inventory, InventoryFault, PortRow};
+use crate::worlds::{Heap, INITIATOR, TARGET, World, name, port};
+use fab_inventory::{Inventory, InventoryFault, PortRow};
 use fab_mapping::{Mapping, MappingFault, Nexus};
-use fab_names::{Fabric, Member, Name, Place, Wwn};
+use fab_names::{Fabric, Member, Place, Wwn};
 use fab_plans_base::{PlanFaultKind, read_plan};
 use fab_reach::Config;
 use fab_zoning::{Zoning, ZoningFault};
-use std::alloc::AllocError;
-use std::test::Fail;
+use std::process::Abort;
 
 /// A plan text of four lines.
 const PLAN: &str =
     "alias.put A disk wwpn=5000000000000001\nzone.put A z1 alias=disk dp=1,2\nset.put A s1 z1\nactivate A s1\n";
 
-/// Whether a call was accepted.
-fn accepted<E: PartialEq + Copy>(answer: Result<(), E>, memory: E) -> Result<bool, Fail> {
+/// Whether a call was accepted. Ends the test at another refusal than want of memory.
+fn accepted<E: PartialEq + Copy>(rt: &impl Abort, answer: Result<(), E>, memory: E) -> bool {
     let Err(fault) = answer else {
-        return Ok(true);
+        return true;
     };
     if fault != memory {
-        return Err(Fail::from("another refusal than want of memory"));
+        panic!(rt; "another refusal than want of memory");
     }
-    Ok(false)
+    false
 }
 
 /// A port that is logged in at domain 1, port 1.
@@ -36,198 +35,136 @@ fn row(port: Wwn) -> PortRow {
     }
 }
 
-fn import(inventory: &mut Inventory<Heap<'_>>) -> Result<bool, Fail> {
-    let rows = [row(Wwn::new(INITIATOR)), row(Wwn::new(TARGET))];
-    accepted(inventory.import(Fabric::A, &rows), InventoryFault::Memory)
-}
-
-fn put_holder(
-    inventory: &mut Inventory<Heap<'_>>,
-    kind: HolderKind,
-    text: &str,
-    port: u64,
-) -> Result<bool, Fail> {
-    if port == 0 {
-        return Err(Fail::from("port"));
-    }
-    let ports = [Wwn::new(port)];
-    let (holder, tenant) = (name(text)?, name("blue")?);
-    let answer = inventory.put_holder(holder, kind, tenant, &ports);
-    accepted(answer, InventoryFault::Memory)
-}
-
-fn put_volume(inventory: &mut Inventory<Heap<'_>>, text: &str) -> Result<bool, Fail> {
-    let (volume, array, tenant) = (name(text)?, name("arr1")?, name("blue")?);
-    let answer = inventory.put_volume(volume, array, tenant, 1);
-    accepted(answer, InventoryFault::Memory)
-}
-
 /// Whether the copy has the same rows; not so where there is none.
-fn is_inventory_copied<'a>(
-    heap: Heap<'a>,
-    inventory: &Inventory<Heap<'a>>,
-    copy: &Result<Inventory<Heap<'a>>, AllocError>,
-) -> Result<bool, Fail> {
-    match copy {
-        Ok(copy) => are_inventories_alike(heap, inventory, copy),
-        Err(_) => Ok(false),
+fn copy_inventory<'a>(rt: &impl Abort, heap: Heap<'a>, inventory: &Inventory<Heap<'a>>) -> bool {
+    match inventory.copy() {
+        Ok(copy) => inventory_moves(rt, heap, inventory, &copy) == (0, 0),
+        Err(_) => false,
     }
-}
-
-fn copy_inventory<'a>(heap: Heap<'a>, inventory: &Inventory<Heap<'a>>) -> Result<bool, Fail> {
-    is_inventory_copied(heap, inventory, &inventory.copy())
 }
 
 fn of_inventory<'a>(
+    rt: &impl Abort,
     heap: Heap<'a>,
     inventory: &mut Inventory<Heap<'a>>,
     call: Call,
-) -> Result<bool, Fail> {
-    match call {
-        Call::Import => import(inventory),
-        Call::PutHolder(kind, holder, port) => put_holder(inventory, kind, holder, port),
-        Call::PutVolume(volume) => put_volume(inventory, volume),
-        _ => copy_inventory(heap, inventory),
-    }
-}
-
-fn set_active(zoning: &mut Zoning<Heap<'_>>, set: Name, zone: Name) -> Result<bool, Fail> {
-    let rows = [
-        (zone, Member::Port(Wwn::new(INITIATOR))),
-        (zone, Member::Port(Wwn::new(TARGET))),
-        (zone, Member::Node(Wwn::new(1))),
-    ];
-    Ok(zoning.set_active(set, &rows).is_ok())
-}
-
-fn of_zoning(zoning: &mut Zoning<Heap<'_>>, call: Call) -> Result<bool, Fail> {
-    let (disk, z1, s1) = (name("disk")?, name("z1")?, name("s1")?);
-    let (initiator, target) = (Wwn::new(INITIATOR), Wwn::new(TARGET));
+) -> bool {
     let answer = match call {
-        Call::PutAlias => zoning.put_alias(disk, &[Member::Port(target)]),
-        Call::PutZone => zoning.put_zone(z1, &[Member::Port(initiator), Member::Alias(disk)]),
+        Call::Import => {
+            let rows = [row(Wwn::new(INITIATOR)), row(Wwn::new(TARGET))];
+            inventory.import(Fabric::A, &rows)
+        }
+        Call::PutHolder(kind, holder, number) => {
+            let ports = [port(rt, number)];
+            inventory.put_holder(name(rt, holder), kind, name(rt, "blue"), &ports)
+        }
+        Call::PutVolume(volume) => {
+            inventory.put_volume(name(rt, volume), name(rt, "arr1"), name(rt, "blue"), 1)
+        }
+        _ => return copy_inventory(rt, heap, inventory),
+    };
+    accepted(rt, answer, InventoryFault::Memory)
+}
+
+fn of_zoning(rt: &impl Abort, zoning: &mut Zoning<Heap<'_>>, call: Call) -> bool {
+    let (disk, z1, s1) = (name(rt, "disk"), name(rt, "z1"), name(rt, "s1"));
+    let initiator = Member::Port(Wwn::new(INITIATOR));
+    let target = Member::Port(Wwn::new(TARGET));
+    let answer = match call {
+        Call::PutAlias => zoning.put_alias(disk, &[target]),
+        Call::PutZone => zoning.put_zone(z1, &[initiator, Member::Alias(disk)]),
         Call::PutSet => zoning.put_set(s1, &[z1]),
         Call::Activate => zoning.activate(&s1),
-        _ => return set_active(zoning, s1, z1),
+        _ => {
+            let rows = [
+                (z1, initiator),
+                (z1, target),
+                (z1, Member::Node(Wwn::new(1))),
+            ];
+            return zoning.set_active(s1, &rows).is_ok();
+        }
     };
-    accepted(answer, ZoningFault::Memory)
-}
-
-fn put_host_group<'a>(
-    mapping: &mut Mapping<Heap<'a>>,
-    inventory: &Inventory<Heap<'a>>,
-) -> Result<bool, Fail> {
-    let hosts = [name("db1")?];
-    let (group, tenant) = (name("hosts1")?, name("blue")?);
-    let answer = mapping.put_host_group(group, tenant, &hosts, inventory);
-    accepted(answer, MappingFault::Memory)
-}
-
-fn new_group<'a>(
-    mapping: &mut Mapping<Heap<'a>>,
-    inventory: &Inventory<Heap<'a>>,
-    group: Name,
-) -> Result<bool, Fail> {
-    let (tenant, array) = (name("blue")?, name("arr1")?);
-    let answer = mapping.new_group(group, tenant, array, inventory);
-    accepted(answer, MappingFault::Memory)
-}
-
-/// A call on the storage group of this name.
-fn of_group<'a>(
-    mapping: &mut Mapping<Heap<'a>>,
-    inventory: &Inventory<Heap<'a>>,
-    call: Call,
-    group: Name,
-) -> Result<bool, Fail> {
-    let answer = match call {
-        Call::NewGroup(_) => return new_group(mapping, inventory, group),
-        Call::AddHosts(_) => mapping.add_hosts(&group, &name("hosts1")?),
-        Call::AddTarget(_) => mapping.add_target(&group, &Wwn::new(TARGET), inventory),
-        Call::Map(_, volume) => mapping.map(&group, 0, &name(volume)?, inventory),
-        _ => mapping.expose(&group),
-    };
-    accepted(answer, MappingFault::Memory)
-}
-
-fn is_nexus(nexus: &Nexus) -> bool {
-    nexus.host.as_str() == "db1" && nexus.target == Wwn::new(TARGET) && nexus.unit == 0
+    accepted(rt, answer, ZoningFault::Memory)
 }
 
 /// Whether the clash is the one at unit 0 of the target.
-fn is_found(clash: &Option<Nexus>) -> Result<bool, Fail> {
-    match clash {
-        Some(nexus) if is_nexus(nexus) => Ok(true),
-        _ => Err(Fail::from("another clash")),
+fn is_nexus(found: Option<Nexus>) -> bool {
+    match found {
+        Some(nexus) => {
+            nexus.host.as_str() == "db1" && nexus.target == Wwn::new(TARGET) && nexus.unit == 0
+        }
+        None => false,
     }
 }
 
-/// The same; not so where there is no memory to look for it.
-fn clashes(mapping: &Mapping<Heap<'_>>) -> Result<bool, Fail> {
-    match &mapping.clash() {
-        Ok(clash) => is_found(clash),
-        Err(_) => Ok(false),
+/// Whether the clash is found; not so where there is no memory to look for it. Ends the test at
+/// another clash.
+fn clashes(rt: &impl Abort, mapping: &Mapping<Heap<'_>>) -> bool {
+    match mapping.clash() {
+        Ok(found) => {
+            assert!(rt; is_nexus(found));
+            true
+        }
+        Err(_) => false,
     }
 }
 
 fn of_mapping<'a>(
+    rt: &impl Abort,
     mapping: &mut Mapping<Heap<'a>>,
     inventory: &Inventory<Heap<'a>>,
     call: Call,
-) -> Result<bool, Fail> {
-    match call {
-        Call::PutHostGroup => put_host_group(mapping, inventory),
-        Call::NewGroup(group)
-        | Call::AddHosts(group)
-        | Call::AddTarget(group)
-        | Call::Map(group, _)
-        | Call::Expose(group) => of_group(mapping, inventory, call, name(group)?),
-        _ => clashes(mapping),
-    }
+) -> bool {
+    let (hosts, tenant) = (name(rt, "hosts1"), name(rt, "blue"));
+    let answer = match call {
+        Call::PutHostGroup => mapping.put_host_group(hosts, tenant, &[name(rt, "db1")], inventory),
+        Call::NewGroup(group) => {
+            mapping.new_group(name(rt, group), tenant, name(rt, "arr1"), inventory)
+        }
+        Call::AddHosts(group) => mapping.add_hosts(&name(rt, group), &hosts),
+        Call::AddTarget(group) => {
+            mapping.add_target(&name(rt, group), &Wwn::new(TARGET), inventory)
+        }
+        Call::Map(group, volume) => {
+            mapping.map(&name(rt, group), 0, &name(rt, volume), inventory)
+        }
+        Call::Expose(group) => mapping.expose(&name(rt, group)),
+        _ => return clashes(rt, mapping),
+    };
+    accepted(rt, answer, MappingFault::Memory)
 }
 
 /// Whether the copy has the same rows; not so where there is none.
-fn is_config_copied<'a>(
-    heap: Heap<'a>,
-    config: &Config<Heap<'a>>,
-    copy: &Result<Config<Heap<'a>>, AllocError>,
-) -> Result<bool, Fail> {
-    match copy {
-        Ok(copy) => are_configs_alike(heap, config, copy),
-        Err(_) => Ok(false),
+fn copy_config<'a>(rt: &impl Abort, heap: Heap<'a>, config: &Config<Heap<'a>>) -> bool {
+    match config.copy() {
+        Ok(copy) => config_moves(rt, heap, config, &copy) == (0, 0),
+        Err(_) => false,
     }
 }
 
-fn copy_config<'a>(heap: Heap<'a>, config: &Config<Heap<'a>>) -> Result<bool, Fail> {
-    is_config_copied(heap, config, &config.copy())
-}
-
-fn are_all(steps: usize) -> Result<bool, Fail> {
-    if steps != 4 {
-        return Err(Fail::from("another number of steps"));
-    }
-    Ok(true)
-}
-
-fn reads_plan(heap: Heap<'_>) -> Result<bool, Fail> {
-    match &read_plan(heap, PLAN) {
-        Ok(steps) => are_all(steps.len()),
-        Err(fault) => accepted(Err(fault.kind), PlanFaultKind::Memory),
+/// Whether the plan is read. Ends the test at another number of steps.
+fn reads_plan(rt: &impl Abort, heap: Heap<'_>) -> bool {
+    match read_plan(heap, PLAN) {
+        Ok(steps) => {
+            assert_eq!(rt; steps.len(), 4);
+            true
+        }
+        Err(fault) => accepted(rt, Err(fault.kind), PlanFaultKind::Memory),
     }
 }
 
 /// Makes the call on the world: whether it was accepted, or there was no memory.
-pub fn make<'a>(heap: Heap<'a>, world: &mut World<'a>, call: Call) -> Result<bool, Fail> {
+pub fn make<'a>(rt: &impl Abort, heap: Heap<'a>, world: &mut World<'a>, call: Call) -> bool {
     match call {
         Call::Import | Call::PutHolder(_, _, _) | Call::PutVolume(_) | Call::CopyInventory => {
-            of_inventory(heap, &mut world.inventory, call)
+            of_inventory(rt, heap, &mut world.inventory, call)
         }
         Call::PutAlias | Call::PutZone | Call::PutSet | Call::Activate | Call::SetActive => {
-            of_zoning(&mut world.config.a, call)
+            of_zoning(rt, &mut world.config.a, call)
         }
-        Call::CopyConfig => copy_config(heap, &world.config),
-        Call::Open => opens(heap, world),
-        Call::ReadPlan => reads_plan(heap),
-        _ => of_mapping(&mut world.config.mapping, &world.inventory, call),
+        Call::CopyConfig => copy_config(rt, heap, &world.config),
+        Call::Open => opens(rt, heap, world),
+        Call::ReadPlan => reads_plan(rt, heap),
+        _ => of_mapping(rt, &mut world.config.mapping, &world.inventory, call),
     }
 }

@@ -6,32 +6,29 @@ use crate::script::WITH_PATH;
 use crate::steps::is_taken;
 use crate::texts::are_shown;
 use crate::verdicts::{are_judged, policy};
-use crate::worlds::{Heap, INITIATOR, TARGET, World, name};
+use crate::worlds::{INITIATOR, TARGET, World, name};
 use fab_inventory::HolderKind::{Array, Host};
 use fab_names::Wwn;
 use fab_policy::Policy;
 use fab_refusing::Refusing;
 use fab_zoning::DefaultFlag;
-use std::alloc::Global;
-use std::test::Fail;
+use std::process::Abort;
 
 /// Whether what is there is found.
-fn is_found(world: &World<'_>) -> Result<bool, Fail> {
-    if !holds(world, Host, "db1", INITIATOR)? || !holds(world, Array, "arr1", TARGET)? {
-        return Ok(false);
-    }
-    Ok(has_volume(world, "v1")? && has_volume(world, "v2")?)
+fn is_found(rt: &impl Abort, world: &World<'_>) -> bool {
+    holds(rt, world, Host, "db1", INITIATOR)
+        && holds(rt, world, Array, "arr1", TARGET)
+        && has_volume(rt, world, "v1")
+        && has_volume(rt, world, "v2")
 }
 
 /// Whether nothing is found of what is not there.
-fn is_missed(world: &World<'_>) -> Result<bool, Fail> {
-    let (other, stranger) = (name("other")?, Wwn::new(7));
+fn is_missed(rt: &impl Abort, world: &World<'_>) -> bool {
+    let (other, stranger) = (name(rt, "other"), Wwn::new(7));
     let inventory = &world.inventory;
-    Ok(
-        inventory.port(&stranger).is_none()
-            && inventory.holder(&other).is_none()
-            && inventory.volume(&other).is_none(),
-    )
+    inventory.port(&stranger).is_none()
+        && inventory.holder(&other).is_none()
+        && inventory.volume(&other).is_none()
 }
 
 /// Whether both ports are joined by their zone, then, with nothing active, not at all, and then by
@@ -67,48 +64,31 @@ const KINDS: &[Quiet] = &[
 ];
 
 /// Whether the calls of the kind do what they say.
-fn is_done(world: &mut World<'_>, policy: &Policy, kind: Quiet) -> Result<bool, Fail> {
+fn is_done(rt: &impl Abort, world: &mut World<'_>, policy: &Policy, kind: Quiet) -> bool {
     match kind {
-        Quiet::Texts => Ok(are_shown()),
-        Quiet::Verdicts => are_judged(policy),
-        Quiet::Found => is_found(world),
-        Quiet::Missed => is_missed(world),
-        Quiet::Joined => Ok(is_joined_by_each(world)),
+        Quiet::Texts => are_shown(),
+        Quiet::Verdicts => are_judged(rt, policy),
+        Quiet::Found => is_found(rt, world),
+        Quiet::Missed => is_missed(rt, world),
+        Quiet::Joined => is_joined_by_each(world),
     }
 }
 
-/// Whether they do with the next request refused, and make none.
-fn is_quiet_on<'a>(
-    heap: Heap<'a>,
-    world: &mut World<'a>,
-    policy: &Policy,
-    kind: Quiet,
-) -> Result<bool, Fail> {
+/// Whether they do with the next request refused, and make none. They are made on a world and with an
+/// allocator of their own.
+fn is_quiet(rt: &(impl Abort + AllocGlobal), policy: &Policy, kind: Quiet) -> bool {
+    let heap = Refusing::new(rt.alloc());
+    let mut world = world_after(rt, &heap, WITH_PATH);
     heap.refuse_after(0);
-    let is_done = is_done(world, policy, kind)?;
-    let is_refused = heap.has_refused();
-    heap.refuse_none();
-    Ok(is_done && !is_refused)
-}
-
-/// The same on a world of its own.
-fn is_quiet_in(heap: Heap<'_>, policy: &Policy, kind: Quiet) -> Result<bool, Fail> {
-    let mut world = world_after(heap, WITH_PATH)?;
-    is_quiet_on(heap, &mut world, policy, kind)
-}
-
-/// The same with an allocator of its own.
-fn is_quiet(alloc: Global, policy: &Policy, kind: Quiet) -> Result<bool, Fail> {
-    let heap = Refusing::new(alloc);
-    is_quiet_in(&heap, policy, kind)
+    let is_done = is_done(rt, &mut world, policy, kind);
+    is_done && !heap.has_refused()
 }
 
 #[test]
-fn no_memory_calls(rt: HostRuntime) -> Result<(), Fail> {
-    let policy = policy(rt.alloc())?;
-    for (place, kind) in KINDS.iter().enumerate() {
-        assert!(rt; is_quiet(rt.alloc(), &policy, *kind)?);
+fn no_memory_calls(rt: HostRuntime) {
+    let policy = policy(&rt);
+    for kind in KINDS {
+        assert!(rt; is_quiet(&rt, &policy, *kind));
     }
-    assert!(rt; is_taken(rt.alloc())?);
-    Ok(())
+    assert!(rt; is_taken(&rt));
 }

@@ -1,8 +1,7 @@
 //! What a policy says, without an allocator.
 use crate::worlds::name;
 use fab_policy::{Act, Action, Need, Policy, Verdict, decide};
-use std::alloc::Global;
-use std::test::Fail;
+use std::process::Abort;
 
 /// Two callers, one of them of one tenant alone.
 const POLICY: &str =
@@ -31,10 +30,10 @@ fn fate_under(verdict: Verdict) -> Fate {
     }
 }
 
-fn fate_of(policy: &Policy, token: &str) -> Result<Fate, Fail> {
-    let touched = [name("green")?];
+fn fate_of(rt: &impl Abort, policy: &Policy, token: &str) -> Fate {
+    let touched = [name(rt, "green")];
     let Some(caller) = policy.caller(token) else {
-        return Ok(Fate::Unknown);
+        return Fate::Unknown;
     };
     let act = Act {
         caller,
@@ -45,7 +44,7 @@ fn fate_of(policy: &Policy, token: &str) -> Result<Fate, Fail> {
         plan: None,
         revision: 6,
     };
-    Ok(fate_under(decide(policy, &act)))
+    fate_under(decide(policy, &act))
 }
 
 /// Tokens, and what becomes of who shows them.
@@ -57,16 +56,16 @@ const FATES: &[(&str, Fate)] = &[
 ];
 
 /// The policy.
-pub fn policy(alloc: Global) -> Result<Policy, Fail> {
-    Policy::read(alloc, POLICY).map_err(|_| Fail::from("policy"))
+pub fn policy(rt: &(impl Abort + AllocGlobal)) -> Policy {
+    Policy::read(rt.alloc(), POLICY).expect(rt, "a policy")
 }
 
 /// Whether the policy says so.
-pub fn are_judged(policy: &Policy) -> Result<bool, Fail> {
+pub fn are_judged(rt: &impl Abort, policy: &Policy) -> bool {
     for &(token, wanted) in FATES {
-        if fate_of(policy, token)? != wanted {
-            return Ok(false);
+        if fate_of(rt, policy, token) != wanted {
+            return false;
         }
     }
-    Ok(true)
+    true
 }

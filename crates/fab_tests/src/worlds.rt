@@ -1,12 +1,12 @@
 //! What the calls are made on, over an allocator that refuses a request.
 use fab_inventory::Inventory;
 use fab_mapping::Mapping;
-use fab_names::{Fabric, Name};
+use fab_names::{Fabric, Name, Wwn};
 use fab_reach::Config;
 use fab_refusing::Refusing;
 use fab_zoning::Zoning;
 use std::alloc::Global;
-use std::test::Fail;
+use std::process::Abort;
 
 /// The port of the host.
 pub const INITIATOR: u64 = 0x1000_0000_0000_0001;
@@ -34,22 +34,24 @@ impl Drop for World<'_> {
 }
 
 /// The name of a text.
-pub fn name(text: &str) -> Result<Name, Fail> {
-    Ok(Name::read(text)?)
+pub fn name(rt: &impl Abort, text: &str) -> Name {
+    Name::read(text).expect(rt, "a name")
 }
 
-fn no_config(heap: Heap<'_>) -> Config<Heap<'_>> {
-    Config {
-        a: Zoning::new(heap, Fabric::A),
-        b: Zoning::new(heap, Fabric::B),
-        mapping: Mapping::new(heap),
-    }
+/// The port of this number.
+pub fn port(rt: &impl Abort, number: u64) -> Wwn {
+    assert!(rt; number > 0);
+    Wwn::new(number)
 }
 
 /// A world in which there is nothing yet.
 pub fn no_world(heap: Heap<'_>) -> World<'_> {
     World {
         inventory: Inventory::new(heap),
-        config: no_config(heap),
+        config: Config {
+            a: Zoning::new(heap, Fabric::A),
+            b: Zoning::new(heap, Fabric::B),
+            mapping: Mapping::new(heap),
+        },
     }
 }
