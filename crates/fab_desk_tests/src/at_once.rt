@@ -1,7 +1,7 @@
 //! The worked requests, a list of them at once: they are answered as one by one, and the tables have
 //! the world that the machine comes to.
 
-use crate::desks::{DeskOver, left, opened};
+use crate::desks::{DeskOver, closed, made, opened};
 use crate::lists::{List, turns_of};
 use crate::memory::tables;
 use crate::worlds::are_kept;
@@ -9,45 +9,44 @@ use fab_asking::{Turn, are_told, requests};
 use fab_desk::handle_all;
 use fab_store::Store;
 use std::alloc::Global;
-use std::test::Fail;
+use std::process::Abort;
 
-/// Fails where the desk does not answer the list of the turns as they say.
-fn answer<S: Store<Global>>(
-    alloc: Global,
+/// Whether the desk answers the list of the turns as they say.
+fn answers<S: Store<Global>>(
+    rt: &(impl Abort + AllocGlobal),
     desk: &mut DeskOver<S>,
     turns: &[Turn],
-) -> Result<(), Fail> {
-    let requests = requests(alloc, turns)?;
-    let replies = handle_all(alloc, desk, requests)?;
-    if !are_told(alloc, replies.as_slice(), turns)? {
-        return Err(Fail::from("replies"));
-    }
-    Ok(())
+) -> bool {
+    let requests = made(rt, requests(rt.alloc(), turns), "requests");
+    let replies = handle_all(rt.alloc(), desk, requests).expect(rt, "memory");
+    made(
+        rt,
+        are_told(rt.alloc(), replies.as_slice(), turns),
+        "memory",
+    )
 }
 
-/// The same of several lists, one after the other.
-fn answer_lists<S: Store<Global>>(
-    alloc: Global,
-    desk: &mut DeskOver<S>,
+/// The store again, after a desk over it has answered the lists, one after the other.
+fn store_after_lists<S: Store<Global>>(
+    rt: &(impl Abort + AllocGlobal),
+    store: S,
     lists: &[List],
-) -> Result<(), Fail> {
+) -> S {
+    let mut desk = opened(rt, store);
     for list in lists {
-        answer(alloc, desk, turns_of(*list))?;
+        assert!(rt; answers(rt, &mut desk, turns_of(*list)));
     }
-    Ok(())
-}
-
-/// The store again, after a desk over it has answered the lists.
-fn store_after_lists<S: Store<Global>>(alloc: Global, store: S, lists: &[List]) -> Result<S, Fail> {
-    let mut desk = opened(alloc, store)?;
-    let asked = answer_lists(alloc, &mut desk, lists);
-    left(desk, asked)
+    closed(rt, desk)
 }
 
 /// Whether the store has the machine's world then.
-fn is_kept_after<S: Store<Global>>(alloc: Global, store: S, lists: &[List]) -> Result<bool, Fail> {
-    let mut store = store_after_lists(alloc, store, lists)?;
-    are_kept(alloc, &mut store, lists, &[])
+fn is_kept_after<S: Store<Global>>(
+    rt: &(impl Abort + AllocGlobal),
+    store: S,
+    lists: &[List],
+) -> bool {
+    let mut store = store_after_lists(rt, store, lists);
+    are_kept(rt, &mut store, lists, &[])
 }
 
 /// The world, the first plan, the volume taken away, and what is refused then.
@@ -55,12 +54,11 @@ const LISTS: &[List] = &[List::World, List::First, List::Unmapped, List::Row15];
 
 /// Whether a new desk answers the lists as their turns say, and its tables have the machine's world
 /// then.
-fn are_answered(alloc: Global, lists: &[List]) -> Result<bool, Fail> {
-    is_kept_after(alloc, tables(alloc)?, lists)
+fn are_answered(rt: &(impl Abort + AllocGlobal), lists: &[List]) -> bool {
+    is_kept_after(rt, tables(rt), lists)
 }
 
 #[test]
-fn lists_are_answered_at_once(rt: HostRuntime) -> Result<(), Fail> {
-    assert!(rt; are_answered(rt.alloc(), LISTS)?);
-    Ok(())
+fn lists_are_answered_at_once(rt: HostRuntime) {
+    assert!(rt; are_answered(&rt, LISTS));
 }

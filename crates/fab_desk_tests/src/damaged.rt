@@ -1,28 +1,27 @@
 //! Tables that somebody else has changed.
 
-use crate::desks::{DeskOver, store_after, tables_of};
+use crate::desks::{open, tables_of};
 use crate::lists::List;
-use crate::memory::{Tables, tables_after};
-use fab_asking::{ADA, Ask, FIRST, FIRST_TARGET, NO_PORTS, SECOND_TARGET, See, Turn, policy};
+use crate::memory::{Tables, tables_after, tables_then};
+use fab_asking::{ADA, Ask, FIRST, FIRST_TARGET, NO_PORTS, SECOND_TARGET, See, Turn};
 use fab_inventory::HolderKind::Array;
 use fab_names::Fabric;
 use fab_store::{OpenFault, Store, Table};
 use std::alloc::Global;
-use std::test::Fail;
+use std::process::Abort;
 
 /// The tables after a statement.
-fn changed(alloc: Global, tables: Tables, statement: &str) -> Result<Tables, Fail> {
+fn changed(rt: &(impl Abort + AllocGlobal), tables: Tables, statement: &str) -> Tables {
     let mut conn = tables.into_connection();
-    conn.execute_batch(statement)?;
-    tables_of(alloc, conn)
+    conn.execute_batch(statement).expect(rt, "a statement");
+    tables_of(rt, conn)
 }
 
 /// Why no desk is opened over the store.
-fn fault_of<S: Store<Global>>(alloc: Global, store: S) -> Result<Option<OpenFault>, Fail> {
-    let policy = policy(alloc)?;
-    match DeskOver::<S>::open(alloc, store, policy) {
-        Ok(_) => Ok(None),
-        Err((fault, _)) => Ok(Some(fault)),
+fn fault_of<S: Store<Global>>(rt: &(impl Abort + AllocGlobal), store: S) -> Option<OpenFault> {
+    match open(rt, store) {
+        Ok(_) => None,
+        Err((fault, _)) => Some(fault),
     }
 }
 
@@ -43,9 +42,9 @@ const MOVED: &[Turn] = &[
 ];
 
 /// Why no desk is opened over the tables after the first plan and this statement.
-fn fault_after(alloc: Global, statement: &str) -> Result<Option<OpenFault>, Fail> {
-    let tables = tables_after(alloc, &[List::World, List::First], MOVED)?;
-    fault_of(alloc, changed(alloc, tables, statement)?)
+fn fault_after(rt: &(impl Abort + AllocGlobal), statement: &str) -> Option<OpenFault> {
+    let tables = tables_after(rt, &[List::World, List::First], MOVED);
+    fault_of(rt, changed(rt, tables, statement))
 }
 
 /// Statements, and why no desk is opened then.
@@ -132,19 +131,18 @@ const FAULTS: &[(&str, Option<OpenFault>)] = &[
 ];
 
 /// The first statement after which another fault is told.
-fn first_wrong(alloc: Global) -> Result<&'static str, Fail> {
+fn first_wrong(rt: &(impl Abort + AllocGlobal)) -> Option<&'static str> {
     for (statement, fault) in FAULTS {
-        if fault_after(alloc, statement)? != *fault {
-            return Ok(statement);
+        if fault_after(rt, statement) != *fault {
+            return Some(statement);
         }
     }
-    Ok("none")
+    None
 }
 
 #[test]
-fn damage_is_told(rt: HostRuntime) -> Result<(), Fail> {
-    assert!(rt; first_wrong(rt.alloc())? == "none");
-    Ok(())
+fn damage_is_told(rt: HostRuntime) {
+    assert_eq!(rt; first_wrong(&rt), None);
 }
 
 /// Sets the greatest revision that there may be.
@@ -161,19 +159,12 @@ const LAST: &[Turn] = &[
     ),
 ];
 
-/// Fails where a desk over the store does not answer that there are no more changes.
-fn end<S: Store<Global>>(alloc: Global, store: S) -> Result<(), Fail> {
-    let _store = store_after(alloc, store, &[], LAST)?;
-    Ok(())
-}
-
 /// Tables that have the greatest revision.
-fn last_tables(alloc: Global) -> Result<Tables, Fail> {
-    let tables = tables_after(alloc, &[List::World], FIRST)?;
-    changed(alloc, tables, GREATEST)
+fn last_tables(rt: &(impl Abort + AllocGlobal)) -> Tables {
+    changed(rt, tables_after(rt, &[List::World], FIRST), GREATEST)
 }
 
 #[test]
-fn there_are_no_more_changes(rt: HostRuntime) -> Result<(), Fail> {
-    end(rt.alloc(), last_tables(rt.alloc())?)
+fn there_are_no_more_changes(rt: HostRuntime) {
+    let _tables = tables_then(&rt, last_tables(&rt), &[], LAST);
 }

@@ -1,6 +1,6 @@
 //! Desks over a store, and what they answer.
 
-use crate::lists::{List, turns_of};
+use crate::lists::{List, all_turns};
 use fab_asking::{Turn, command, is_told, policy};
 use fab_desk::Desk;
 use fab_desk_base::Reply;
@@ -8,36 +8,59 @@ use fab_port_book::PortBook;
 use fab_store::{OpenFault, SqlStore, Store};
 use sqlite::{Alter, Connection};
 use std::alloc::Global;
+use std::process::Abort;
 use std::test::Fail;
 
 /// A desk over a store.
 pub type DeskOver<S> = Desk<Global, S, PortBook<Global>>;
 
-/// The tables of a connection in which no transaction runs.
-pub fn tables_of<S: Alter + Drop>(alloc: Global, conn: Connection<S>) -> Result<SqlStore<S>, Fail> {
-    if !conn.is_autocommit() {
-        return Err(Fail::from("transaction"));
+/// What was made. Ends the test where it was not.
+pub fn made<T>(rt: &impl Abort, made: Result<T, Fail>, wanted: &str) -> T {
+    match made {
+        Ok(made) => made,
+        Err(_) => panic!(rt; "{wanted}"),
     }
-    Ok(SqlStore::new(conn, alloc))
+}
+
+/// The tables of a connection in which no transaction runs.
+pub fn tables_of<S: Alter + Drop>(
+    rt: &(impl Abort + AllocGlobal),
+    conn: Connection<S>,
+) -> SqlStore<S> {
+    assert!(rt; conn.is_autocommit());
+    SqlStore::new(conn, rt.alloc())
 }
 
 /// The tables of a new desk.
 pub fn new_tables<S: Alter + Drop>(
-    alloc: Global,
+    rt: &(impl Abort + AllocGlobal),
     conn: Connection<S>,
-) -> Result<SqlStore<S>, Fail> {
-    let mut tables = tables_of(alloc, conn)?;
-    tables.init()?;
-    Ok(tables)
+) -> SqlStore<S> {
+    let mut tables = tables_of(rt, conn);
+    tables.init().expect(rt, "new tables");
+    tables
+}
+
+/// A desk over the store, or why there is none, with the store.
+pub fn open<S: Store<Global>>(
+    rt: &(impl Abort + AllocGlobal),
+    store: S,
+) -> Result<DeskOver<S>, (OpenFault, S)> {
+    let policy = made(rt, policy(rt.alloc()), "a policy");
+    Desk::open(rt.alloc(), store, policy)
 }
 
 /// A desk over the store.
-pub fn opened<S: Store<Global>>(alloc: Global, store: S) -> Result<DeskOver<S>, Fail> {
-    let policy = policy(alloc)?;
-    match Desk::open(alloc, store, policy) {
-        Ok(desk) => Ok(desk),
-        Err(_) => Err(Fail::from("open")),
+pub fn opened<S: Store<Global>>(rt: &(impl Abort + AllocGlobal), store: S) -> DeskOver<S> {
+    match open(rt, store) {
+        Ok(desk) => desk,
+        Err(_) => panic!(rt; "open"),
     }
+}
+
+/// The store of the desk, which ends.
+pub fn closed<S: Store<Global>>(rt: &impl Abort, desk: DeskOver<S>) -> S {
+    desk.close().expect(rt, "close")
 }
 
 /// What a desk answers to a turn.
@@ -52,135 +75,81 @@ pub enum Came {
 }
 
 /// What the reply is, where this is wanted.
-fn told_by(alloc: Global, reply: &Reply<Global>, wanted: &str) -> Result<Came, Fail> {
-    if is_told(alloc, reply, wanted)? {
-        return Ok(Came::Told);
+fn told_by(rt: &(impl Abort + AllocGlobal), reply: &Reply<Global>, wanted: &str) -> Came {
+    if made(rt, is_told(rt.alloc(), reply, wanted), "memory") {
+        return Came::Told;
     }
-    if is_told(alloc, reply, "store")? {
-        return Ok(Came::Refused);
+    if made(rt, is_told(rt.alloc(), reply, "store"), "memory") {
+        return Came::Refused;
     }
-    Ok(Came::Other)
+    Came::Other
 }
 
 /// What the desk answers to the turn.
 pub fn ask<S: Store<Global>>(
-    alloc: Global,
+    rt: &(impl Abort + AllocGlobal),
     desk: &mut DeskOver<S>,
     turn: Turn,
-) -> Result<Came, Fail> {
-    let command = command(alloc, turn.2)?;
+) -> Came {
+    let command = made(rt, command(rt.alloc(), turn.2), "a command");
     let reply = desk.handle(turn.0, turn.1, command);
-    told_by(alloc, &reply, turn.3)
+    told_by(rt, &reply, turn.3)
 }
 
-/// Fails where the desk does not answer each turn as it says.
+/// Ends the test where the desk does not answer each turn as it says.
 pub fn ask_all<S: Store<Global>>(
-    alloc: Global,
+    rt: &(impl Abort + AllocGlobal),
     desk: &mut DeskOver<S>,
     turns: &[Turn],
-) -> Result<(), Fail> {
+) {
     for turn in turns {
-        if !matches!(ask(alloc, desk, *turn)?, Came::Told) {
-            return Err(Fail::from("reply"));
-        }
-    }
-    Ok(())
-}
-
-/// The same of several lists of turns, one after the other.
-fn ask_lists<S: Store<Global>>(
-    alloc: Global,
-    desk: &mut DeskOver<S>,
-    lists: &[List],
-) -> Result<(), Fail> {
-    for list in lists {
-        ask_all(alloc, desk, turns_of(*list))?;
-    }
-    Ok(())
-}
-
-/// The same of several lists and then of turns.
-fn ask_both<S: Store<Global>>(
-    alloc: Global,
-    desk: &mut DeskOver<S>,
-    before: &[List],
-    turns: &[Turn],
-) -> Result<(), Fail> {
-    ask_lists(alloc, desk, before)?;
-    ask_all(alloc, desk, turns)
-}
-
-/// The store again, if the desk was asked without fail.
-pub fn left<S: Store<Global>>(desk: DeskOver<S>, asked: Result<(), Fail>) -> Result<S, Fail> {
-    asked?;
-    match desk.close() {
-        Some(store) => Ok(store),
-        None => Err(Fail::from("close")),
+        assert!(rt; matches!(ask(rt, desk, *turn), Came::Told));
     }
 }
 
 /// The store again, after a desk over it has answered the lists, and then the turns, as they say.
 pub fn store_after<S: Store<Global>>(
-    alloc: Global,
+    rt: &(impl Abort + AllocGlobal),
     store: S,
     before: &[List],
     turns: &[Turn],
-) -> Result<S, Fail> {
-    let mut desk = opened(alloc, store)?;
-    let asked = ask_both(alloc, &mut desk, before, turns);
-    left(desk, asked)
-}
-
-/// Whether the desk answers as the turn says, and not that its store refused a call.
-fn is_answered<S: Store<Global>>(
-    alloc: Global,
-    desk: &mut DeskOver<S>,
-    turn: Turn,
-) -> Result<bool, Fail> {
-    match ask(alloc, desk, turn)? {
-        Came::Told => Ok(true),
-        Came::Refused => Ok(false),
-        Came::Other => Err(Fail::from("reply")),
-    }
+) -> S {
+    let turns = all_turns(rt, before, turns);
+    let mut desk = opened(rt, store);
+    ask_all(rt, &mut desk, turns.as_slice());
+    closed(rt, desk)
 }
 
 /// How many turns the desk answers as they say, before one for which its store refuses a call.
 fn answered<S: Store<Global>>(
-    alloc: Global,
+    rt: &(impl Abort + AllocGlobal),
     desk: &mut DeskOver<S>,
     turns: &[Turn],
-) -> Result<usize, Fail> {
+) -> usize {
     for (place, turn) in turns.iter().enumerate() {
-        if !is_answered(alloc, desk, *turn)? {
-            return Ok(place);
+        match ask(rt, desk, *turn) {
+            Came::Told => {}
+            Came::Refused => return place,
+            Came::Other => panic!(rt; "reply"),
         }
     }
-    Ok(turns.len())
-}
-
-/// The same, with the store of the desk.
-fn counted<S: Store<Global>>(
-    desk: DeskOver<S>,
-    answered: Result<usize, Fail>,
-) -> Result<(usize, S), Fail> {
-    let count = answered?;
-    match desk.close() {
-        Some(store) => Ok((count, store)),
-        None => Err(Fail::from("close")),
-    }
+    turns.len()
 }
 
 /// How many turns a desk over the store answers as they say, before one for which the store refuses a
 /// call, with the store. It is none where the store can not be read.
-pub fn play<S: Store<Global>>(alloc: Global, store: S, turns: &[Turn]) -> Result<(usize, S), Fail> {
-    let policy = policy(alloc)?;
-    match Desk::open(alloc, store, policy) {
+pub fn play<S: Store<Global>>(
+    rt: &(impl Abort + AllocGlobal),
+    store: S,
+    turns: &[Turn],
+) -> (usize, S) {
+    match open(rt, store) {
         Ok(desk) => {
             let mut desk = desk;
-            let answered = answered(alloc, &mut desk, turns);
-            counted(desk, answered)
+            let count = answered(rt, &mut desk, turns);
+            (count, closed(rt, desk))
         }
-        Err((OpenFault::Store, store)) => Ok((0, store)),
-        Err(_) => Err(Fail::from("open")),
+        Err((OpenFault::Store, store)) => (0, store),
+        Err(_) => panic!(rt; "open"),
     }
 }

@@ -7,7 +7,7 @@ use fab_store::{SqlStore, Store};
 use sqlite::{Alter, Connection, FileStore, Files, Options};
 use sqlite_disk::Disk;
 use std::alloc::Global;
-use std::test::Fail;
+use std::process::Abort;
 
 /// A connection to the files, or what is left of them where they can not be opened.
 fn connect<D: Disk + Drop>(
@@ -25,155 +25,137 @@ fn connect<D: Disk + Drop>(
     }
 }
 
-/// How many turns a desk over new tables answers, with what the connection was over. It is none where
-/// the tables were not made.
-fn play_new<S: Alter + Drop>(
-    alloc: Global,
-    conn: Connection<S>,
-    turns: &[Turn],
-) -> Result<(Option<usize>, S), Fail> {
-    let mut tables = tables_of(alloc, conn)?;
-    if tables.init().is_err() {
-        return Ok((None, tables.into_connection().into_store()));
-    }
-    let (count, tables) = play(alloc, tables, turns)?;
-    Ok((Some(count), tables.into_connection().into_store()))
-}
-
-/// The files as they are left.
-fn closed<D: Disk + Drop>(
-    played: Result<(Option<usize>, FileStore<D>), Fail>,
-) -> Result<(Option<usize>, Files<D>), Fail> {
-    match played {
-        Ok((count, store)) => Ok((count, store.close())),
-        Err(fail) => Err(fail),
-    }
-}
-
-/// The same over new files, which are given back as they are.
-pub fn run<D: Disk + Drop>(
-    alloc: Global,
-    files: Files<D>,
-    turns: &[Turn],
-) -> Result<(Option<usize>, Files<D>), Fail> {
-    match connect(alloc, files) {
-        Ok(conn) => closed(play_new(alloc, conn, turns)),
-        Err(files) => Ok((None, files)),
-    }
-}
-
-/// The tables of a connection, which are made where they were not made before.
-fn made_again<S: Alter + Drop>(
-    alloc: Global,
-    conn: Connection<S>,
-    is_made: bool,
-) -> Result<SqlStore<S>, Fail> {
-    let mut tables = tables_of(alloc, conn)?;
-    if !is_made {
-        let _are_new = tables.init();
-    }
-    Ok(tables)
-}
-
-/// The same of files.
-fn tables_again<D: Disk + Drop>(
-    alloc: Global,
-    files: Files<D>,
-    is_made: bool,
-) -> Result<SqlStore<FileStore<D>>, Fail> {
-    match connect(alloc, files) {
-        Ok(conn) => made_again(alloc, conn, is_made),
-        Err(_) => Err(Fail::from("files")),
-    }
-}
-
 /// After how many turns the tables stand, after so many were answered.
 fn found_in<S: Store<Global>>(
-    alloc: Global,
+    rt: &(impl Abort + AllocGlobal),
     tables: &mut S,
     turns: &[Turn],
     count: Option<usize>,
-) -> Result<usize, Fail> {
+) -> usize {
     match count {
-        Some(count) => found(alloc, tables, turns, count),
-        None if are_after(alloc, tables, turns, 0)? => Ok(0),
-        None => Err(Fail::from("new rows")),
+        Some(count) => found(rt, tables, turns, count),
+        None => {
+            assert!(rt; are_after(rt, tables, turns, 0));
+            0
+        }
     }
-}
-
-/// The same of tables, if there are some.
-fn checked<S: Store<Global>>(
-    alloc: Global,
-    tables: Result<S, Fail>,
-    turns: &[Turn],
-    count: Option<usize>,
-) -> Result<usize, Fail> {
-    let mut tables = tables?;
-    found_in(alloc, &mut tables, turns, count)
-}
-
-/// After how many turns the tables in the files stand, after so many were answered.
-///
-/// # Errors
-/// Other rows.
-pub fn check<D: Disk + Drop>(
-    alloc: Global,
-    files: Files<D>,
-    turns: &[Turn],
-    count: Option<usize>,
-) -> Result<usize, Fail> {
-    checked(
-        alloc,
-        tables_again(alloc, files, count.is_some()),
-        turns,
-        count,
-    )
 }
 
 /// Has a desk over the tables answer the turns behind those after which they stand.
 fn serve<S: Store<Global>>(
-    alloc: Global,
+    rt: &(impl Abort + AllocGlobal),
     tables: S,
     turns: &[Turn],
     count: usize,
-) -> Result<(), Fail> {
+) -> S {
     let rest = turns.get(count..).unwrap_or(&[]);
-    let (played, mut tables) = play(alloc, tables, rest)?;
-    if played != rest.len() {
-        return Err(Fail::from("rest"));
-    }
-    if !are_after(alloc, &mut tables, turns, turns.len())? {
-        return Err(Fail::from("rows at last"));
-    }
-    Ok(())
+    let (played, mut tables) = play(rt, tables, rest);
+    assert_eq!(rt; played, rest.len());
+    assert!(rt; are_after(rt, &mut tables, turns, turns.len()));
+    tables
 }
 
-/// The same of the turns behind those after which the tables are found to stand.
-fn serve_rest<S: Store<Global>>(
-    alloc: Global,
-    tables: Result<S, Fail>,
+/// What is done with tables after they were looked at.
+#[derive(Clone, Copy)]
+pub enum Then {
+    Nothing,
+    /// A desk over them answers the rest of the turns.
+    Serve,
+}
+
+/// What is done with tables.
+#[derive(Clone, Copy)]
+pub enum Work {
+    /// They are made, and a desk over them answers the turns.
+    Play,
+    /// They are looked at, after so many turns were answered: they stand after these or one more.
+    Look(Option<usize>, Then),
+}
+
+/// Whether the tables are there. New ones are made, and so are others that were not made before.
+fn are_made<S: Alter + Drop>(tables: &mut SqlStore<S>, work: Work) -> bool {
+    match work {
+        Work::Play => tables.init().is_ok(),
+        Work::Look(None, _) => {
+            let _are_new = tables.init();
+            true
+        }
+        Work::Look(Some(_), _) => true,
+    }
+}
+
+/// How many turns a desk over the tables answers, if they were made, with the tables.
+fn play_made<S: Store<Global>>(
+    rt: &(impl Abort + AllocGlobal),
+    tables: S,
+    is_made: bool,
+    turns: &[Turn],
+) -> (Option<usize>, S) {
+    if !is_made {
+        return (None, tables);
+    }
+    let (count, tables) = play(rt, tables, turns);
+    (Some(count), tables)
+}
+
+/// After how many turns the tables stand, after so many were answered, with the tables after what is
+/// done then.
+fn look<S: Store<Global>>(
+    rt: &(impl Abort + AllocGlobal),
+    tables: S,
     turns: &[Turn],
     count: Option<usize>,
-) -> Result<(), Fail> {
-    let mut tables = tables?;
-    let count = found_in(alloc, &mut tables, turns, count)?;
-    serve(alloc, tables, turns, count)
+    then: Then,
+) -> (Option<usize>, S) {
+    let mut tables = tables;
+    let stand = found_in(rt, &mut tables, turns, count);
+    match then {
+        Then::Nothing => (Some(stand), tables),
+        Then::Serve => (Some(stand), serve(rt, tables, turns, stand)),
+    }
 }
 
-/// Looks at the tables in the files as `check` does, and a desk over them answers the rest of the turns.
-///
-/// # Errors
-/// Other rows, or another answer.
-pub fn check_served<D: Disk + Drop>(
-    alloc: Global,
+/// Does the work with tables, and tells after how many turns they stand, with the tables.
+fn work_with<S: Store<Global>>(
+    rt: &(impl Abort + AllocGlobal),
+    tables: S,
+    is_made: bool,
+    turns: &[Turn],
+    work: Work,
+) -> (Option<usize>, S) {
+    match work {
+        Work::Play => play_made(rt, tables, is_made, turns),
+        Work::Look(count, then) => look(rt, tables, turns, count, then),
+    }
+}
+
+/// The same with the tables of a connection, and what that was over.
+fn work_over<S: Alter + Drop>(
+    rt: &(impl Abort + AllocGlobal),
+    conn: Connection<S>,
+    turns: &[Turn],
+    work: Work,
+) -> (Option<usize>, S) {
+    let mut tables = tables_of(rt, conn);
+    let is_made = are_made(&mut tables, work);
+    let (count, tables) = work_with(rt, tables, is_made, turns, work);
+    (count, tables.into_connection().into_store())
+}
+
+/// The same with the tables in files, which are given back as they are: how many turns were answered,
+/// or after how many the tables stand. It is none where the files can not be opened, or new tables
+/// were not made. Ends the test where there are other rows, or another answer.
+pub fn run<D: Disk + Drop>(
+    rt: &(impl Abort + AllocGlobal),
     files: Files<D>,
     turns: &[Turn],
-    count: Option<usize>,
-) -> Result<(), Fail> {
-    serve_rest(
-        alloc,
-        tables_again(alloc, files, count.is_some()),
-        turns,
-        count,
-    )
+    work: Work,
+) -> (Option<usize>, Files<D>) {
+    match connect(rt.alloc(), files) {
+        Ok(conn) => {
+            let (count, store) = work_over(rt, conn, turns, work);
+            (count, store.close())
+        }
+        Err(files) => (None, files),
+    }
 }

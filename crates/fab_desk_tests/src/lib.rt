@@ -25,6 +25,4 @@ mod stops;
 #[cfg(test)]
 mod stored;
 #[cfg(test)]
-mod worked;
-#[cfg(test)]
 mod worlds;

@@ -6,6 +6,7 @@ use fab_asking::rows::{
     VOLUME_GONE, ZONES_OVERLAP,
 };
 use fab_asking::{FIRST, SECOND, Turn, WORLD};
+use std::process::Abort;
 
 /// A worked list of turns.
 #[derive(Clone, Copy)]
@@ -71,4 +72,14 @@ pub fn turns_of(list: List) -> &'static [Turn] {
         List::Undone => UNDONE,
         _ => turns_on_fabric_b(list),
     }
+}
+
+/// The turns of the lists, one after the other, and then these.
+pub fn all_turns(rt: &(impl Abort + AllocGlobal), before: &[List], turns: &[Turn]) -> Vec<Turn> {
+    let mut all = Vec::new(rt.alloc());
+    for list in before {
+        all.extend_from_slice(turns_of(*list)).expect(rt, "memory");
+    }
+    all.extend_from_slice(turns).expect(rt, "memory");
+    all
 }

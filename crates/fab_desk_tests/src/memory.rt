@@ -5,20 +5,30 @@ use crate::lists::List;
 use fab_asking::Turn;
 use fab_store::SqlStore;
 use sqlite::{Connection, MemStore};
-use std::alloc::Global;
-use std::test::Fail;
+use std::process::Abort;
 
 /// Tables in memory.
 pub type Tables = SqlStore<MemStore>;
 
 /// The tables of a new desk.
-pub fn tables(alloc: Global) -> Result<Tables, Fail> {
-    let conn = Connection::open_in_memory(alloc)?;
-    new_tables(alloc, conn)
+pub fn tables(rt: &(impl Abort + AllocGlobal)) -> Tables {
+    new_tables(
+        rt,
+        Connection::open_in_memory(rt.alloc()).expect(rt, "memory"),
+    )
+}
+
+/// The tables, after a desk over them has answered the lists, and then the turns, as they say.
+pub fn tables_then(
+    rt: &(impl Abort + AllocGlobal),
+    tables: Tables,
+    before: &[List],
+    turns: &[Turn],
+) -> Tables {
+    store_after(rt, tables, before, turns)
 }
 
 /// The tables of a new desk that has answered the lists, and then the turns, as they say.
-pub fn tables_after(alloc: Global, before: &[List], turns: &[Turn]) -> Result<Tables, Fail> {
-    let tables = tables(alloc)?;
-    store_after(alloc, tables, before, turns)
+pub fn tables_after(rt: &(impl Abort + AllocGlobal), before: &[List], turns: &[Turn]) -> Tables {
+    tables_then(rt, tables(rt), before, turns)
 }

@@ -2,79 +2,78 @@
 //! were answered, or after them and the one in progress.
 
 use crate::disks::{Failing, files, have_served, stop};
-use crate::files::{check, check_served, run};
-use crate::worked::{Worked, turns_of};
+use crate::files::{Then, Work, run};
+use crate::lists::{List, all_turns};
 use fab_asking::Turn;
-use std::alloc::Global;
-use std::test::Fail;
+use sqlite::Files;
+use sqlite_disk::Crash;
+use std::process::Abort;
 
 /// More calls than a run makes.
 const MOST: u64 = 1000;
 
-/// Whether a run meets no stop where a disk fails after so many calls. What it leaves is opened again.
-fn is_whole(alloc: Global, failing: Failing, turns: &[Turn], calls: u64) -> Result<bool, Fail> {
-    let (count, mut files) = run(alloc, files(alloc, failing, calls), turns)?;
+/// Whether a run over the new files meets no stop. What it leaves is opened again, and what is to be
+/// done then is done.
+fn is_whole<D: Crash + Drop>(
+    rt: &(impl Abort + AllocGlobal),
+    files: Files<D>,
+    turns: &[Turn],
+    then: Then,
+) -> bool {
+    let (count, mut files) = run(rt, files, turns, Work::Play);
     let served = have_served(&mut files);
     stop(&mut files);
-    let _found = check(alloc, files, turns, count)?;
-    Ok(served)
+    let (found, _files) = run(rt, files, turns, Work::Look(count, then));
+    assert!(rt; found.is_some());
+    served
 }
 
-/// The same, and the desk that is opened again answers the rest of the requests.
-fn is_served(alloc: Global, failing: Failing, turns: &[Turn], calls: u64) -> Result<bool, Fail> {
-    let (count, mut files) = run(alloc, files(alloc, failing, calls), turns)?;
-    let served = have_served(&mut files);
-    stop(&mut files);
-    check_served(alloc, files, turns, count)?;
-    Ok(served)
-}
-
-/// Stops a row at each call, until a run meets no stop.
-fn stop_row(alloc: Global, row: Worked, failing: Failing) -> Result<(), Fail> {
-    let turns = turns_of(alloc, row)?;
+/// Stops a row at each call of the disk that fails, until a run meets no stop.
+fn stop_row(rt: &(impl Abort + AllocGlobal), row: &[List], failing: Failing, then: Then) {
+    let turns = all_turns(rt, row, &[]);
     for calls in 0..MOST {
-        if is_whole(alloc, failing, turns.as_slice(), calls)? {
-            return Ok(());
+        if is_whole(
+            rt,
+            files(rt.alloc(), failing, calls),
+            turns.as_slice(),
+            then,
+        ) {
+            return;
         }
     }
-    Err(Fail::from("no end"))
+    panic!(rt; "no end");
 }
 
-/// The same, and serves the rest.
-fn serve_row(alloc: Global, row: Worked, failing: Failing) -> Result<(), Fail> {
-    let turns = turns_of(alloc, row)?;
-    for calls in 0..MOST {
-        if is_served(alloc, failing, turns.as_slice(), calls)? {
-            return Ok(());
-        }
-    }
-    Err(Fail::from("no end"))
-}
+const ROW_5: &[List] = &[List::World, List::First];
 
-/// The rows, and the file whose disk fails.
-const STOPS: &[(Worked, Failing)] = &[
-    (Worked::Row5, Failing::Log),
-    (Worked::Row5, Failing::Database),
-    (Worked::Row6, Failing::Log),
-    (Worked::Row6, Failing::Database),
-    (Worked::Row9, Failing::Log),
-    (Worked::Row9, Failing::Database),
-    (Worked::Row15, Failing::Log),
-    (Worked::Row15, Failing::Database),
+const ROW_6: &[List] = &[List::World, List::First, List::Row6];
+
+const ROW_9: &[List] = &[List::World, List::First, List::Second, List::Row9];
+
+const ROW_15: &[List] = &[List::World, List::First, List::Unmapped, List::Row15];
+
+/// The lists of turns up to the end of a row, and the file whose disk fails.
+const STOPS: &[(&[List], Failing)] = &[
+    (ROW_5, Failing::Log),
+    (ROW_5, Failing::Database),
+    (ROW_6, Failing::Log),
+    (ROW_6, Failing::Database),
+    (ROW_9, Failing::Log),
+    (ROW_9, Failing::Database),
+    (ROW_15, Failing::Log),
+    (ROW_15, Failing::Database),
 ];
 
 #[test]
-fn stop_at_each_call(rt: HostRuntime) -> Result<(), Fail> {
+fn stop_at_each_call(rt: HostRuntime) {
     for &(row, failing) in STOPS {
-        stop_row(rt.alloc(), row, failing)?;
+        stop_row(&rt, row, failing, Then::Nothing);
     }
-    Ok(())
 }
 
 #[test]
-fn stopped_then_served(rt: HostRuntime) -> Result<(), Fail> {
+fn stopped_then_served(rt: HostRuntime) {
     for &(row, failing) in STOPS {
-        serve_row(rt.alloc(), row, failing)?;
+        stop_row(&rt, row, failing, Then::Serve);
     }
-    Ok(())
 }

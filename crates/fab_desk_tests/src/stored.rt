@@ -9,59 +9,67 @@ use fab_asking::Turn;
 use fab_store::Store;
 use sqlite::{Connection, MemStore, Row};
 use std::alloc::Global;
-use std::test::Fail;
+use std::process::Abort;
 
 /// Whether a store has the machine's world after a desk over it has answered these turns.
 fn is_kept_after<S: Store<Global>>(
-    alloc: Global,
+    rt: &(impl Abort + AllocGlobal),
     store: S,
     before: &[List],
     turns: &[Turn],
-) -> Result<bool, Fail> {
-    let mut store = store_after(alloc, store, before, turns)?;
-    are_kept(alloc, &mut store, before, turns)
+) -> bool {
+    let mut store = store_after(rt, store, before, turns);
+    are_kept(rt, &mut store, before, turns)
 }
 
 /// Whether the tables have the machine's world after these turns.
-fn is_stored(alloc: Global, before: &[List], turns: &[Turn]) -> Result<bool, Fail> {
-    is_kept_after(alloc, tables(alloc)?, before, turns)
+fn is_stored(rt: &(impl Abort + AllocGlobal), before: &[List], turns: &[Turn]) -> bool {
+    is_kept_after(rt, tables(rt), before, turns)
 }
 
 /// Whether the tables have the machine's world after the turns before, and after each of these.
-fn are_stored(alloc: Global, before: &[List], turns: &[Turn]) -> Result<bool, Fail> {
+fn are_stored(rt: &(impl Abort + AllocGlobal), before: &[List], turns: &[Turn]) -> bool {
     for asked in 0..turns.len() {
-        if !is_stored(alloc, before, &turns[..asked])? {
-            return Ok(false);
+        if !is_stored(rt, before, &turns[..asked]) {
+            return false;
         }
     }
-    is_stored(alloc, before, turns)
+    is_stored(rt, before, turns)
 }
 
 /// What shows the rows of paths, each as a text, in order.
 const PATHS: &str =
     "SELECT host || ' ' || fabric || ' ' || initiator || ' ' || target || ' ' || volume || ' ' || lun FROM paths ORDER BY host, fabric, initiator, target, volume, lun";
 
-fn tell(text: &mut String, rows: &[Row]) -> Result<(), Fail> {
+/// The texts of the rows, each on a line of its own.
+fn told(rt: &(impl Abort + AllocGlobal), rows: &[Row]) -> String {
+    let mut text = String::new(rt.alloc());
     for row in rows {
-        let line: String = row.get(0)?;
-        write!(text, "{line}\n")?;
+        let line: String = row.get(0).expect(rt, "a text");
+        write!(text, "{line}\n").expect(rt, "memory");
     }
-    Ok(())
+    text
 }
 
 /// Whether the rows of paths are these.
-fn are_paths(alloc: Global, conn: &mut Connection<MemStore>, wanted: &str) -> Result<bool, Fail> {
-    let rows = conn.query_all(PATHS, &[])?;
-    let mut text = String::new(alloc);
-    tell(&mut text, rows.as_slice())?;
-    Ok(text.as_str() == wanted)
+fn are_paths(
+    rt: &(impl Abort + AllocGlobal),
+    conn: &mut Connection<MemStore>,
+    wanted: &str,
+) -> bool {
+    let rows = conn.query_all(PATHS, &[]).expect(rt, "rows");
+    told(rt, rows.as_slice()).as_str() == wanted
 }
 
 /// Whether the rows of paths after these turns are these.
-fn have_paths(alloc: Global, before: &[List], turns: &[Turn], wanted: &str) -> Result<bool, Fail> {
-    let tables = tables_after(alloc, before, turns)?;
-    let mut conn = tables.into_connection();
-    are_paths(alloc, &mut conn, wanted)
+fn have_paths(
+    rt: &(impl Abort + AllocGlobal),
+    before: &[List],
+    turns: &[Turn],
+    wanted: &str,
+) -> bool {
+    let mut conn = tables_after(rt, before, turns).into_connection();
+    are_paths(rt, &mut conn, wanted)
 }
 
 /// What comes before a list of turns.
@@ -150,25 +158,26 @@ const CASES: &[Case] = &[
 ];
 
 /// Whether the tables have the machine's world after each turn, and these paths after the last.
-fn does_hold(alloc: Global, before: &[List], turns: &[Turn], paths: &str) -> Result<bool, Fail> {
-    if !are_stored(alloc, before, turns)? {
-        return Ok(false);
-    }
-    have_paths(alloc, before, turns, paths)
+fn does_hold(
+    rt: &(impl Abort + AllocGlobal),
+    before: &[List],
+    turns: &[Turn],
+    paths: &str,
+) -> bool {
+    are_stored(rt, before, turns) && have_paths(rt, before, turns, paths)
 }
 
 /// The name of the first case that does not hold.
-fn first_wrong(alloc: Global) -> Result<&'static str, Fail> {
+fn first_wrong(rt: &(impl Abort + AllocGlobal)) -> Option<&'static str> {
     for &(name, before, list, paths) in CASES {
-        if !does_hold(alloc, lists_of(before), turns_of(list), paths)? {
-            return Ok(name);
+        if !does_hold(rt, lists_of(before), turns_of(list), paths) {
+            return Some(name);
         }
     }
-    Ok("none")
+    None
 }
 
 #[test]
-fn rows_are_stored(rt: HostRuntime) -> Result<(), Fail> {
-    assert!(rt; first_wrong(rt.alloc())? == "none");
-    Ok(())
+fn rows_are_stored(rt: HostRuntime) {
+    assert_eq!(rt; first_wrong(&rt), None);
 }

@@ -1,5 +1,6 @@
 //! Whether tables have the world that the machine comes to by the same requests.
 
+use crate::desks::made;
 use crate::lists::{List, turns_of};
 use fab_asking::{Turn, holds_in};
 use fab_changes::changes;
@@ -7,6 +8,7 @@ use fab_rows::TableRows;
 use fab_store::Store;
 use fab_world::World;
 use std::alloc::Global;
+use std::process::Abort;
 use std::test::Fail;
 
 /// Whether there is no row.
@@ -21,26 +23,15 @@ fn is_empty(rows: &TableRows<Global>) -> bool {
 }
 
 /// Whether two worlds have the same rows.
-fn is_same(alloc: Global, one: &World<Global>, other: &World<Global>) -> Result<bool, Fail> {
-    let Ok(found) = changes(alloc, one, other) else {
-        return Err(Fail::from("changes"));
-    };
-    Ok(is_empty(&found.removed) && is_empty(&found.added))
-}
-
-/// Whether the tables have the rows of the world.
-fn have_world<S: Store<Global>>(
-    alloc: Global,
-    tables: &mut S,
-    world: &World<Global>,
-) -> Result<bool, Fail> {
-    let Ok(loaded) = tables.load(alloc) else {
-        return Err(Fail::from("load"));
-    };
-    is_same(alloc, &loaded, world)
+fn is_same(rt: &(impl Abort + AllocGlobal), one: &World<Global>, other: &World<Global>) -> bool {
+    let found = changes(rt.alloc(), one, other).expect(rt, "changes");
+    is_empty(&found.removed) && is_empty(&found.added)
 }
 
 /// Leads the machine's world through the turns, which it answers as they say.
+///
+/// # Errors
+/// Another answer.
 fn lead(alloc: Global, world: &mut World<Global>, turns: &[Turn]) -> Result<(), Fail> {
     if !holds_in(alloc, world, &[turns])? {
         return Err(Fail::from("machine"));
@@ -48,59 +39,48 @@ fn lead(alloc: Global, world: &mut World<Global>, turns: &[Turn]) -> Result<(), 
     Ok(())
 }
 
-/// The same of several lists and then of turns.
-fn lead_both(
-    alloc: Global,
-    world: &mut World<Global>,
-    before: &[List],
-    turns: &[Turn],
-) -> Result<(), Fail> {
+/// The world to which the machine leads a new one by the lists and then by the turns.
+fn world_after(rt: &(impl Abort + AllocGlobal), before: &[List], turns: &[Turn]) -> World<Global> {
+    let mut world = World::new(rt.alloc());
     for list in before {
-        lead(alloc, world, turns_of(*list))?;
+        made(rt, lead(rt.alloc(), &mut world, turns_of(*list)), "machine");
     }
-    lead(alloc, world, turns)
+    made(rt, lead(rt.alloc(), &mut world, turns), "machine");
+    world
 }
 
 /// Whether the tables have the world that the machine comes to by the lists and then by the turns.
 pub fn are_kept<S: Store<Global>>(
-    alloc: Global,
+    rt: &(impl Abort + AllocGlobal),
     tables: &mut S,
     before: &[List],
     turns: &[Turn],
-) -> Result<bool, Fail> {
-    let mut world = World::new(alloc);
-    lead_both(alloc, &mut world, before, turns)?;
-    have_world(alloc, tables, &world)
+) -> bool {
+    let loaded = tables.load(rt.alloc()).expect(rt, "load");
+    is_same(rt, &loaded, &world_after(rt, before, turns))
 }
 
-/// The first turns, so many of them.
-fn first(turns: &[Turn], count: usize) -> &[Turn] {
-    turns.get(..count).unwrap_or(turns)
-}
-
-/// Whether the tables have the world after so many turns.
+/// Whether the tables have the world after so many of the turns.
 pub fn are_after<S: Store<Global>>(
-    alloc: Global,
+    rt: &(impl Abort + AllocGlobal),
     tables: &mut S,
     turns: &[Turn],
     count: usize,
-) -> Result<bool, Fail> {
-    are_kept(alloc, tables, &[], first(turns, count))
+) -> bool {
+    are_kept(rt, tables, &[], turns.get(..count).unwrap_or(turns))
 }
 
 /// The turns after which the tables stand: so many, or one more.
 pub fn found<S: Store<Global>>(
-    alloc: Global,
+    rt: &(impl Abort + AllocGlobal),
     tables: &mut S,
     turns: &[Turn],
     count: usize,
-) -> Result<usize, Fail> {
+) -> usize {
+    if are_after(rt, tables, turns, count) {
+        return count;
+    }
     let after = count.saturating_add(1);
-    if are_after(alloc, tables, turns, count)? {
-        return Ok(count);
-    }
-    if are_after(alloc, tables, turns, after)? {
-        return Ok(after);
-    }
-    Err(Fail::from("rows"))
+    assert!(rt; are_after(rt, tables, turns, after));
+    after
 }

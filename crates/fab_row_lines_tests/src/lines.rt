@@ -1,4 +1,5 @@
-//! A line of each table.
+//! Lines as texts: the name of a table and the columns, parted by `|`. A column of a port that is null
+//! is empty.
 
 use fab_lines::{
     ActiveLine, ApprovalLine, GroupLine, HolderLine, MetaLine, PartLine, PathLine, PlanLine,
@@ -6,134 +7,174 @@ use fab_lines::{
 };
 use fab_tables::TableLine;
 use fab_undo_lines::UndoLine;
-use std::alloc::{AllocError, Global};
+use std::alloc::Global;
+use std::process::Abort;
 
-fn meta(alloc: Global) -> Result<TableLine<Global>, AllocError> {
-    Ok(TableLine::Meta(MetaLine {
-        key: "note".to_string(alloc)?,
-        value: "it's".to_string(alloc)?,
-    }))
+/// The word at a place of the text of a line: the table is at 0, and its columns follow.
+fn word(text: &str, place: usize) -> &str {
+    text.split('|').nth(place).unwrap_or("")
 }
 
-fn port(alloc: Global) -> Result<TableLine<Global>, AllocError> {
-    Ok(TableLine::Port(PortLine {
-        wwpn: "1000000000000001".to_string(alloc)?,
-        wwnn: "2000000000000001".to_string(alloc)?,
-        fabric: Some("A".to_string(alloc)?),
-        domain: Some(239),
-        slot: None,
-        holder: None,
-    }))
+/// The text of a column.
+fn text_at(rt: &(impl Abort + AllocGlobal), text: &str, place: usize) -> String {
+    word(text, place).to_string(rt.alloc()).expect(rt, "memory")
 }
 
-fn holder(alloc: Global) -> Result<TableLine<Global>, AllocError> {
-    Ok(TableLine::Holder(HolderLine {
-        name: "db1".to_string(alloc)?,
-        kind: "host".to_string(alloc)?,
-        tenant: "blue".to_string(alloc)?,
-    }))
-}
-
-fn volume(alloc: Global) -> Result<TableLine<Global>, AllocError> {
-    Ok(TableLine::Volume(VolumeLine {
-        name: "v1".to_string(alloc)?,
-        array: "arr1".to_string(alloc)?,
-        tenant: "blue".to_string(alloc)?,
-        bytes: 9223372036854775807,
-    }))
-}
-
-fn zoning(alloc: Global) -> Result<TableLine<Global>, AllocError> {
-    Ok(TableLine::Zoning(ZoningLine {
-        fabric: "A".to_string(alloc)?,
-        kind: "zone".to_string(alloc)?,
-        name: "z1".to_string(alloc)?,
-        item: "alias=a1".to_string(alloc)?,
-    }))
-}
-
-fn active(alloc: Global) -> Result<TableLine<Global>, AllocError> {
-    Ok(TableLine::Active(ActiveLine {
-        fabric: "B".to_string(alloc)?,
-        zone: "z1".to_string(alloc)?,
-        member: "dp=1,2".to_string(alloc)?,
-    }))
-}
-
-fn group(alloc: Global) -> Result<TableLine<Global>, AllocError> {
-    Ok(TableLine::Group(GroupLine {
-        kind: "storage".to_string(alloc)?,
-        name: "g1".to_string(alloc)?,
-        tenant: "blue".to_string(alloc)?,
-        array: "arr1".to_string(alloc)?,
-        exposed: 1,
-    }))
-}
-
-fn part(alloc: Global) -> Result<TableLine<Global>, AllocError> {
-    Ok(TableLine::Part(PartLine {
-        kind: "storage".to_string(alloc)?,
-        name: "g1".to_string(alloc)?,
-        part: "unit".to_string(alloc)?,
-        item: "7".to_string(alloc)?,
-        volume: "v1".to_string(alloc)?,
-    }))
-}
-
-fn plan(alloc: Global) -> Result<TableLine<Global>, AllocError> {
-    Ok(TableLine::Plan(PlanLine {
-        name: "p1".to_string(alloc)?,
-        author: "ada".to_string(alloc)?,
-        text: "deactivate A\n".to_string(alloc)?,
-        state: "active".to_string(alloc)?,
-        position: 1,
-    }))
-}
-
-fn approval(alloc: Global) -> Result<TableLine<Global>, AllocError> {
-    Ok(TableLine::Approval(ApprovalLine {
-        plan: "p1".to_string(alloc)?,
-        caller: "bob".to_string(alloc)?,
-        revision: 6,
-    }))
-}
-
-fn undo(alloc: Global) -> Result<TableLine<Global>, AllocError> {
-    Ok(TableLine::Undo(UndoLine {
-        plan: "p1".to_string(alloc)?,
-        sign: "-".to_string(alloc)?,
-        entry: "meta active.A s1".to_string(alloc)?,
-    }))
-}
-
-fn path(alloc: Global) -> Result<TableLine<Global>, AllocError> {
-    Ok(TableLine::Path(PathLine {
-        host: "db1".to_string(alloc)?,
-        fabric: "A".to_string(alloc)?,
-        initiator: "1000000000000001".to_string(alloc)?,
-        target: "5000000000000001".to_string(alloc)?,
-        volume: "v1".to_string(alloc)?,
-        lun: 16383,
-    }))
-}
-
-/// How many kinds of lines there are.
-pub(crate) const KINDS: usize = 12;
-
-/// The line of one table, by its place.
-pub(crate) fn line_at(alloc: Global, at: usize) -> Result<TableLine<Global>, AllocError> {
-    match at {
-        0 => meta(alloc),
-        1 => port(alloc),
-        2 => holder(alloc),
-        3 => volume(alloc),
-        4 => zoning(alloc),
-        5 => active(alloc),
-        6 => group(alloc),
-        7 => part(alloc),
-        8 => plan(alloc),
-        9 => approval(alloc),
-        10 => undo(alloc),
-        _ => path(alloc),
+/// The text of a column, or null.
+fn text_or_null(rt: &(impl Abort + AllocGlobal), text: &str, place: usize) -> Option<String> {
+    if word(text, place).is_empty() {
+        None
+    } else {
+        Some(text_at(rt, text, place))
     }
+}
+
+/// The number of a column.
+fn number_at(rt: &impl Abort, text: &str, place: usize) -> i64 {
+    word(text, place).parse::<i64>().expect(rt, "a number")
+}
+
+/// The number of a column, or null.
+fn number_or_null(rt: &impl Abort, text: &str, place: usize) -> Option<i64> {
+    if word(text, place).is_empty() {
+        None
+    } else {
+        Some(number_at(rt, text, place))
+    }
+}
+
+fn meta(rt: &(impl Abort + AllocGlobal), text: &str) -> MetaLine<Global> {
+    MetaLine {
+        key: text_at(rt, text, 1),
+        value: text_at(rt, text, 2),
+    }
+}
+
+fn port(rt: &(impl Abort + AllocGlobal), text: &str) -> PortLine<Global> {
+    PortLine {
+        wwpn: text_at(rt, text, 1),
+        wwnn: text_at(rt, text, 2),
+        fabric: text_or_null(rt, text, 3),
+        domain: number_or_null(rt, text, 4),
+        slot: number_or_null(rt, text, 5),
+        holder: text_or_null(rt, text, 6),
+    }
+}
+
+fn holder(rt: &(impl Abort + AllocGlobal), text: &str) -> HolderLine<Global> {
+    HolderLine {
+        name: text_at(rt, text, 1),
+        kind: text_at(rt, text, 2),
+        tenant: text_at(rt, text, 3),
+    }
+}
+
+fn volume(rt: &(impl Abort + AllocGlobal), text: &str) -> VolumeLine<Global> {
+    VolumeLine {
+        name: text_at(rt, text, 1),
+        array: text_at(rt, text, 2),
+        tenant: text_at(rt, text, 3),
+        bytes: number_at(rt, text, 4),
+    }
+}
+
+fn zoning(rt: &(impl Abort + AllocGlobal), text: &str) -> ZoningLine<Global> {
+    ZoningLine {
+        fabric: text_at(rt, text, 1),
+        kind: text_at(rt, text, 2),
+        name: text_at(rt, text, 3),
+        item: text_at(rt, text, 4),
+    }
+}
+
+fn active(rt: &(impl Abort + AllocGlobal), text: &str) -> ActiveLine<Global> {
+    ActiveLine {
+        fabric: text_at(rt, text, 1),
+        zone: text_at(rt, text, 2),
+        member: text_at(rt, text, 3),
+    }
+}
+
+fn group(rt: &(impl Abort + AllocGlobal), text: &str) -> GroupLine<Global> {
+    GroupLine {
+        kind: text_at(rt, text, 1),
+        name: text_at(rt, text, 2),
+        tenant: text_at(rt, text, 3),
+        array: text_at(rt, text, 4),
+        exposed: number_at(rt, text, 5),
+    }
+}
+
+fn part(rt: &(impl Abort + AllocGlobal), text: &str) -> PartLine<Global> {
+    PartLine {
+        kind: text_at(rt, text, 1),
+        name: text_at(rt, text, 2),
+        part: text_at(rt, text, 3),
+        item: text_at(rt, text, 4),
+        volume: text_at(rt, text, 5),
+    }
+}
+
+fn plan(rt: &(impl Abort + AllocGlobal), text: &str) -> PlanLine<Global> {
+    PlanLine {
+        name: text_at(rt, text, 1),
+        author: text_at(rt, text, 2),
+        text: text_at(rt, text, 3),
+        state: text_at(rt, text, 4),
+        position: number_at(rt, text, 5),
+    }
+}
+
+fn approval(rt: &(impl Abort + AllocGlobal), text: &str) -> ApprovalLine<Global> {
+    ApprovalLine {
+        plan: text_at(rt, text, 1),
+        caller: text_at(rt, text, 2),
+        revision: number_at(rt, text, 3),
+    }
+}
+
+fn undo(rt: &(impl Abort + AllocGlobal), text: &str) -> UndoLine<Global> {
+    UndoLine {
+        plan: text_at(rt, text, 1),
+        sign: text_at(rt, text, 2),
+        entry: text_at(rt, text, 3),
+    }
+}
+
+fn path(rt: &(impl Abort + AllocGlobal), text: &str) -> PathLine<Global> {
+    PathLine {
+        host: text_at(rt, text, 1),
+        fabric: text_at(rt, text, 2),
+        initiator: text_at(rt, text, 3),
+        target: text_at(rt, text, 4),
+        volume: text_at(rt, text, 5),
+        lun: number_at(rt, text, 6),
+    }
+}
+
+/// The line of a text.
+pub fn line_of(rt: &(impl Abort + AllocGlobal), text: &str) -> TableLine<Global> {
+    match word(text, 0) {
+        "meta" => TableLine::Meta(meta(rt, text)),
+        "ports" => TableLine::Port(port(rt, text)),
+        "holders" => TableLine::Holder(holder(rt, text)),
+        "volumes" => TableLine::Volume(volume(rt, text)),
+        "zoning" => TableLine::Zoning(zoning(rt, text)),
+        "active" => TableLine::Active(active(rt, text)),
+        "groups" => TableLine::Group(group(rt, text)),
+        "group_parts" => TableLine::Part(part(rt, text)),
+        "plans" => TableLine::Plan(plan(rt, text)),
+        "approvals" => TableLine::Approval(approval(rt, text)),
+        "undo" => TableLine::Undo(undo(rt, text)),
+        _ => TableLine::Path(path(rt, text)),
+    }
+}
+
+/// The lines of the texts.
+pub fn lines_of(rt: &(impl Abort + AllocGlobal), texts: &[&str]) -> Vec<TableLine<Global>> {
+    let mut lines = Vec::new(rt.alloc());
+    for text in texts {
+        lines.push(line_of(rt, text)).expect(rt, "memory");
+    }
+    lines
 }

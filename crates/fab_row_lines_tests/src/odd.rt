@@ -6,9 +6,8 @@ use fab_names::{Name, Wwn};
 use fab_row_lines::{TableLines, paths_in, world_of_lines};
 use fab_row_lines_base::lines_of_rows;
 use fab_rows::{ApprovalRow, ConfigRow, CountRow, PartRow, StoragePart, TableRows, VolumeRow};
-use fab_world::World;
 use std::alloc::Global;
-use std::test::Fail;
+use std::process::Abort;
 
 /// A line of paths that shows no path.
 const ODD_PATH: &str = "paths|db1|A|1000000000000001|5000000000000001|v1|-1";
@@ -49,140 +48,115 @@ const MISSING: &[(usize, Table)] = &[
 ];
 
 /// Puts the lines of the world, but for the one at a place.
-fn put_world(alloc: Global, lines: &mut TableLines, without: Option<usize>) -> Result<(), Fail> {
+fn put_world(rt: &(impl Abort + AllocGlobal), lines: &mut TableLines, without: Option<usize>) {
     for (place, text) in WORLD.iter().enumerate() {
         if Some(place) != without {
-            put_line(alloc, lines, text)?;
+            put_line(rt, lines, text);
         }
-    }
-    Ok(())
-}
-
-/// Puts the lines of the world, but for the one at a place, and with one more.
-fn put_odd(
-    alloc: Global,
-    lines: &mut TableLines,
-    without: Option<usize>,
-    more: Option<&str>,
-) -> Result<(), Fail> {
-    put_world(alloc, lines, without)?;
-    match more {
-        Some(text) => put_line(alloc, lines, text),
-        None => Ok(()),
-    }
-}
-
-/// The table that is told of an opening.
-fn table_of(opened: &Result<World<Global>, LoadFault>) -> Result<Option<Table>, Fail> {
-    match opened {
-        Ok(_world) => Ok(None),
-        Err(LoadFault::Damaged(table)) => Ok(Some(*table)),
-        Err(LoadFault::Memory) => Err(Fail::from("memory")),
     }
 }
 
 /// The table that is told of the lines.
-fn told_of(alloc: Global, lines: &TableLines) -> Result<Option<Table>, Fail> {
-    let opened = world_of_lines(alloc, lines);
-    table_of(&opened)
+fn told_of(rt: &(impl Abort + AllocGlobal), lines: &TableLines) -> Option<Table> {
+    match world_of_lines(rt.alloc(), lines) {
+        Ok(_world) => None,
+        Err(LoadFault::Damaged(table)) => Some(table),
+        Err(LoadFault::Memory) => panic!(rt; "memory"),
+    }
 }
 
 /// The table that is told of the lines of the world, but for the one at a place, and with one more.
-fn told(alloc: Global, without: Option<usize>, more: Option<&str>) -> Result<Option<Table>, Fail> {
-    let mut lines = no_lines(alloc);
-    put_odd(alloc, &mut lines, without, more)?;
-    told_of(alloc, &lines)
+fn told(
+    rt: &(impl Abort + AllocGlobal),
+    without: Option<usize>,
+    more: Option<&str>,
+) -> Option<Table> {
+    let mut lines = no_lines(rt.alloc());
+    put_world(rt, &mut lines, without);
+    if let Some(text) = more {
+        put_line(rt, &mut lines, text);
+    }
+    told_of(rt, &lines)
 }
 
 #[test]
-fn odd_lines_are_told(rt: HostRuntime) -> Result<(), Fail> {
+fn odd_lines_are_told(rt: HostRuntime) {
     for &(more, table) in ODD {
-        assert!(rt; told(rt.alloc(), None, more)? == table);
+        assert!(rt; told(&rt, None, more) == table);
     }
-    Ok(())
 }
 
 #[test]
-fn missing_lines_are_told(rt: HostRuntime) -> Result<(), Fail> {
+fn missing_lines_are_told(rt: HostRuntime) {
     for &(place, table) in MISSING {
-        assert!(rt; told(rt.alloc(), Some(place), None)? == Some(table));
+        assert!(rt; told(&rt, Some(place), None) == Some(table));
     }
-    Ok(())
 }
 
-fn name(text: &str) -> Result<Name, Fail> {
-    Ok(Name::read(text)?)
+fn name(rt: &impl Abort, text: &str) -> Name {
+    Name::read(text).expect(rt, "a name")
 }
 
 /// The row of a unit.
-fn part(unit: u16) -> Result<ConfigRow, Fail> {
-    let part = StoragePart::Unit(unit, name("v1")?);
-    Ok(ConfigRow::Part(PartRow::Storage(name("g1")?, part)))
+fn part(rt: &impl Abort, unit: u16) -> ConfigRow {
+    let part = StoragePart::Unit(unit, name(rt, "v1"));
+    ConfigRow::Part(PartRow::Storage(name(rt, "g1"), part))
 }
 
 /// The row of a volume.
-fn volume(bytes: u64) -> Result<VolumeRow, Fail> {
-    Ok(VolumeRow {
-        name: name("v1")?,
-        array: name("arr1")?,
-        tenant: name("blue")?,
+fn volume(rt: &impl Abort, bytes: u64) -> VolumeRow {
+    VolumeRow {
+        name: name(rt, "v1"),
+        array: name(rt, "arr1"),
+        tenant: name(rt, "blue"),
         bytes,
-    })
+    }
 }
 
 /// The row of an approval.
-fn approval(revision: u64) -> Result<ApprovalRow, Fail> {
-    Ok(ApprovalRow {
-        plan: name("p1")?,
-        caller: name("bob")?,
+fn approval(rt: &impl Abort, revision: u64) -> ApprovalRow {
+    ApprovalRow {
+        plan: name(rt, "p1"),
+        caller: name(rt, "bob"),
         revision,
-    })
+    }
 }
 
 /// The greatest number that a database keeps.
 const MOST: u64 = 9_223_372_036_854_775_807;
 
-fn volumes(alloc: Global, bytes: u64) -> Result<Vec<VolumeRow>, Fail> {
-    Ok([volume(bytes)?].to_vec(alloc)?)
-}
-
-fn parts(alloc: Global, unit: u16) -> Result<Vec<ConfigRow>, Fail> {
-    Ok([part(unit)?].to_vec(alloc)?)
-}
-
-fn approvals(alloc: Global, revision: u64) -> Result<Vec<ApprovalRow>, Fail> {
-    Ok([approval(revision)?].to_vec(alloc)?)
+/// A list of one row.
+fn one<R: Drop>(rt: &(impl Abort + AllocGlobal), row: R) -> Vec<R> {
+    let mut rows = Vec::new(rt.alloc());
+    rows.push(row).expect(rt, "memory");
+    rows
 }
 
 /// A row of each table that keeps a number.
-fn rows(alloc: Global, unit: u16, bytes: u64, revision: u64) -> Result<TableRows<Global>, Fail> {
-    let counts = [CountRow::Revision(revision)].to_vec(alloc)?;
-    let volumes = volumes(alloc, bytes)?;
-    let config = parts(alloc, unit)?;
-    let approvals = approvals(alloc, revision)?;
-    Ok(TableRows {
-        counts,
-        ports: Vec::new(alloc),
-        holders: Vec::new(alloc),
-        volumes,
-        config,
-        plans: Vec::new(alloc),
-        approvals,
-        undo: Vec::new(alloc),
-        paths: Vec::new(alloc),
-    })
-}
-
-/// How many lines show the rows.
-fn line_count(alloc: Global, rows: &TableRows<Global>) -> Result<usize, Fail> {
-    let lines = lines_of_rows(alloc, rows)?;
-    Ok(lines.len())
+fn rows(
+    rt: &(impl Abort + AllocGlobal),
+    unit: u16,
+    bytes: u64,
+    revision: u64,
+) -> TableRows<Global> {
+    TableRows {
+        counts: one(rt, CountRow::Revision(revision)),
+        ports: Vec::new(rt.alloc()),
+        holders: Vec::new(rt.alloc()),
+        volumes: one(rt, volume(rt, bytes)),
+        config: one(rt, part(rt, unit)),
+        plans: Vec::new(rt.alloc()),
+        approvals: one(rt, approval(rt, revision)),
+        undo: Vec::new(rt.alloc()),
+        paths: Vec::new(rt.alloc()),
+    }
 }
 
 /// How many lines show rows with these numbers.
-fn shown(alloc: Global, unit: u16, bytes: u64, revision: u64) -> Result<usize, Fail> {
-    let rows = rows(alloc, unit, bytes, revision)?;
-    line_count(alloc, &rows)
+fn shown(rt: &(impl Abort + AllocGlobal), unit: u16, bytes: u64, revision: u64) -> usize {
+    let rows = rows(rt, unit, bytes, revision);
+    let lines = lines_of_rows(rt.alloc(), &rows).expect(rt, "memory");
+    lines.len()
 }
 
 /// Units, bytes and revisions, and how many of four rows with them are shown.
@@ -195,11 +169,10 @@ const NUMBERS: &[(u16, u64, u64, usize)] = &[
 ];
 
 #[test]
-fn numbers_that_no_database_keeps_are_not_shown(rt: HostRuntime) -> Result<(), Fail> {
+fn numbers_that_no_database_keeps_are_not_shown(rt: HostRuntime) {
     for &(unit, bytes, revision, lines) in NUMBERS {
-        assert!(rt; shown(rt.alloc(), unit, bytes, revision)? == lines);
+        assert_eq!(rt; shown(&rt, unit, bytes, revision), lines);
     }
-    Ok(())
 }
 
 /// Lines of paths, one of them twice.
@@ -218,21 +191,20 @@ const UNITS: &[u16] = &[0, 1, 2];
 
 /// Whether the paths of the lines lead from this port to the units, or none where a line shows no
 /// path.
-fn lead(alloc: Global, lines: &TableLines, port: Wwn) -> Result<Option<bool>, Fail> {
-    let Some(paths) = paths_in(alloc, lines.paths.as_slice())? else {
-        return Ok(None);
+fn lead(rt: &(impl Abort + AllocGlobal), lines: &TableLines, port: Wwn) -> Option<bool> {
+    let Some(paths) = paths_in(rt.alloc(), lines.paths.as_slice()).expect(rt, "memory") else {
+        return None;
     };
     let mut are_alike = paths.len() == UNITS.len();
     for (path, unit) in paths.iter().zip(UNITS) {
         are_alike = are_alike && path.initiator == port && path.unit == *unit;
     }
-    Ok(Some(are_alike))
+    Some(are_alike)
 }
 
 /// The same of the lines of these texts.
-fn texts_lead(alloc: Global, texts: &[&str]) -> Result<Option<bool>, Fail> {
-    let lines = lines(alloc, texts)?;
-    lead(alloc, &lines, Wwn::new(PORT))
+fn texts_lead(rt: &(impl Abort + AllocGlobal), texts: &[&str]) -> Option<bool> {
+    lead(rt, &lines(rt, texts), Wwn::new(PORT))
 }
 
 /// One of those lines, and one that shows no path.
@@ -245,9 +217,8 @@ const ODD_PATHS: &[&str] = &[
 const LISTS: &[(&[&str], Option<bool>)] = &[(PATHS, Some(true)), (ODD_PATHS, None)];
 
 #[test]
-fn paths_are_listed_once_and_in_order(rt: HostRuntime) -> Result<(), Fail> {
+fn paths_are_listed_once_and_in_order(rt: HostRuntime) {
     for &(texts, are_alike) in LISTS {
-        assert!(rt; texts_lead(rt.alloc(), texts)? == are_alike);
+        assert!(rt; texts_lead(&rt, texts) == are_alike);
     }
-    Ok(())
 }

@@ -2,8 +2,8 @@
 
 use fab_sql::{create_text, delete_text, insert_text, paths_text, select_text};
 use fab_tables::Table;
-use std::alloc::AllocError;
 use std::collections::BTreeSet;
+use std::process::Abort;
 
 /// How many plans of statements a connection keeps, by their texts.
 const KEPT_PLANS: usize = 64;
@@ -24,22 +24,20 @@ const TABLES: &[Table] = &[
 ];
 
 /// Puts the statements of a table among the others.
-fn put_texts(texts: &mut BTreeSet<&'static str>, table: Table) -> Result<(), AllocError> {
-    texts.insert(create_text(table))?;
-    texts.insert(insert_text(table))?;
-    texts.insert(delete_text(table))?;
-    texts.insert(select_text(table))?;
-    Ok(())
+fn put_texts(rt: &impl Abort, texts: &mut BTreeSet<&'static str>, table: Table) {
+    texts.insert(create_text(table)).expect(rt, "memory");
+    texts.insert(insert_text(table)).expect(rt, "memory");
+    texts.insert(delete_text(table)).expect(rt, "memory");
+    texts.insert(select_text(table)).expect(rt, "memory");
 }
 
 #[test]
-fn plans_of_all_statements_are_kept(rt: HostRuntime) -> Result<(), AllocError> {
+fn plans_of_all_statements_are_kept(rt: HostRuntime) {
     let mut texts = BTreeSet::new(rt.alloc());
     for &table in TABLES {
-        put_texts(&mut texts, table)?;
+        put_texts(&rt, &mut texts, table);
     }
-    texts.insert(paths_text())?;
+    texts.insert(paths_text()).expect(&rt, "memory");
     assert!(rt; texts.len() == 4 * TABLES.len() + 1);
     assert!(rt; texts.len() < KEPT_PLANS);
-    Ok(())
 }

@@ -1,90 +1,38 @@
 //! A world that is opened from lines, and its lines.
 
-use crate::stored::{WORLD, add, lines, no_lines};
-use fab_changes::{Changes, changes, rows_of};
+use crate::stored::{WORLD, lines, no_lines, put};
+use fab_changes::{changes, rows_of};
 use fab_row_lines::{TableLines, change_lines, world_of_lines};
 use fab_row_lines_base::lines_of_rows;
-use fab_rows::TableRows;
-use fab_tables::{LineChanges, TableLine};
+use fab_tables::TableLine;
 use fab_world::World;
 use std::alloc::Global;
-use std::test::Fail;
-
-/// Puts a line into its table.
-fn put(lines: &mut TableLines, line: TableLine<Global>) -> Result<(), Fail> {
-    match line {
-        TableLine::Meta(line) => add(&mut lines.meta, line),
-        TableLine::Port(line) => add(&mut lines.ports, line),
-        TableLine::Holder(line) => add(&mut lines.holders, line),
-        TableLine::Volume(line) => add(&mut lines.volumes, line),
-        TableLine::Zoning(line) => add(&mut lines.zoning, line),
-        TableLine::Active(line) => add(&mut lines.active, line),
-        TableLine::Group(line) => add(&mut lines.groups, line),
-        TableLine::Part(line) => add(&mut lines.parts, line),
-        TableLine::Plan(line) => add(&mut lines.plans, line),
-        TableLine::Approval(line) => add(&mut lines.approvals, line),
-        TableLine::Undo(line) => add(&mut lines.undo, line),
-        TableLine::Path(line) => add(&mut lines.paths, line),
-    }
-}
+use std::process::Abort;
 
 /// Puts the lines, each into its table.
-fn put_each(lines: &mut TableLines, found: Vec<TableLine<Global>>) -> Result<(), Fail> {
+fn put_each(rt: &impl Abort, lines: &mut TableLines, found: Vec<TableLine<Global>>) {
     for line in found {
-        put(lines, line)?;
+        put(rt, lines, line);
     }
-    Ok(())
-}
-
-/// The lines, each in its table.
-fn by_table(alloc: Global, found: Vec<TableLine<Global>>) -> Result<TableLines, Fail> {
-    let mut lines = no_lines(alloc);
-    put_each(&mut lines, found)?;
-    Ok(lines)
-}
-
-/// How many lines each table has.
-type Counts = [usize; 12];
-
-/// How many lines each table has.
-fn counts(lines: &TableLines) -> Counts {
-    [
-        lines.meta.len(),
-        lines.ports.len(),
-        lines.holders.len(),
-        lines.volumes.len(),
-        lines.zoning.len(),
-        lines.active.len(),
-        lines.groups.len(),
-        lines.parts.len(),
-        lines.plans.len(),
-        lines.approvals.len(),
-        lines.undo.len(),
-        lines.paths.len(),
-    ]
-}
-
-/// The lines of the rows.
-fn rows_shown(alloc: Global, rows: &TableRows<Global>) -> Result<TableLines, Fail> {
-    let found = lines_of_rows(alloc, rows)?;
-    by_table(alloc, found)
 }
 
 /// The lines of a world.
-fn lines_of(alloc: Global, world: &World<Global>) -> Result<TableLines, Fail> {
-    let rows = rows_of(alloc, world)?;
-    rows_shown(alloc, &rows)
+fn lines_of(rt: &(impl Abort + AllocGlobal), world: &World<Global>) -> Vec<TableLine<Global>> {
+    let rows = rows_of(rt.alloc(), world).expect(rt, "rows");
+    lines_of_rows(rt.alloc(), &rows).expect(rt, "lines")
 }
 
 /// The world of the lines.
-fn world_of(alloc: Global, lines: &TableLines) -> Result<World<Global>, Fail> {
-    Ok(world_of_lines(alloc, lines)?)
+fn world_of(rt: &(impl Abort + AllocGlobal), found: Vec<TableLine<Global>>) -> World<Global> {
+    let mut lines = no_lines(rt.alloc());
+    put_each(rt, &mut lines, found);
+    world_of_lines(rt.alloc(), &lines).expect(rt, "a world")
 }
 
 /// The world of the texts.
-fn world(alloc: Global) -> Result<World<Global>, Fail> {
-    let lines = lines(alloc, WORLD)?;
-    world_of(alloc, &lines)
+fn world(rt: &(impl Abort + AllocGlobal)) -> World<Global> {
+    let lines = lines(rt, WORLD);
+    world_of_lines(rt.alloc(), &lines).expect(rt, "a world")
 }
 
 /// The place of a line's table.
@@ -105,111 +53,80 @@ fn place(line: &TableLine<Global>) -> usize {
     }
 }
 
-/// How many of the lines are of each table.
-fn count_each(lines: &[TableLine<Global>]) -> Counts {
-    let mut counts = NONE;
+/// How many of the lines are of the table of this place.
+fn count_at(lines: &[TableLine<Global>], at: usize) -> usize {
+    let mut count: usize = 0;
     for line in lines {
-        if let Some(count) = counts.get_mut(place(line)) {
-            *count = count.saturating_add(1);
+        if place(line) == at {
+            count = count.saturating_add(1);
         }
     }
-    counts
+    count
 }
 
-/// How many lines are removed, and how many are added.
-fn sizes(found: &LineChanges<Global>) -> (Counts, Counts) {
-    (
-        count_each(found.removed.as_slice()),
-        count_each(found.added.as_slice()),
-    )
+/// Whether so many of the lines are of each table.
+fn are_of(lines: &[TableLine<Global>], counts: &[usize]) -> bool {
+    for (at, count) in counts.iter().enumerate() {
+        if count_at(lines, at) != *count {
+            return false;
+        }
+    }
+    true
 }
 
-/// How many lines show the rows that are removed, and how many those that are added.
-fn rows_sizes(alloc: Global, rows: &Changes<Global>) -> Result<(Counts, Counts), Fail> {
-    let found = change_lines(alloc, rows)?;
-    Ok(sizes(&found))
-}
-
-/// How many lines lead from one world to another: those to remove, and those to add.
-fn steps(
-    alloc: Global,
+/// Whether so many lines of each table lead from one world to another: those to remove, and those to
+/// add.
+fn lead(
+    rt: &(impl Abort + AllocGlobal),
     before: &World<Global>,
     after: &World<Global>,
-) -> Result<(Counts, Counts), Fail> {
-    let rows = changes(alloc, before, after)?;
-    rows_sizes(alloc, &rows)
+    removed: &[usize],
+    added: &[usize],
+) -> bool {
+    let rows = changes(rt.alloc(), before, after).expect(rt, "changes");
+    let found = change_lines(rt.alloc(), &rows).expect(rt, "lines");
+    are_of(found.removed.as_slice(), removed) && are_of(found.added.as_slice(), added)
 }
 
-const NONE: Counts = [0; 12];
+const NONE: &[usize] = &[0, 0, 0, 0, 0, 0, 0, 0, 0, 0, 0, 0];
 
 /// How many lines each table of the world has.
-const SIZES: Counts = [6, 6, 3, 2, 4, 2, 2, 4, 1, 1, 14, 1];
+const SIZES: &[usize] = &[6, 6, 3, 2, 4, 2, 2, 4, 1, 1, 14, 1];
 
-/// Whether so many lines lead from one world to another.
-fn lead(
-    alloc: Global,
-    before: &World<Global>,
-    after: &World<Global>,
-    sizes: (Counts, Counts),
-) -> Result<bool, Fail> {
-    Ok(steps(alloc, before, after)? == sizes)
+/// Whether the world is written as lines of which it is opened again: no line leads from the one to the
+/// other.
+fn is_written(rt: &(impl Abort + AllocGlobal), world: &World<Global>) -> bool {
+    let found = lines_of(rt, world);
+    assert!(rt; are_of(found.as_slice(), SIZES));
+    lead(rt, world, &world_of(rt, found), NONE, NONE)
 }
 
-/// Whether no line leads from the world to that of the lines.
-fn is_opened(alloc: Global, world: &World<Global>, lines: &TableLines) -> Result<bool, Fail> {
-    let other = world_of(alloc, lines)?;
-    lead(alloc, world, &other, (NONE, NONE))
-}
-
-/// Whether the world is written as lines of which it is opened again.
-fn is_written(alloc: Global, world: &World<Global>) -> Result<bool, Fail> {
-    let again = lines_of(alloc, world)?;
-    Ok(counts(&again) == SIZES && is_opened(alloc, world, &again)?)
-}
-
-/// Whether the world has this revision, and is written and opened again.
-fn is_kept(alloc: Global, world: &World<Global>, revision: u64) -> Result<bool, Fail> {
-    Ok(world.revision == revision && is_written(alloc, world)?)
-}
-
-/// The same of the world of the texts.
-fn are_texts_kept(alloc: Global, revision: u64) -> Result<bool, Fail> {
-    let world = world(alloc)?;
-    is_kept(alloc, &world, revision)
+/// Whether the world of the texts has this revision, and is written and opened again.
+fn are_texts_kept(rt: &(impl Abort + AllocGlobal), revision: u64) -> bool {
+    let world = world(rt);
+    world.revision == revision && is_written(rt, &world)
 }
 
 #[test]
-fn a_world_is_opened_and_written_again(rt: HostRuntime) -> Result<(), Fail> {
-    assert!(rt; are_texts_kept(rt.alloc(), 7)?);
-    Ok(())
+fn a_world_is_opened_and_written_again(rt: HostRuntime) {
+    assert!(rt; are_texts_kept(&rt, 7));
 }
 
 /// The lines of a new world that the world does not have: the revision and the active zone set of
 /// fabric A are others.
-const REMOVED: Counts = [2, 0, 0, 0, 0, 0, 0, 0, 0, 0, 0, 0];
+const REMOVED: &[usize] = &[2, 0, 0, 0, 0, 0, 0, 0, 0, 0, 0, 0];
 
 /// The lines of the world that a new world does not have.
-const ADDED: Counts = [2, 6, 3, 2, 4, 2, 2, 4, 1, 1, 14, 1];
+const ADDED: &[usize] = &[2, 6, 3, 2, 4, 2, 2, 4, 1, 1, 14, 1];
 
-/// Whether these lines lead from the new world to the other, and the same back.
-fn lead_both_ways(alloc: Global, new: &World<Global>, world: &World<Global>) -> Result<bool, Fail> {
-    Ok(lead(alloc, new, world, (REMOVED, ADDED))? && lead(alloc, world, new, (ADDED, REMOVED))?)
-}
-
-/// The same of a new world.
-fn is_changed(alloc: Global, world: &World<Global>) -> Result<bool, Fail> {
-    let new = World::new(alloc);
-    lead_both_ways(alloc, &new, world)
-}
-
-/// The same of the world of the texts.
-fn are_texts_changed(alloc: Global) -> Result<bool, Fail> {
-    let world = world(alloc)?;
-    is_changed(alloc, &world)
+/// Whether these lines lead from a new world to that of the texts, and the same back.
+fn are_texts_changed(rt: &(impl Abort + AllocGlobal)) -> bool {
+    let new = World::new(rt.alloc());
+    let world = world(rt);
+    lead(rt, &new, &world, REMOVED, ADDED) && lead(rt, &world, &new, ADDED, REMOVED)
 }
 
 #[test]
-fn a_new_world_is_changed(rt: HostRuntime) -> Result<(), Fail> {
-    assert!(rt; are_texts_changed(rt.alloc())?);
-    Ok(())
+fn a_new_world_is_changed(rt: HostRuntime) {
+    assert!(rt; are_texts_changed(&rt));
 }
