@@ -115,7 +115,8 @@ fn look<S: Store<Global>>(
     }
 }
 
-/// Does the work with tables, and tells after how many turns they stand, with the tables.
+/// Does the work with the tables: how many turns were answered, or after how many the tables stand, with
+/// the tables.
 fn work_with<S: Store<Global>>(
     rt: &(impl Abort + AllocGlobal),
     tables: S,
