@@ -2,8 +2,8 @@
 """Times library calls by the program `fab_bench`, and prints a table of ratios.
 
 Each case runs at a quarter, half and whole of its size; the ratio is the time there over the time
-at half of that size. Run it by hand from the top, after `(cd crates/fab_bench && rt run -- each /tmp/new.db 2)` has
-built the program.
+at half of that size. Run it by hand from the top, after
+`(cd crates/fab_bench && rt run -- each /tmp/new.db 2)` has built the program.
 """
 import pathlib
 import subprocess
