@@ -36,6 +36,11 @@ action_of (Activate n) = Some action.Activate
 action_of (Rollback n) = Some action.Rollback
 action_of (Show q) = None
 
+-- the command stages a plan
+abbrev pub IsStaging : {A : Type 0} → Command A → Type 0
+IsStaging (Stage n steps) = Unit {0}
+IsStaging _ = ⊥
+
 -- whether the revision counts the command
 abbrev pub is_counted : {A : Type 0} → Command A → Bool
 is_counted (Stage n steps) = false

@@ -1,4 +1,5 @@
 //! What a caller asks of the desk.
+ghost use Rattle.std.specs.Prelude.{◌≡◌};
 
 use fab_inventory::{HolderKind, PortRow, Volume};
 use fab_names::{Fabric, Name, Wwn};
@@ -10,7 +11,6 @@ use std::alloc::Allocator;
 /// The first three changes have values that a body gives. A body gives at most 64 ports (equal
 /// ones counted), a capacity of 1 to 9223372036854775807 bytes, and 1 to 200 steps whose printed
 /// form has at most 65536 bytes; a command with other values is answered as a bad body.
-#[derive(Drop)]
 pub enum Command<A: Allocator + Copy> {
     /// Takes over the whole list of the ports that are logged in at a fabric.
     Import {
@@ -65,6 +65,47 @@ pub enum Command<A: Allocator + Copy> {
     },
     /// Shows something.
     Show(Query),
+}
+
+// It is written out, so that a caller does not prove again how each part is dropped.
+impl<A: Allocator + Copy> Drop for Command<A> {
+    fn drop(self) {
+        match self {
+            Command::Import { fabric: _, rows: _ } => {}
+            Command::PutHolder {
+                kind: _,
+                name: _,
+                tenant: _,
+                ports: _,
+            } => {}
+            Command::PutVolume { name: _, volume: _ } => {}
+            Command::DropHolder { kind: _, name: _ } => {}
+            Command::DropVolume { name: _ } => {}
+            Command::Stage { plan: _, steps: _ } => {}
+            Command::Withdraw { plan: _ } => {}
+            Command::Approve { plan: _ } => {}
+            Command::DryRun { plan: _ } => {}
+            Command::Activate { plan: _ } => {}
+            Command::Rollback { plan: _ } => {}
+            Command::Show(_) => {}
+        }
+    }
+}
+
+impl<A: Allocator + Copy> Command<A> {
+    ghost use Rattle.fab_desk_base.specs.Commands.{IsStaging};
+    ghost use Rattle.fab_desk_base.specs.declared.command.Command.TheVariants.{Stage};
+
+    /// The name and the steps of the plan that the command stages. It has to stage one.
+    pub fn into_staged(self) -> (Name, Vec<Step<A>, A>)
+        requires { IsStaging self }
+        ensures { self ≡ Stage result.0 result.1 }
+    {
+        match self {
+            Command::Stage { plan, steps } => (plan, steps),
+            _ => unreachable!(),
+        }
+    }
 }
 
 /// What a read asks for. A read meets no rule of the policy and changes nothing.

@@ -10,7 +10,6 @@ use fab_zoning::DefaultFlag;
 use std::alloc::Allocator;
 
 /// What the desk answers to a command.
-#[derive(Drop)]
 pub enum Reply<A: Allocator + Copy> {
     /// An import, a put or a drop was done: the revision after it.
     Changed {
@@ -46,6 +45,30 @@ pub enum Reply<A: Allocator + Copy> {
     Shown(Shown<A>),
     /// The command was refused.
     Refused(DeskFault),
+}
+
+// It is written out, so that a caller does not prove again how each part is dropped.
+impl<A: Allocator + Copy> Drop for Reply<A> {
+    fn drop(self) {
+        match self {
+            Reply::Changed { revision: _ } => {}
+            Reply::Staged { plan: _, steps: _ } => {}
+            Reply::Withdrawn { plan: _ } => {}
+            Reply::Approved {
+                plan: _,
+                approvals: _,
+                revision: _,
+            } => {}
+            Reply::Tried { plan: _, delta: _ } => {}
+            Reply::Reconfigured {
+                plan: _,
+                delta: _,
+                revision: _,
+            } => {}
+            Reply::Shown(_) => {}
+            Reply::Refused(_) => {}
+        }
+    }
 }
 
 /// Why two ports may communicate.
@@ -98,7 +121,6 @@ pub struct ShownPlan<A: Allocator + Copy> {
 
 /// What a read shows. Lists are in order and have each item once: names by their bytes,
 /// world-wide names and units as numbers, members by their kind and then by number or name.
-#[derive(Drop)]
 pub enum Shown<A: Allocator + Copy> {
     /// The paths of a host.
     Paths {
@@ -150,4 +172,44 @@ pub enum Shown<A: Allocator + Copy> {
         flag: DefaultFlag,
         zones: Vec<ZoneMembers<A>, A>,
     },
+}
+
+// It is written out, so that a caller does not prove again how each part is dropped.
+impl<A: Allocator + Copy> Drop for Shown<A> {
+    fn drop(self) {
+        match self {
+            Shown::Paths { host: _, paths: _ } => {}
+            Shown::Joined(_) => {}
+            Shown::Port {
+                name: _,
+                node: _,
+                at: _,
+            } => {}
+            Shown::Holder(_) => {}
+            Shown::Volume { name: _, volume: _ } => {}
+            Shown::HostGroup {
+                name: _,
+                tenant: _,
+                hosts: _,
+            } => {}
+            Shown::Group(_) => {}
+            Shown::Plan(_) => {}
+            Shown::Members {
+                fabric: _,
+                name: _,
+                members: _,
+            } => {}
+            Shown::Set {
+                fabric: _,
+                name: _,
+                zones: _,
+            } => {}
+            Shown::Active {
+                fabric: _,
+                active: _,
+                flag: _,
+                zones: _,
+            } => {}
+        }
+    }
 }

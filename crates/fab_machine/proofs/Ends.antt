@@ -12,7 +12,7 @@ use Rattle.fab_next.specs.Nexts.{next_world, Suits}
 use Rattle.fab_next.specs.declared.next.Next.{Next}
 use Rattle.fab_desk_base.specs.Acts.{IsJudged}
 use Rattle.fab_desk_base.specs.Answers.{IsMove, IsReport, IsLeft, IsCarriedOut, IsOutcomeFor, IsAnswerTo, IsThere, HasPlan, IsStep}
-use Rattle.fab_desk_base.specs.Commands.{action_of, plan_of, IsGiven}
+use Rattle.fab_desk_base.specs.Commands.{action_of, plan_of, IsGiven, IsStaging}
 use Rattle.fab_desk_base.specs.Refusals.{IsFirstFault}
 use Rattle.fab_desk_base.specs.Trying.{IsTryFault}
 use Rattle.fab_desk_base.specs.declared.command.Command.{Command}
@@ -25,7 +25,7 @@ use Rattle.fab_desk_base.specs.declared.reply.Reply.TheVariants as reply
 use Rattle.fab_machine.specs.Proposals.{IsChangeFor, IsProposalFor, IsEnd, IsSenderOf, query_in, request_of}
 use Rattle.fab_machine.specs.Reports.{reply_of, TellsOf, Tells}
 use Rattle.fab_machine.proofs.TriedEffects.{no_policy}
-use Rattle.fab_machine.specs.Trials.{effect_world, HasEffect, IsStepReady, dry_run_plan_of}
+use Rattle.fab_machine.specs.Trials.{effect_world, HasEffect, IsNewPlan, IsStepReady, dry_run_plan_of}
 use Rattle.fab_machine.specs.declared.effects.Effect.{Effect}
 use Rattle.fab_machine.specs.declared.proposing.Proposal.{Proposal}
 use Rattle.fab_machine.specs.declared.proposing.Proposal.TheVariants.{Answer, Ready}
@@ -58,6 +58,21 @@ refused_or_memory w caller c fault.Halted h = inr h
 
 no_name : {n : List ℕ} → ¬ (◌≡◌ {A = Option (List ℕ)} (Some n) None)
 no_name e = absurd cc
+
+-- what makes a new plan stages it
+pub staging_of : {A : Type 0} (w : WorldRows) (c : Command A) → IsNewPlan w c → IsStaging c
+staging_of w (Stage n steps) h = tt
+staging_of w (Import f rows) h = absurd h
+staging_of w (PutHolder kind n t ports) h = absurd h
+staging_of w (PutVolume n x) h = absurd h
+staging_of w (DropHolder kind n) h = absurd h
+staging_of w (DropVolume n) h = absurd h
+staging_of w (Withdraw n) h = absurd h
+staging_of w (Approve n) h = absurd h
+staging_of w (DryRun n) h = absurd h
+staging_of w (Activate n) h = absurd h
+staging_of w (Rollback n) h = absurd h
+staging_of w (Show q) h = absurd h
 
 -- what is no dry run leaves its effect
 pub leaves : {A : Type 0} (w : WorldRows) (c : Command A) (effect new : WorldRows) → dry_run_plan_of c ≡ None → new ≡ effect → IsLeft w c effect new

@@ -63,10 +63,8 @@ fn planned_next<A: Allocator + Copy>(
     ensures world { next_world world.now result ≡ planned world.now caller command }
     ensures suits { Suits world.now result }
 {
-    match command {
-        Command::Stage { plan, steps } => staged_next(alloc, world, caller, plan, steps),
-        _ => unreachable!(),
-    }
+    let (plan, steps) = command.into_staged();
+    staged_next(alloc, world, caller, plan, steps)
 }
 
 /// The parts of the world after an effect.

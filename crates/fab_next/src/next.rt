@@ -30,7 +30,6 @@ pub enum Turn<A: Allocator + Copy> {
 
 /// The parts of the world that a change leaves others than they were. All memory for them is taken,
 /// but for the place of a plan that is new: `make_room` takes that.
-#[derive(Drop)]
 pub enum Next<A: Allocator + Copy> {
     /// The world stays as it is.
     Same,
@@ -54,6 +53,24 @@ pub enum Next<A: Allocator + Copy> {
         turn: Turn<A>,
         order: Vec<Name, A>,
     },
+}
+
+// It is written out, so that a caller does not prove again how each part is dropped.
+impl<A: Allocator + Copy> Drop for Next<A> {
+    fn drop(self) {
+        match self {
+            Next::Same => {}
+            Next::Stock(_) => {}
+            Next::Staged { name: _, plan: _ } => {}
+            Next::Turned { name: _, turn: _ } => {}
+            Next::Reconfigured {
+                config: _,
+                name: _,
+                turn: _,
+                order: _,
+            } => {}
+        }
+    }
 }
 
 /// Counts one change more.
