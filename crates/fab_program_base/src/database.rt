@@ -1,11 +1,12 @@
 //! Databases: files with the tables of a desk, and tables in memory.
+ghost use Rattle.std.specs.Prelude.{◌≡◌, false, IfOk};
 
 use crate::faults::Fault;
 use fab_policy_base::Policy;
 use fab_port_book::PortBook;
 use fab_store::{OpenFault, SqlStore, Store};
 use fab_wire::Desk;
-use sqlite::{Connection, Error, ErrorCode, File as DatabaseFile, FileStore, MemStore};
+use sqlite::{Alter, Connection, Error, ErrorCode, File as DatabaseFile, FileStore, MemStore};
 use std::alloc::Global;
 use std::fs::File;
 use std::io::ErrorKind;
@@ -30,10 +31,16 @@ pub trait Databases {
     /// `File` where nothing is there, or it cannot be opened; `Store` where it is no database, or
     /// another process has it open; `Memory`.
     fn tables_in(&self, rt: &HostRuntime, path: &str) -> Result<Self::Tables, Fault>;
+
+    /// New tables at a path, where nothing is there but an empty file at most: they are made.
+    ///
+    /// # Errors
+    /// As for `tables_in`, and `Store` where they could not be made: there is none of them then.
+    fn new_tables_in(&self, rt: &HostRuntime, path: &str) -> Result<Self::Tables, Fault>;
 }
 
 /// The files of this machine.
-#[derive(Clone, Copy, Debug)]
+#[derive(Clone, Copy)]
 pub struct Files;
 
 impl Databases for Files {
@@ -44,7 +51,11 @@ impl Databases for Files {
             Ok(file) => drop(file),
             Err(_) => return Err(Fault::File),
         }
-        connected(rt, path)
+        connected(rt, path, false)
+    }
+
+    fn new_tables_in(&self, rt: &HostRuntime, path: &str) -> Result<FileTables, Fault> {
+        connected(rt, path, true)
     }
 }
 
@@ -64,15 +75,34 @@ pub fn tables_again<D: Databases>(
     }
 }
 
-/// A store over a file.
+/// The tables over a connection, if there is one; new ones are made first.
 ///
 /// # Errors
-/// As for `Databases::tables_in`.
-fn connected(rt: &HostRuntime, path: &str) -> Result<FileTables, Fault> {
-    match Connection::open(rt, path) {
-        Ok(conn) => Ok(SqlStore::new(conn, rt.alloc())),
-        Err(error) => Err(fault_of(&error)),
+/// `Store` where new tables could not be made: there is none of them then.
+fn tables_over<S: Alter + Drop>(
+    alloc: Global,
+    opened: Result<Connection<S>, Fault>,
+    are_new: bool,
+) -> Result<SqlStore<S>, Fault>
+    requires { IfOk opened (λ conn. conn.in_transaction ≡ false) }
+{
+    let mut tables = SqlStore::new(opened?, alloc);
+    if are_new && tables.init().is_err() {
+        return Err(Fault::Store);
     }
+    Ok(tables)
+}
+
+/// The tables in a file; new ones are made first.
+///
+/// # Errors
+/// As for `Databases::new_tables_in`.
+fn connected(rt: &HostRuntime, path: &str, are_new: bool) -> Result<FileTables, Fault> {
+    let opened = match Connection::open(rt, path) {
+        Ok(conn) => Ok(conn),
+        Err(error) => Err(fault_of(&error)),
+    };
+    tables_over(rt.alloc(), opened, are_new)
 }
 
 /// Why a file was not opened as a database.
@@ -89,14 +119,13 @@ fn fault_of(error: &Error) -> Fault {
 /// # Errors
 /// `File` where the file is there and not empty, or it cannot be made; `Store` where the store
 /// refused; `Memory`. No table was made then.
-pub fn make(rt: &HostRuntime, path: &str) -> Result<(), Fault> {
+pub fn make<D: Databases>(rt: &HostRuntime, databases: &D, path: &str) -> Result<(), Fault> {
     if !is_free(rt, path) {
         return Err(Fault::File);
     }
-    let mut tables = connected(rt, path)?;
-    match tables.init() {
-        Ok(()) => Ok(()),
-        Err(_) => Err(Fault::Store),
+    match databases.new_tables_in(rt, path) {
+        Ok(_) => Ok(()),
+        Err(fault) => Err(fault),
     }
 }
 
@@ -116,14 +145,11 @@ fn is_free(rt: &HostRuntime, path: &str) -> bool {
 /// # Errors
 /// `Memory`; `Store` where the store refused.
 pub fn new_tables(alloc: Global) -> Result<MemoryTables, Fault> {
-    let Ok(conn) = Connection::open_in_memory(alloc) else {
-        return Err(Fault::Memory);
+    let opened = match Connection::open_in_memory(alloc) {
+        Ok(conn) => Ok(conn),
+        Err(_) => Err(Fault::Memory),
     };
-    let mut tables = SqlStore::new(conn, alloc);
-    match tables.init() {
-        Ok(()) => Ok(tables),
-        Err(_) => Err(Fault::Store),
-    }
+    tables_over(alloc, opened, true)
 }
 
 /// A desk over a store, with a policy.

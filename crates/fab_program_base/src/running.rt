@@ -69,7 +69,7 @@ fn carry_out<D: Databases, N: FnMut() -> Option<u64>, R: Read + Drop, W: Write +
     requires { (state : N) → N.pre state }
 {
     match asked {
-        Words::Init(asked) => match make(rt, asked.db) {
+        Words::Init(asked) => match make(rt, databases, asked.db) {
             Ok(()) => Ok(End::Done),
             Err(fault) => Err(fault),
         },

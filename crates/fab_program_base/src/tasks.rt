@@ -15,7 +15,7 @@ use std::alloc::Global;
 use std::io::Write;
 
 /// What a caller has done at a desk.
-#[derive(Clone, Copy, Debug)]
+#[derive(Clone, Copy)]
 pub enum Task<'t> {
     /// The bytes of a port list are imported.
     Import { fabric: Fabric, bytes: &'t [u8] },
@@ -26,7 +26,7 @@ pub enum Task<'t> {
 }
 
 /// Whose task it is, and when it is done.
-#[derive(Clone, Copy, Debug)]
+#[derive(Clone, Copy)]
 pub struct Call<'t> {
     /// The token of the caller.
     pub token: &'t str,
