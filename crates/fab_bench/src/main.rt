@@ -8,11 +8,13 @@
 //! The scripts in `bench/` make tables of what it tells. It decides nothing in the gate.
 #![tactic(auto)]
 
+mod store;
+
 use anyhow::{Context, Result, bail};
 use fab_bench_calls::time_case;
 use fab_bench_machine::time_machine;
-use fab_bench_store::time_store;
 use std::env;
+use store::time_store;
 
 /// What a word says as a number.
 fn number(word: &str) -> Result<u64> {

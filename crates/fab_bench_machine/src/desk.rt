@@ -84,7 +84,7 @@ fn fill_one<B: PathBook<Global>>(
 {
     let command = command(alloc, part, number, hosts)?;
     match ask(alloc, world, book, policy, command) {
-        Reply::Refused(_) => bail!("a command was refused"),
+        Reply::Refused(..) => bail!("a command was refused"),
         _ => Ok(()),
     }
 }

@@ -1,21 +1,24 @@
-//! Tables in memory.
+//! Tables in memory: in files on memory disks, none of which fails.
 
-use crate::desks::{new_tables, store_after};
+use crate::desks::{new_tables, patient, store_after};
+use crate::disks::{Failing, files};
+use crate::files::connect;
 use crate::lists::List;
 use fab_asking::Turn;
 use fab_store::SqlStore;
-use sqlite::{Connection, MemStore};
+use sqlite::FileStore;
+use sqlite_disk::{Fuse, Memory};
 use std::process::Abort;
 
 /// Tables in memory.
-pub type Tables = SqlStore<MemStore>;
+pub type Tables = SqlStore<FileStore<Fuse<Memory>>>;
 
 /// The tables of a new desk.
 pub fn tables(rt: &(impl Abort + AllocGlobal)) -> Tables {
-    new_tables(
-        rt,
-        Connection::open_in_memory(rt.alloc()).expect(rt, "memory"),
-    )
+    match connect(rt.alloc(), files(rt.alloc(), Failing::Log, u64::MAX)) {
+        Ok(conn) => new_tables(rt, conn),
+        Err(_) => panic!(rt; "no files"),
+    }
 }
 
 /// The tables, after a desk over them has answered the lists, and then the turns, as they say.
@@ -25,7 +28,7 @@ pub fn tables_then(
     before: &[List],
     turns: &[Turn],
 ) -> Tables {
-    store_after(rt, tables, before, turns)
+    store_after(rt, patient(tables), before, turns).into_inner()
 }
 
 /// The tables of a new desk that has answered the lists, and then the turns, as they say.

@@ -1,13 +1,13 @@
 //! The worked requests: after each, the tables have the world that the machine comes to, and after
 //! the last these rows of paths.
 
-use crate::desks::store_after;
+use crate::desks::{patient, store_after};
 use crate::lists::{List, turns_of};
 use crate::memory::{tables, tables_after};
 use crate::worlds::are_kept;
 use fab_asking::Turn;
 use fab_store::Store;
-use sqlite::{Connection, MemStore, Row};
+use sqlite::{Alter, Connection, Row};
 use std::alloc::Global;
 use std::process::Abort;
 
@@ -18,7 +18,7 @@ fn is_kept_after<S: Store<Global>>(
     before: &[List],
     turns: &[Turn],
 ) -> bool {
-    let mut store = store_after(rt, store, before, turns);
+    let mut store = store_after(rt, patient(store), before, turns);
     are_kept(rt, &mut store, before, turns)
 }
 
@@ -52,9 +52,9 @@ fn told(rt: &(impl Abort + AllocGlobal), rows: &[Row]) -> String {
 }
 
 /// Whether the rows of paths are these.
-fn are_paths(
+fn are_paths<S: Alter>(
     rt: &(impl Abort + AllocGlobal),
-    conn: &mut Connection<MemStore>,
+    conn: &mut Connection<S>,
     wanted: &str,
 ) -> bool {
     let rows = conn.query_all(PATHS, &[]).expect(rt, "rows");

@@ -22,8 +22,6 @@
 ghost use Rattle.std.specs.Prelude.{◌≡◌};
 
 mod plan;
-#[cfg(test)]
-mod tests;
 
 use plan::{Plan, refuses_next};
 use std::alloc::{AllocError, Allocator};

@@ -13,6 +13,8 @@ mod growth;
 #[cfg(test)]
 mod quiet;
 #[cfg(test)]
+mod refusing;
+#[cfg(test)]
 mod rows;
 #[cfg(test)]
 mod script;

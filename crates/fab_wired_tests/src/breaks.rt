@@ -1,9 +1,9 @@
 //! Connections of which one read or one write fails, and works again behind it.
 
-use super::bytes::Bytes;
 use super::calls::{Call, End, serves, whole};
 use super::desks::Serving;
 use super::turns::{asking_of, call_of, plays};
+use fab_exchanges::bytes::Bytes;
 use std::process::Abort;
 
 /// Of which side of a connection each call fails in turn.

@@ -2,11 +2,11 @@
 //! and as one list.
 
 use super::breaks::Side;
-use super::bytes::{APART, EMPTY_LIST, FIRST_IMPORT, NO_CALLER, ROW_16};
 use super::calls::End;
 use super::deeds::{Deed, does};
 use super::stages::ROW_1;
 use super::waiting::Waiting;
+use fab_exchanges::bytes::{APART, EMPTY_LIST, FIRST_IMPORT, NO_CALLER, ROW_16};
 use fab_exchanges::rows::{
     FIRST_ACTIVATED, FIRST_JOINED, FIRST_PATHS, FIRST_PLAN, FIRST_STAGED, FIRST_TRIED, WORLD,
 };

@@ -1,11 +1,11 @@
 //! What is done with a new desk, one deed after the other: the tests list it.
 
 use super::breaks::{Side, act, are_cut, bytes_survive, imports_count, survive, take_none};
-use super::bytes::Bytes;
 use super::desks::{DeskOver, Serving, made};
 use super::stages::sets;
 use super::turns::{plays, plays_all, serves_each};
 use super::waiting::{Waiting, serves_list};
+use fab_exchanges::bytes::Bytes;
 use fab_policy_base::{Policy, TRIAL_POLICY};
 use fab_store::{RefusingStore, SqlStore, Store};
 use fab_wire::Desk;
@@ -89,22 +89,8 @@ fn do_over<S: Store<Global>>(
     }
 }
 
-/// The same over a store of which one call is refused, if one is to be: so many are handed on before
-/// it, and opening is the first.
-fn do_refused<S: Store<Global>>(
-    rt: &(impl Abort + AllocGlobal),
-    store: S,
-    policy: &str,
-    calls: Option<u64>,
-    deeds: &[Deed<'_>],
-) {
-    match calls {
-        Some(calls) => do_over(rt, RefusingStore::new(store, calls), policy, deeds),
-        None => do_over(rt, store, policy, deeds),
-    }
-}
-
-/// The same over new tables, which are made.
+/// The same over new tables, which are made. One call is refused, if one is to be: so many are handed
+/// on before it, and opening is the first.
 fn do_anew<S: Alter + Drop>(
     rt: &(impl Abort + AllocGlobal),
     tables: SqlStore<S>,
@@ -112,7 +98,9 @@ fn do_anew<S: Alter + Drop>(
     calls: Option<u64>,
     deeds: &[Deed<'_>],
 ) {
-    do_refused(rt, made(rt, tables), policy, calls, deeds);
+    let calls = calls.unwrap_or(u64::MAX);
+    let store = RefusingStore::new(made(rt, tables), calls);
+    do_over(rt, store, policy, deeds);
 }
 
 /// Does each with a new desk in memory, with a policy by its text, whose store refuses the call behind

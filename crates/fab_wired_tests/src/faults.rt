@@ -1,7 +1,7 @@
 //! What refusals tell: those of the wire, of the records, and of the steps of a plan.
 
-use super::bytes::REFUSED;
 use super::deeds::{Deed, does, holds, holds_bytes};
+use fab_exchanges::bytes::REFUSED;
 use fab_exchanges::rows::{FIRST_PLAN, WORLD};
 
 /// Paths that lead nowhere, paths that name nothing, and bodies that are none.

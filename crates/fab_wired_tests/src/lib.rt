@@ -8,8 +8,6 @@ mod breaks;
 #[cfg(test)]
 mod broken;
 #[cfg(test)]
-mod bytes;
-#[cfg(test)]
 mod calls;
 #[cfg(test)]
 mod deeds;

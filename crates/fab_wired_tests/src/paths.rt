@@ -1,8 +1,8 @@
 //! Imports, and plans that move paths.
 
-use super::bytes::{FIRST, JOINED, PATHS};
 use super::deeds::{holds, holds_bytes};
 use super::stages::ROW_1;
+use fab_exchanges::bytes::{FIRST, JOINED, PATHS};
 use fab_exchanges::rows::{ALIAS_PUT_ANEW, FIRST_PLAN, SECOND_PLAN, WORLD};
 
 #[test]

@@ -1,7 +1,7 @@
 //! What the wire and the records refuse.
 
-use super::bytes::ROW_16;
 use super::deeds::{holds, holds_bytes};
+use fab_exchanges::bytes::ROW_16;
 use fab_exchanges::rows::{FIRST_PLAN, ROLLED_BACK, UNIT_CLASH, UNMAPPED, VOLUME_GONE, WORLD};
 
 /// A third step that names a zone which is not there; nothing of the plan stands.

@@ -1,9 +1,9 @@
 //! A store that refuses one call, a writer that takes none of some bytes, and an action that no rule
 //! names.
 
-use super::bytes::Bytes;
 use super::deeds::{Deed, does, does_by};
 use super::stages::ROW_1;
+use fab_exchanges::bytes::Bytes;
 use fab_policy_base::TRIAL_POLICY;
 
 /// The store refuses to commit, which halts the desk: a path that has no route and a body that is none

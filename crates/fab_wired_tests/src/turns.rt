@@ -1,8 +1,8 @@
 //! What the tests do with a desk: requests are served, and the bytes of their answers compared.
 
-use super::bytes::Bytes;
 use super::calls::{Call, serves, whole};
 use super::desks::Serving;
+use fab_exchanges::bytes::Bytes;
 use fab_exchanges::{Exchange, exchange_of, turn_of};
 use std::process::Abort;
 use std::test::Fail;

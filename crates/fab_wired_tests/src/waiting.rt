@@ -1,8 +1,8 @@
 //! Connections that wait, and are served as one list.
 
-use super::bytes::Bytes;
 use super::calls::{Call, End, connection_of, ends, whole};
 use super::desks::Serving;
+use fab_exchanges::bytes::Bytes;
 use fab_exchanges::streams::{Breaking, Slow};
 use fab_wire::laws::{Connection, Served};
 use fab_wire_base::routes::Routes;

@@ -10,7 +10,7 @@ use std::process::Abort;
 fn put_large_zone(rt: &(impl Abort + AllocGlobal), zoning: &mut Zoning<Global>) -> Name {
     let mut aliases = Vec::new(rt.alloc());
     for number in 0u32..255 {
-        let alias = numbered(rt, number);
+        let alias = numbered(rt, u64::from(number));
         let ports = ports(rt, number.saturating_mul(255), 255);
         zoning.put_alias(alias, &ports).expect(rt, "an alias");
         aliases.push(Member::Alias(alias)).expect(rt, "memory");
@@ -27,7 +27,7 @@ fn put_zone_of(
     number: u32,
     count: u32,
 ) -> Name {
-    let zone = numbered(rt, number);
+    let zone = numbered(rt, u64::from(number));
     let ports = ports(rt, 0, count);
     zoning.put_zone(zone, &ports).expect(rt, "a zone");
     zone

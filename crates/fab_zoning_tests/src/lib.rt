@@ -1,6 +1,8 @@
-//! Tests of the zoning of one fabric. Nothing here is part of the product.
+//! Tests of the inventory, and of the zoning of one fabric. Nothing here is part of the product.
 #![tactic(auto)]
 
+#[cfg(test)]
+mod inventory;
 #[cfg(test)]
 mod large;
 #[cfg(test)]

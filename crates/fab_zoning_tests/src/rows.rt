@@ -52,7 +52,7 @@ pub(crate) fn named(rt: &impl Abort, text: &str) -> Name {
 }
 
 /// The name of this number.
-pub(crate) fn numbered(rt: &(impl Abort + AllocGlobal), number: u32) -> Name {
+pub(crate) fn numbered(rt: &(impl Abort + AllocGlobal), number: u64) -> Name {
     let text = format!(in rt.alloc(); "n{number}").expect(rt, "memory");
     named(rt, text.as_str())
 }

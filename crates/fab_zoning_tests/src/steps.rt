@@ -450,14 +450,17 @@ fn last_put(
     let zone = numbered(rt, 0);
     put_one(&mut zoning, Kind::Zone, zone, zone).expect(rt, "a zone");
     for number in 1..puts {
-        put_one(&mut zoning, kind, numbered(rt, number - 1), zone).expect(rt, "one of so many");
+        put_one(&mut zoning, kind, numbered(rt, u64::from(number - 1)), zone).expect(
+            rt,
+            "one of so many",
+        );
     }
     let last = if names < puts {
         0
     } else {
         names.saturating_sub(1)
     };
-    put_one(&mut zoning, kind, numbered(rt, last), zone)
+    put_one(&mut zoning, kind, numbered(rt, u64::from(last)), zone)
 }
 
 /// Whether it was accepted, or refused by this limit.

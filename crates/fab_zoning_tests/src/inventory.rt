@@ -1,4 +1,5 @@
-//! Imports, puts, drops and look-ups by example.
+//! Imports, puts, drops and look-ups of an inventory by example.
+use crate::rows::{named, numbered};
 use fab_inventory::{
     Holder, HolderKind, Inventory, InventoryFault, InventoryLimit, Known, MOST_BYTES, PortRow,
     RestoreFault, Volume,
@@ -7,11 +8,6 @@ use fab_names::{Fabric, Name, Place, Wwn};
 use std::alloc::Global;
 use std::collections::BTreeMap;
 use std::process::Abort;
-
-/// A name.
-fn named(rt: &impl Abort, text: &str) -> Name {
-    Name::read(text).expect(rt, "a name")
-}
 
 /// A change or a question. Ports and domains are numbers; each port is at port 1 of its domain.
 #[derive(Clone, Copy)]
@@ -435,12 +431,6 @@ const WORLDS: &[(World, Option<RestoreFault>)] = &[
     ),
     (World { bytes: 0, ..SMALL }, Some(RestoreFault::Volumes)),
 ];
-
-/// The name `n` and a number.
-fn numbered(rt: &(impl Abort + AllocGlobal), number: u64) -> Name {
-    let text = format!(in rt.alloc(); "n{number}").expect(rt, "memory");
-    named(rt, text.as_str())
-}
 
 fn known_ports(rt: &(impl Abort + AllocGlobal), world: World) -> BTreeMap<Wwn, Known> {
     let holder = named(rt, world.holder);

@@ -1,6 +1,6 @@
 //! Reads of a store.
-use crate::names::read_name;
-use crate::telling::took_since;
+use super::names::read_name;
+use super::telling::took_since;
 use anyhow::{Result, bail};
 use fab_lines::{
     ActiveLine, ApprovalLine, GroupLine, HolderLine, MetaLine, PartLine, PathLine, PlanLine,

@@ -1,4 +1,4 @@
-//! Timings of what the desk does over a file. Nothing here is part of the product.
+//! Timings of what the desk does over a file.
 //!
 //! `make` makes a new file with a small world, `open` reads the rows of a file and builds its world,
 //! `paths` reads the paths of the first host, and the other words take turns of a change: `move` and
@@ -6,7 +6,6 @@
 //! has the store alone take what such puts change. `all` takes each word in turn. What a word came to
 //! goes to standard output; the milliseconds of its parts, all turns together, to standard error.
 //! `bench/store_calls.py` makes a table of them beside a program in C.
-#![tactic(auto)]
 
 mod asking;
 mod clocked;
@@ -20,7 +19,7 @@ mod telling;
 mod turns;
 mod words;
 
-use anyhow::Result;
+use anyhow::{Result, bail};
 use words::{ALL, Word, read_word};
 
 /// Takes a word on the file, and tells what it came to.
@@ -39,13 +38,16 @@ fn take_all(rt: &HostRuntime, path: &str, turns: u64) -> Result<()> {
     Ok(())
 }
 
-/// Takes a word on the file in so many turns, or each word where it is none of them.
+/// Takes a word on the file in so many turns, or each word where it is `all`.
 ///
 /// # Errors
-/// The file is no desk's, or it, the clock or a stream failed.
+/// There is no such word, the file is no desk's, or it, the clock or a stream failed.
 pub fn time_store(rt: &HostRuntime, word: &str, path: &str, turns: u64) -> Result<()> {
+    if word == "all" {
+        return take_all(rt, path, turns);
+    }
     match read_word(word) {
         Some(word) => take(rt, word, path, turns),
-        None => take_all(rt, path, turns),
+        None => bail!("make, move, wide, small, paths, open, commits or all"),
     }
 }

@@ -1,9 +1,9 @@
 //! Collections over an allocator that refuses one of their requests.
 
-use crate::Refusing;
-use std::alloc::{AllocError, Allocator, Global};
+use fab_refusing::Refusing;
+use std::alloc::{AllocError, AllocGlobal, Allocator, Global};
 use std::collections::BTreeMap;
-use std::test::Fail;
+use std::process::Abort;
 
 /// The numbers below 100, pushed one by one.
 fn pushed<A: Allocator + Copy>(alloc: A) -> Result<Vec<u64, A>, AllocError> {
@@ -68,33 +68,33 @@ fn an_insert_is_refused_at_each_request(rt: HostRuntime) {
 }
 
 /// Whether a push that was refused changed nothing, and goes through after.
-fn push_goes_through(alloc: &Refusing<Global>) -> Result<bool, AllocError> {
+fn push_goes_through(rt: &impl Abort, alloc: &Refusing<Global>) -> bool {
     let mut items = Vec::new(alloc);
     alloc.refuse_after(0);
     if items.push(7u64).is_ok() || !items.is_empty() {
-        return Ok(false);
+        return false;
     }
-    items.push(7)?;
-    Ok(items.as_slice() == [7].as_slice())
+    items.push(7).expect(rt, "no memory for an item");
+    items.as_slice() == [7].as_slice()
 }
 
 /// Whether an insert that was refused changed nothing, and goes through after.
-fn insert_goes_through(alloc: &Refusing<Global>) -> Result<bool, AllocError> {
+fn insert_goes_through(rt: &impl Abort, alloc: &Refusing<Global>) -> bool {
     let mut map = BTreeMap::new(alloc);
     alloc.refuse_after(0);
     if map.insert(1u64, 2u64).is_ok() || !map.is_empty() {
-        return Ok(false);
+        return false;
     }
-    Ok(map.insert(1, 2)?.is_none() && map.get(&1) == Some(&2))
+    let earlier: Result<_, _> = map.insert(1, 2);
+    earlier.expect(rt, "no memory for an entry").is_none() && map.get(&1) == Some(&2)
 }
 
 #[test]
-fn what_was_refused_goes_through_after(rt: HostRuntime) -> Result<(), Fail> {
+fn what_was_refused_goes_through_after(rt: HostRuntime) {
     let alloc = Refusing::new(rt.alloc());
-    assert!(rt; push_goes_through(&alloc)?);
-    assert!(rt; insert_goes_through(&alloc)?);
+    assert!(rt; push_goes_through(&rt, &alloc));
+    assert!(rt; insert_goes_through(&rt, &alloc));
     assert!(rt; alloc.has_refused());
-    Ok(())
 }
 
 /// Whether a box finds memory. It makes one request, and gives its block back.
@@ -152,30 +152,28 @@ fn what_it_was_told_before_is_forgotten(rt: HostRuntime) {
 }
 
 /// Whether a list refuses a push by the allocator that it owns, and then takes it.
-fn refuses_by_its_own(alloc: Global) -> Result<bool, AllocError> {
-    let mut items = Vec::new(Refusing::new(alloc));
+fn refuses_by_its_own(rt: &(impl Abort + AllocGlobal)) -> bool {
+    let mut items = Vec::new(Refusing::new(rt.alloc()));
     items.allocator().refuse_after(0);
     if items.push(7u64).is_ok() || !items.allocator().has_refused() {
-        return Ok(false);
+        return false;
     }
-    items.push(7)?;
-    Ok(items.as_slice() == [7].as_slice())
+    items.push(7).expect(rt, "no memory for an item");
+    items.as_slice() == [7].as_slice()
 }
 
 #[test]
-fn a_collection_may_own_it(rt: HostRuntime) -> Result<(), Fail> {
-    assert!(rt; refuses_by_its_own(rt.alloc())?);
-    Ok(())
+fn a_collection_may_own_it(rt: HostRuntime) {
+    assert!(rt; refuses_by_its_own(&rt));
 }
 
 #[test]
-fn it_prints_what_it_is_to_refuse(rt: HostRuntime) -> Result<(), Fail> {
+fn it_prints_what_it_is_to_refuse(rt: HostRuntime) {
     let alloc = Refusing::new(7u8);
     alloc.refuse_after(2);
-    let text = format!(in rt.alloc(); "{alloc:?}")?;
+    let text = format!(in rt.alloc(); "{alloc:?}").expect(&rt, "no memory for a text");
     assert_eq!(rt;
         text.as_str(),
         "Refusing { inner: 7, plan: Cell { value: RefuseAfter(2) } }"
     );
-    Ok(())
 }

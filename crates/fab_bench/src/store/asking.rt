@@ -1,9 +1,9 @@
 //! A desk over a store, and what it is asked.
-use crate::clocked::Clocked;
-use crate::making::make_all;
-use crate::telling::{took, took_since};
-use crate::turns::time_turns;
-use crate::words::Word;
+use super::clocked::Clocked;
+use super::making::make_all;
+use super::telling::{took, took_since};
+use super::turns::time_turns;
+use super::words::Word;
 use anyhow::{Result, bail};
 use fab_desk::Desk;
 use fab_desk_base::{Command, Reply};

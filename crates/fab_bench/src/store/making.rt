@@ -1,7 +1,7 @@
 //! A small world, made by commands.
-use crate::asking::{DeskOver, ask};
-use crate::commands::{activate, import, put_holder, put_volume, stage};
-use crate::names::{initiator, target};
+use super::asking::{DeskOver, ask};
+use super::commands::{activate, import, put_holder, put_volume, stage};
+use super::names::{initiator, target};
 use anyhow::{Result, bail};
 use fab_desk_base::{Command, Reply};
 use fab_inventory::HolderKind;
@@ -65,7 +65,7 @@ fn command_of(alloc: Global, part: Part) -> Result<Command<Global>> {
 fn make_part<S: Store<Global>>(alloc: Global, desk: &mut DeskOver<S>, part: Part) -> Result<()> {
     let command = command_of(alloc, part)?;
     match ask(desk, command) {
-        Reply::Refused(_) => bail!("a command was refused"),
+        Reply::Refused(..) => bail!("a command was refused"),
         _ => Ok(()),
     }
 }

@@ -1,5 +1,5 @@
 //! The commands that a desk is asked.
-use crate::names::{name_of, read_name};
+use super::names::{name_of, read_name};
 use anyhow::{Result, bail};
 use fab_desk_base::Command;
 use fab_inventory::{HolderKind, PortRow, Volume};

@@ -1,6 +1,6 @@
 //! Answers are printed.
 
-use super::answers::{Kind, answer_of};
+use super::printed::{Kind, answer_of};
 use fab_answers::answers::Answer;
 use fab_exchanges::streams::Breaking;
 use fab_printing::{End, Form, PrintFault, print};

@@ -1,9 +1,9 @@
 //! What is done over a file.
-use crate::asking::take_on_desk;
-use crate::commits::time_commits;
-use crate::reading::{time_load, time_paths, time_rows};
-use crate::telling::took_since;
-use crate::words::Word;
+use super::asking::take_on_desk;
+use super::commits::time_commits;
+use super::reading::{time_load, time_paths, time_rows};
+use super::telling::took_since;
+use super::words::Word;
 use anyhow::{Result, bail};
 use fab_store::{SqlStore, Store};
 use sqlite::{Alter, Connection};

@@ -1,8 +1,8 @@
 //! Turns of a change.
-use crate::asking::{DeskOver, ask};
-use crate::commands::{activate, put_volume};
-use crate::telling::took_since;
-use crate::words::Word;
+use super::asking::{DeskOver, ask};
+use super::commands::{activate, put_volume};
+use super::telling::took_since;
+use super::words::Word;
 use anyhow::{Result, bail};
 use fab_desk_base::{Command, Reply};
 use fab_stores::Store;

@@ -1,6 +1,6 @@
 //! Commits of the store alone, in a row.
-use crate::telling::took_since;
-use crate::turns::VOLUMES;
+use super::telling::took_since;
+use super::turns::VOLUMES;
 use anyhow::Result;
 use fab_lines::{MetaLine, VolumeLine};
 use fab_stores::{LineChanges, Store, TableLine};
