@@ -34,7 +34,7 @@ pub enum Answer<A: Allocator + Copy> {
 }
 
 /// What came of writing an answer.
-#[derive(Clone, Copy, Debug, PartialEq, Eq)]
+#[derive(Clone, Copy, PartialEq, Eq)]
 pub enum Told {
     /// All of it was written, with this status.
     Answered(StatusCode),

@@ -10,7 +10,7 @@ use fab_wire_base::requests as wire;
 use http::StatusCode;
 
 /// What a request is refused with: a line of the table of refusals.
-#[derive(Clone, Copy, Debug, PartialEq, Eq)]
+#[derive(Clone, Copy, PartialEq, Eq)]
 pub enum Code {
     /// No caller has the token.
     NoCaller,

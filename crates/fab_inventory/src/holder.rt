@@ -12,7 +12,7 @@ pub enum HolderKind {
 }
 
 /// A host or an array. A port is held by one holder at most.
-#[derive(Clone, Copy, Debug, PartialEq, Eq)]
+#[derive(Clone, Copy, PartialEq, Eq)]
 pub struct Holder {
     /// Whether it is a host or an array.
     pub kind: HolderKind,
@@ -21,7 +21,7 @@ pub struct Holder {
 }
 
 /// A volume: a named capacity on an array (SNIA Swordfish).
-#[derive(Clone, Copy, Debug, PartialEq, Eq)]
+#[derive(Clone, Copy, PartialEq, Eq)]
 pub struct Volume {
     /// The array that it is on.
     pub array: Name,

@@ -3,7 +3,7 @@
 use fab_names::{Fabric, Name, Place, Wwn};
 
 /// A port as the inventory knows it.
-#[derive(Clone, Copy, Debug, PartialEq, Eq)]
+#[derive(Clone, Copy, PartialEq, Eq)]
 pub struct Port {
     /// Its N_Port_Name.
     pub name: Wwn,
@@ -17,7 +17,7 @@ pub struct Port {
 }
 
 /// What is known of a port beside its name.
-#[derive(Clone, Copy, Debug, PartialEq, Eq)]
+#[derive(Clone, Copy, PartialEq, Eq)]
 pub struct Known {
     /// The Node_Name of its node.
     pub node: Wwn,
@@ -28,7 +28,7 @@ pub struct Known {
 }
 
 /// A record of one fabric's port list: a port that is logged in there.
-#[derive(Clone, Copy, Debug, PartialEq, Eq)]
+#[derive(Clone, Copy, PartialEq, Eq)]
 pub struct PortRow {
     /// The N_Port_Name.
     pub name: Wwn,

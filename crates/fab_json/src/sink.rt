@@ -40,7 +40,7 @@ impl<W: Write> Sink for Counted<W> {
 }
 
 /// A count of bytes. At its greatest value, 18446744073709551615, it stays.
-#[derive(Clone, Copy, Debug)]
+#[derive(Clone, Copy)]
 pub struct Size {
     bytes: u64,
 }

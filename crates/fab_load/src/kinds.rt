@@ -10,7 +10,7 @@ use fab_rows::{
 };
 
 /// What the row of a storage group has beside its name.
-#[derive(Clone, Copy, Debug, PartialEq, Eq)]
+#[derive(Clone, Copy, PartialEq, Eq)]
 pub struct Head {
     /// Whose it is.
     pub tenant: Name,

@@ -84,7 +84,7 @@ impl fmt::Display for Need {
 }
 
 /// What a policy says of an act.
-#[derive(Clone, Copy, Debug)]
+#[derive(Clone, Copy)]
 pub enum Verdict {
     /// Some rule applies, and each that applies holds.
     Allowed,

@@ -7,7 +7,7 @@ use fab_names::Name;
 use std::marker::Model;
 
 /// A caller of a policy, by the place among its callers. A contract sees that number.
-#[derive(Clone, Copy, Debug, PartialEq, Eq)]
+#[derive(Clone, Copy, PartialEq, Eq)]
 pub struct CallerId {
     place: usize,
 }

@@ -4,7 +4,7 @@ use fab_names::{Fabric, Name};
 use std::marker::Model;
 
 /// What an act does, as a policy names it.
-#[derive(Clone, Copy, Debug, PartialEq, Eq)]
+#[derive(Clone, Copy, PartialEq, Eq)]
 pub enum Action {
     /// Takes over the ports that a fabric reports.
     Import,
@@ -74,7 +74,7 @@ impl Model for Caller {
 pub const WEEK_MINUTES: u64 = 10080;
 
 /// A part of each week, in minutes from Monday 00:00 UTC: from the first on, before the second.
-#[derive(Clone, Copy, Debug, PartialEq, Eq)]
+#[derive(Clone, Copy, PartialEq, Eq)]
 pub struct WeekSpan {
     /// Its first minute.
     pub from: u64,
@@ -83,7 +83,7 @@ pub struct WeekSpan {
 }
 
 /// A time without changes, in Unix seconds: from the first on, before the second.
-#[derive(Clone, Copy, Debug, PartialEq, Eq)]
+#[derive(Clone, Copy, PartialEq, Eq)]
 pub struct Freeze {
     /// Its first second.
     pub from: u64,
@@ -121,7 +121,7 @@ impl Model for Window {
 }
 
 /// How far a rule lets a caller reach.
-#[derive(Clone, Copy, Debug, PartialEq, Eq)]
+#[derive(Clone, Copy, PartialEq, Eq)]
 pub enum Scope {
     /// To the caller's own tenants.
     Own,

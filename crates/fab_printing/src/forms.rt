@@ -16,7 +16,7 @@ use fab_zoning::DefaultFlag;
 use std::alloc::Global;
 
 /// In which form an answer is printed. What does not fit the form is printed as `Json`.
-#[derive(Clone, Copy, Debug, PartialEq, Eq)]
+#[derive(Clone, Copy, PartialEq, Eq)]
 pub enum Form {
     /// Its JSON and a line feed.
     Json,

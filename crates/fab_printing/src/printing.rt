@@ -14,7 +14,7 @@ use std::alloc::Global;
 use std::io::{BufWriter, Write};
 
 /// How a command ended that was answered.
-#[derive(Clone, Copy, Debug, PartialEq, Eq)]
+#[derive(Clone, Copy, PartialEq, Eq)]
 pub enum End {
     /// It was done.
     Done,

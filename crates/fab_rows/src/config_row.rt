@@ -6,7 +6,7 @@ use fab_names::{Fabric, Member, Name, Wwn};
 /// set and default zone).
 ///
 /// Ordered by setting, then by fabric.
-#[derive(Clone, Copy, Debug, PartialEq, Eq, PartialOrd, Ord)]
+#[derive(Clone, Copy, PartialEq, Eq, PartialOrd, Ord)]
 pub enum SettingRow {
     /// The name of the fabric's active zone set, or none.
     ActiveSet(Fabric, Option<Name>),
@@ -17,7 +17,7 @@ pub enum SettingRow {
 /// An item of an alias, a zone or a zone set.
 ///
 /// Ordered by kind as listed, then by name, then by item.
-#[derive(Clone, Copy, Debug, PartialEq, Eq, PartialOrd, Ord)]
+#[derive(Clone, Copy, PartialEq, Eq, PartialOrd, Ord)]
 pub enum ZoningItem {
     /// The alias of this name has this member.
     Alias(Name, Member),
@@ -30,7 +30,7 @@ pub enum ZoningItem {
 /// An item of an alias, a zone or a zone set of a fabric.
 ///
 /// Ordered by fabric, then by item.
-#[derive(Clone, Copy, Debug, PartialEq, Eq, PartialOrd, Ord)]
+#[derive(Clone, Copy, PartialEq, Eq, PartialOrd, Ord)]
 pub struct ZoningRow {
     pub fabric: Fabric,
     pub item: ZoningItem,
@@ -39,7 +39,7 @@ pub struct ZoningRow {
 /// A member of a zone of a fabric's active zone set.
 ///
 /// Ordered by fabric, zone, member.
-#[derive(Clone, Copy, Debug, PartialEq, Eq, PartialOrd, Ord)]
+#[derive(Clone, Copy, PartialEq, Eq, PartialOrd, Ord)]
 pub struct ActiveRow {
     pub fabric: Fabric,
     pub zone: Name,
@@ -49,7 +49,7 @@ pub struct ActiveRow {
 /// A host group: its name, and whose it is.
 ///
 /// Ordered by name, tenant.
-#[derive(Clone, Copy, Debug, PartialEq, Eq, PartialOrd, Ord)]
+#[derive(Clone, Copy, PartialEq, Eq, PartialOrd, Ord)]
 pub struct HostGroupRow {
     pub name: Name,
     pub tenant: Name,
@@ -59,7 +59,7 @@ pub struct HostGroupRow {
 /// is exposed.
 ///
 /// Ordered by name, tenant, array, exposed.
-#[derive(Clone, Copy, Debug, PartialEq, Eq, PartialOrd, Ord)]
+#[derive(Clone, Copy, PartialEq, Eq, PartialOrd, Ord)]
 pub struct StorageGroupRow {
     pub name: Name,
     pub tenant: Name,
@@ -70,7 +70,7 @@ pub struct StorageGroupRow {
 /// A host group or a storage group.
 ///
 /// Ordered by kind as listed, then by group.
-#[derive(Clone, Copy, Debug, PartialEq, Eq, PartialOrd, Ord)]
+#[derive(Clone, Copy, PartialEq, Eq, PartialOrd, Ord)]
 pub enum GroupRow {
     Host(HostGroupRow),
     Storage(StorageGroupRow),
@@ -79,7 +79,7 @@ pub enum GroupRow {
 /// A part of a storage group.
 ///
 /// Ordered by kind as listed, then by part.
-#[derive(Clone, Copy, Debug, PartialEq, Eq, PartialOrd, Ord)]
+#[derive(Clone, Copy, PartialEq, Eq, PartialOrd, Ord)]
 pub enum StoragePart {
     /// It serves the hosts of the host group of this name.
     HostGroup(Name),
@@ -92,7 +92,7 @@ pub enum StoragePart {
 /// A part of a host group or of a storage group.
 ///
 /// Ordered by kind as listed, then by name, then by part.
-#[derive(Clone, Copy, Debug, PartialEq, Eq, PartialOrd, Ord)]
+#[derive(Clone, Copy, PartialEq, Eq, PartialOrd, Ord)]
 pub enum PartRow {
     /// The host group of this name has the host of this name.
     Host(Name, Name),
@@ -103,7 +103,7 @@ pub enum PartRow {
 /// A row of a configuration: a variant a table.
 ///
 /// Ordered by table as listed, then by row.
-#[derive(Clone, Copy, Debug, PartialEq, Eq, PartialOrd, Ord)]
+#[derive(Clone, Copy, PartialEq, Eq, PartialOrd, Ord)]
 pub enum ConfigRow {
     Setting(SettingRow),
     Zoning(ZoningRow),

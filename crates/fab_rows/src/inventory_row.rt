@@ -4,7 +4,7 @@ use fab_inventory::{HolderKind, Port};
 use fab_names::Name;
 
 /// A host or an array: its name, which of both it is, and whose it is.
-#[derive(Clone, Copy, Debug, PartialEq, Eq)]
+#[derive(Clone, Copy, PartialEq, Eq)]
 pub struct HolderRow {
     pub name: Name,
     pub kind: HolderKind,
@@ -13,7 +13,7 @@ pub struct HolderRow {
 
 /// A volume (SNIA Swordfish): its name, the array that it is on, whose it is, and how many bytes it
 /// has, 1 to 9223372036854775807.
-#[derive(Clone, Copy, Debug, PartialEq, Eq)]
+#[derive(Clone, Copy, PartialEq, Eq)]
 pub struct VolumeRow {
     pub name: Name,
     pub array: Name,
@@ -22,7 +22,7 @@ pub struct VolumeRow {
 }
 
 /// A row of an inventory: a variant a table.
-#[derive(Clone, Copy, Debug, PartialEq, Eq)]
+#[derive(Clone, Copy, PartialEq, Eq)]
 pub enum InventoryRow {
     Port(Port),
     Holder(HolderRow),

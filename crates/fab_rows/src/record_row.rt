@@ -54,7 +54,7 @@ impl<A: Allocator> Model for PlanRow<A> {
 }
 
 /// An approval of a plan.
-#[derive(Clone, Copy, Debug, PartialEq, Eq)]
+#[derive(Clone, Copy, PartialEq, Eq)]
 pub struct ApprovalRow {
     pub plan: Name,
     /// Who approved.
@@ -64,7 +64,7 @@ pub struct ApprovalRow {
 }
 
 /// What an activation did with a row.
-#[derive(Clone, Copy, Debug, PartialEq, Eq)]
+#[derive(Clone, Copy, PartialEq, Eq)]
 pub enum Sign {
     /// It took the row away.
     Taken,
@@ -73,7 +73,7 @@ pub enum Sign {
 }
 
 /// A row that the activation of an active plan took away or added.
-#[derive(Clone, Copy, Debug, PartialEq, Eq)]
+#[derive(Clone, Copy, PartialEq, Eq)]
 pub struct UndoRow {
     pub plan: Name,
     pub sign: Sign,
@@ -83,7 +83,7 @@ pub struct UndoRow {
 /// A path of a host.
 ///
 /// Ordered by host, then by path.
-#[derive(Clone, Copy, Debug, PartialEq, Eq, PartialOrd, Ord)]
+#[derive(Clone, Copy, PartialEq, Eq, PartialOrd, Ord)]
 pub struct PathRow {
     pub host: Name,
     pub path: Path,

@@ -8,7 +8,7 @@ use std::alloc::Allocator;
 pub const SCHEMA: u64 = 1;
 
 /// A row of the table of settings that is none of a configuration.
-#[derive(Clone, Copy, Debug, PartialEq, Eq)]
+#[derive(Clone, Copy, PartialEq, Eq)]
 pub enum CountRow {
     /// The schema of the tables: `SCHEMA`.
     Schema(u64),

@@ -7,7 +7,7 @@ ghost use Rattle.fab_steps.specs.declared.keyword.Keyword.{Keyword};
 use crate::{MOST_ITEMS, MappingKeyword, ZoningKeyword};
 
 /// The first word of a line, which says what its step does.
-#[derive(Clone, Copy, Debug, PartialEq, Eq)]
+#[derive(Clone, Copy, PartialEq, Eq)]
 pub enum Keyword {
     /// A word of zoning.
     Zoning(ZoningKeyword),

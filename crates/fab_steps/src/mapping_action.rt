@@ -11,7 +11,7 @@ use std::alloc::Allocator;
 /// What a step of mapping does to a host group or to a storage group, `group` (SNIA Swordfish). A
 /// logical unit number, `unit`, is 0 to 16383. A list keeps all words of the line in their order,
 /// equal ones too.
-#[derive(Debug, Drop)]
+#[derive(Drop)]
 pub enum MappingAction<A: Allocator + Copy> {
     /// Make or replace a host group of a tenant.
     HostGroupPut {

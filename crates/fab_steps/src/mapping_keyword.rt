@@ -7,7 +7,7 @@ ghost use Rattle.fab_steps.specs.declared.keyword.Keyword.TheVariants.{Mapping};
 use crate::keyword::fits_list;
 
 /// The first word of a line of mapping.
-#[derive(Clone, Copy, Debug, PartialEq, Eq)]
+#[derive(Clone, Copy, PartialEq, Eq)]
 pub enum MappingKeyword {
     /// `hg.put`
     HostGroupPut,

@@ -8,7 +8,7 @@ use std::alloc::Allocator;
 use std::marker::Model;
 
 /// What a step of a plan does.
-#[derive(Debug, Drop)]
+#[derive(Drop)]
 pub enum Action<A: Allocator + Copy> {
     /// It changes the zoning of a fabric.
     Zoning(ZoningAction<A>),
@@ -20,7 +20,6 @@ pub enum Action<A: Allocator + Copy> {
 ///
 /// So a list in it has 1 to 255 items, equal ones counted, and a logical unit number is at most
 /// 16383. A contract sees a step as what its line says: its action, with its lists as lists.
-#[derive(Debug)]
 pub struct Step<A: Allocator + Copy> {
     action: Action<A>,
 }

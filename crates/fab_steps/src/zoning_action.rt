@@ -10,7 +10,7 @@ use fab_zoning::DefaultFlag;
 use std::alloc::Allocator;
 
 /// What a step of zoning does. Lists keep all words of the line in their order, equal ones too.
-#[derive(Debug, Drop)]
+#[derive(Drop)]
 pub enum ZoningAction<A: Allocator + Copy> {
     /// Make or replace an alias. Its members name ports, and no alias.
     AliasPut {

@@ -7,7 +7,7 @@ ghost use Rattle.fab_steps.specs.declared.keyword.Keyword.TheVariants.{Zoning};
 use crate::keyword::fits_list;
 
 /// The first word of a line of zoning.
-#[derive(Clone, Copy, Debug, PartialEq, Eq)]
+#[derive(Clone, Copy, PartialEq, Eq)]
 pub enum ZoningKeyword {
     /// `alias.put`
     AliasPut,

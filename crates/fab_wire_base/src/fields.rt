@@ -8,7 +8,7 @@ use fab_names::read_number;
 use httparse::spans::{HeaderSpan, Span};
 
 /// What the Content-Length lines of a head say (RFC 9112, section 6.3).
-#[derive(Clone, Copy, Debug, PartialEq, Eq)]
+#[derive(Clone, Copy, PartialEq, Eq)]
 pub enum Length {
     /// There is no such line.
     Missing,

@@ -6,7 +6,7 @@ ghost use Rattle.fab_words.specs.CommandLine.{subcommand_name, required_of, opti
 use crate::options::OptionKind;
 
 /// What the program does.
-#[derive(Clone, Copy, Debug, PartialEq, Eq)]
+#[derive(Clone, Copy, PartialEq, Eq)]
 pub enum Subcommand {
     /// Makes a database.
     Init,
