@@ -1,24 +1,21 @@
-//! Tables in memory: in files on memory disks, none of which fails.
+//! Tables in memory.
 
 use crate::desks::{new_tables, patient, store_after};
-use crate::disks::{Failing, files};
-use crate::files::connect;
 use crate::lists::List;
 use fab_asking::Turn;
 use fab_store::SqlStore;
-use sqlite::FileStore;
-use sqlite_disk::{Fuse, Memory};
+use sqlite::{Connection, MemStore};
 use std::process::Abort;
 
 /// Tables in memory.
-pub type Tables = SqlStore<FileStore<Fuse<Memory>>>;
+pub type Tables = SqlStore<MemStore>;
 
 /// The tables of a new desk.
 pub fn tables(rt: &(impl Abort + AllocGlobal)) -> Tables {
-    match connect(rt.alloc(), files(rt.alloc(), Failing::Log, u64::MAX)) {
-        Ok(conn) => new_tables(rt, conn),
-        Err(_) => panic!(rt; "no files"),
-    }
+    new_tables(
+        rt,
+        Connection::open_in_memory(rt.alloc()).expect(rt, "memory"),
+    )
 }
 
 /// The tables, after a desk over them has answered the lists, and then the turns, as they say.

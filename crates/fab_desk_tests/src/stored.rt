@@ -7,7 +7,7 @@ use crate::memory::{tables, tables_after};
 use crate::worlds::are_kept;
 use fab_asking::Turn;
 use fab_store::Store;
-use sqlite::{Alter, Connection, Row};
+use sqlite::{Connection, MemStore, Row};
 use std::alloc::Global;
 use std::process::Abort;
 
@@ -52,9 +52,9 @@ fn told(rt: &(impl Abort + AllocGlobal), rows: &[Row]) -> String {
 }
 
 /// Whether the rows of paths are these.
-fn are_paths<S: Alter>(
+fn are_paths(
     rt: &(impl Abort + AllocGlobal),
-    conn: &mut Connection<S>,
+    conn: &mut Connection<MemStore>,
     wanted: &str,
 ) -> bool {
     let rows = conn.query_all(PATHS, &[]).expect(rt, "rows");
