@@ -1,7 +1,6 @@
-//! Tests of the program `sandesk` by calls of `run`; of the port lists that it reads and of what it
-//! prints; and want of memory under a desk that is asked over the wire, one of whose requests for memory
-//! is refused, the first, then the next, until a request meets no refusal. Nothing here is part of the
-//! product.
+//! Tests of the program `sandesk` by calls of `run`; of the statements of its tables; and want of memory
+//! under a desk that is asked over the wire, one of whose requests for memory is refused, the first,
+//! then the next, until a request meets no refusal. Nothing here is part of the product.
 #![tactic(auto)]
 
 #[cfg(test)]
@@ -13,14 +12,8 @@ mod faults;
 #[cfg(test)]
 mod growth;
 #[cfg(test)]
-mod port_lists;
-#[cfg(test)]
-mod printed;
-#[cfg(test)]
-mod prints;
-#[cfg(test)]
 mod runs;
 #[cfg(test)]
-mod tables;
+mod statements;
 #[cfg(test)]
-mod texts;
+mod tables;

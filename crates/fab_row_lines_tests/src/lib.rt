@@ -1,6 +1,5 @@
-//! Tests of the tables: a row of each is added, read and removed over a database in memory; how many
-//! statements there are; and worlds that are opened from lines and written as lines again. Nothing
-//! here is part of the product.
+//! Tests of rows as lines: worlds that are opened from lines and written as lines again, the lines in
+//! which worlds differ, and damaged lines. Nothing here is part of the product.
 #![tactic(auto)]
 
 #[cfg(test)]
@@ -9,9 +8,5 @@ mod lines;
 mod odd;
 #[cfg(test)]
 mod stored;
-#[cfg(test)]
-mod tables;
-#[cfg(test)]
-mod texts;
 #[cfg(test)]
 mod worlds;

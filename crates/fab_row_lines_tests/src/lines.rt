@@ -1,5 +1,4 @@
-//! Lines as texts: the name of a table and the columns, parted by `|`. A column of a port that is null
-//! is empty.
+//! Lines as texts: the name of a table and its columns, parted by `|`. One that is null is empty.
 
 use fab_lines::{
     ActiveLine, ApprovalLine, GroupLine, HolderLine, MetaLine, PartLine, PathLine, PlanLine,

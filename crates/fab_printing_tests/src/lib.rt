@@ -1,0 +1,12 @@
+//! Tests of port lists that are read, and of what the program prints: texts of lists, reports and
+//! active sets, and answers in each form. Nothing here is part of the product.
+#![tactic(auto)]
+
+#[cfg(test)]
+mod port_lists;
+#[cfg(test)]
+mod printed;
+#[cfg(test)]
+mod prints;
+#[cfg(test)]
+mod texts;
