@@ -1,7 +1,7 @@
 //! The worked requests, a list of them at once: they are answered as one by one, and the tables have
 //! the world that the machine comes to.
 
-use crate::desks::{DeskOver, closed, made, opened, patient};
+use crate::desks::{DeskOver, closed, made, opened};
 use crate::lists::{List, turns_of};
 use crate::memory::tables;
 use crate::worlds::are_kept;
@@ -45,7 +45,7 @@ fn is_kept_after<S: Store<Global>>(
     store: S,
     lists: &[List],
 ) -> bool {
-    let mut store = store_after_lists(rt, patient(store), lists);
+    let mut store = store_after_lists(rt, store, lists);
     are_kept(rt, &mut store, lists, &[])
 }
 

@@ -1,6 +1,6 @@
 //! Tables that somebody else has changed.
 
-use crate::desks::{open, patient, tables_of};
+use crate::desks::{open, tables_of};
 use crate::lists::List;
 use crate::memory::{Tables, tables_after, tables_then};
 use fab_asking::{ADA, Ask, FIRST, FIRST_TARGET, NO_PORTS, SECOND_TARGET, See, Turn};
@@ -19,7 +19,7 @@ fn changed(rt: &(impl Abort + AllocGlobal), tables: Tables, statement: &str) -> 
 
 /// Why no desk is opened over the store.
 fn fault_of<S: Store<Global>>(rt: &(impl Abort + AllocGlobal), store: S) -> Option<OpenFault> {
-    match open(rt, patient(store)) {
+    match open(rt, store) {
         Ok(_) => None,
         Err((fault, _)) => Some(fault),
     }

@@ -5,7 +5,7 @@ use fab_asking::{Turn, command, is_told, policy};
 use fab_desk::Desk;
 use fab_desk_base::Reply;
 use fab_port_book::PortBook;
-use fab_store::{OpenFault, RefusingStore, SqlStore, Store};
+use fab_store::{OpenFault, SqlStore, Store};
 use sqlite::{Alter, Connection};
 use std::alloc::Global;
 use std::process::Abort;
@@ -29,12 +29,6 @@ pub fn tables_of<S: Alter + Drop>(
 ) -> SqlStore<S> {
     assert!(rt; conn.is_autocommit());
     SqlStore::new(conn, rt.alloc())
-}
-
-/// A store that refuses nothing, of the type of those that do: what a desk does over a type of store is
-/// compiled once for each.
-pub fn patient<S>(store: S) -> RefusingStore<S> {
-    RefusingStore::new(store, u64::MAX)
 }
 
 /// The tables of a new desk.

@@ -1,6 +1,6 @@
 //! The tables of a desk in files.
 
-use crate::desks::{patient, play, tables_of};
+use crate::desks::{play, tables_of};
 use crate::worlds::{are_after, found};
 use fab_asking::Turn;
 use fab_store::{SqlStore, Store};
@@ -139,8 +139,8 @@ fn work_over<S: Alter + Drop>(
 ) -> (Option<usize>, S) {
     let mut tables = tables_of(rt, conn);
     let is_made = are_made(&mut tables, work);
-    let (count, tables) = work_with(rt, patient(tables), is_made, turns, work);
-    (count, tables.into_inner().into_connection().into_store())
+    let (count, tables) = work_with(rt, tables, is_made, turns, work);
+    (count, tables.into_connection().into_store())
 }
 
 /// The same with the tables in files, which are given back as they are: how many turns were answered,

@@ -1,6 +1,6 @@
 //! Tables in memory.
 
-use crate::desks::{new_tables, patient, store_after};
+use crate::desks::{new_tables, store_after};
 use crate::lists::List;
 use fab_asking::Turn;
 use fab_store::SqlStore;
@@ -25,7 +25,7 @@ pub fn tables_then(
     before: &[List],
     turns: &[Turn],
 ) -> Tables {
-    store_after(rt, patient(tables), before, turns).into_inner()
+    store_after(rt, tables, before, turns)
 }
 
 /// The tables of a new desk that has answered the lists, and then the turns, as they say.

@@ -1,7 +1,7 @@
 //! The worked requests: after each, the tables have the world that the machine comes to, and after
 //! the last these rows of paths.
 
-use crate::desks::{patient, store_after};
+use crate::desks::store_after;
 use crate::lists::{List, turns_of};
 use crate::memory::{tables, tables_after};
 use crate::worlds::are_kept;
@@ -18,7 +18,7 @@ fn is_kept_after<S: Store<Global>>(
     before: &[List],
     turns: &[Turn],
 ) -> bool {
-    let mut store = store_after(rt, patient(store), before, turns);
+    let mut store = store_after(rt, store, before, turns);
     are_kept(rt, &mut store, before, turns)
 }
 
