@@ -7,6 +7,9 @@ use crate::stages::{ADA, FIRST_INITIATOR, FIRST_TARGET, NO_PORTS, PORTS, SECOND_
 use fab_inventory::HolderKind::Host;
 use fab_names::Fabric;
 
+/// Whether the first initiator and the first target are joined.
+const JOINED: See = See::Joined(FIRST_INITIATOR, FIRST_TARGET);
+
 /// An empty list takes all ports of its fabric out.
 pub const PORTS_GONE: &[Turn] = &[
     (ADA, 0, Ask::Import(Fabric::A, NO_PORTS), "changed at 8"),
@@ -65,19 +68,9 @@ activate A s1
         "staged p3 of 2",
     ),
     (ADA, 0, Ask::DryRun("p3"), "tried p3"),
-    (
-        ADA,
-        0,
-        Ask::Show(See::Joined(FIRST_INITIATOR, FIRST_TARGET)),
-        "joined by zone z1",
-    ),
+    (ADA, 0, Ask::Show(JOINED), "joined by zone z1"),
     (ADA, 0, Ask::Activate("p3"), "done p3 at 9"),
-    (
-        ADA,
-        0,
-        Ask::Show(See::Joined(FIRST_INITIATOR, FIRST_TARGET)),
-        "joined by zone z2",
-    ),
+    (ADA, 0, Ask::Show(JOINED), "joined by zone z2"),
 ];
 
 /// A port that is in a zone is not in the default zone.
@@ -227,12 +220,7 @@ pub const UNDONE: &[Turn] = &[
         "done p1 at 10
 -A 10:00:00:00:00:00:00:01 50:00:00:00:00:00:00:01 v1 0",
     ),
-    (
-        ADA,
-        0,
-        Ask::Show(See::Joined(FIRST_INITIATOR, FIRST_TARGET)),
-        "apart",
-    ),
+    (ADA, 0, Ask::Show(JOINED), "apart"),
     (ADA, 0, Ask::Show(See::Group("g1")), "not-found"),
     (ADA, 0, Ask::Drop(Host, "db1"), "changed at 11"),
 ];
@@ -270,38 +258,34 @@ pub const LATE: &[Turn] = &[(ADA, 352_799, Ask::Activate("q1"), "done q1 at 7")]
 /// The moments at which the window is shut, and those at which it is open.
 pub const WINDOW: [&[Turn]; 4] = [SHUT, FREEZING, THAWED, LATE];
 
+/// Bob approves the plan: his is the one approval that counts.
+const BOB_APPROVES: Turn = (
+    "t-bob",
+    349_200,
+    Ask::Approve("q1"),
+    "approved q1 by 1 at 6",
+);
+
+/// The plan is not activated, since it has too few approvals.
+const TOO_FEW: Turn = (
+    ADA,
+    349_200,
+    Ask::Activate("q1"),
+    "denied 3 two-eyes approvals",
+);
+
 /// No approval, and a caller without the role.
 pub const NO_APPROVAL: &[Turn] = &[
     ("t-eve", 349_200, Ask::Activate("q1"), "denied 1 ops role"),
-    (
-        ADA,
-        349_200,
-        Ask::Activate("q1"),
-        "denied 3 two-eyes approvals",
-    ),
+    TOO_FEW,
 ];
 
 /// The author's approval is none, one caller's two are one, and all are stale after a change.
 pub const APPROVALS: &[Turn] = &[
     (ADA, 349_200, Ask::Approve("q1"), "own-plan"),
-    (
-        "t-bob",
-        349_200,
-        Ask::Approve("q1"),
-        "approved q1 by 1 at 6",
-    ),
-    (
-        "t-bob",
-        349_200,
-        Ask::Approve("q1"),
-        "approved q1 by 1 at 6",
-    ),
-    (
-        ADA,
-        349_200,
-        Ask::Activate("q1"),
-        "denied 3 two-eyes approvals",
-    ),
+    BOB_APPROVES,
+    BOB_APPROVES,
+    TOO_FEW,
     (
         "t-dan",
         349_200,
@@ -309,12 +293,7 @@ pub const APPROVALS: &[Turn] = &[
         "approved q1 by 2 at 6",
     ),
     (ADA, 349_200, Ask::Import(Fabric::A, PORTS), "changed at 7"),
-    (
-        ADA,
-        349_200,
-        Ask::Activate("q1"),
-        "denied 3 two-eyes approvals",
-    ),
+    TOO_FEW,
 ];
 
 /// A plan that the records refuse: nothing of it is done, and the policy is asked before.
@@ -332,11 +311,6 @@ set.put A s8 z9
         "staged r1 of 3",
     ),
     (ADA, 0, Ask::Activate("r1"), "step 3 unknown z9"),
-    (
-        ADA,
-        0,
-        Ask::Show(See::Joined(FIRST_INITIATOR, FIRST_TARGET)),
-        "apart",
-    ),
+    (ADA, 0, Ask::Show(JOINED), "apart"),
     ("t-eve", 0, Ask::Activate("r1"), "denied 1 ops role"),
 ];
