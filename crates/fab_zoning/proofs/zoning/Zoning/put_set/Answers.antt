@@ -1,11 +1,18 @@
 use Rattle.std.proofs.Common.{All, sym, ap, ◌∙◌, subst, rules}
 use Rattle.std.specs.FinMap as map
+use Rattle.fab_maps.specs.Firsts.{IsFirstWithout}
 use Rattle.fab_zoning.specs.Steps.{CanPutSet, HasZone}
 use Rattle.fab_zoning.specs.Zonings.{FabricZoning}
 use Rattle.fab_zoning.specs.Soundness.{IsSound}
 use Rattle.fab_zoning.proofs.Changes.{with_sets_put}
 use Rattle.fab_zoning.proofs.Keeping.{put_set_keeps}
 use Rattle.fab_zoning.proofs.zoning.Zoning.put_set.Goals as goal
+
+pub returns-in-Some-first_unknown-clause-refused : goal.returns-in-Some-first_unknown-clause-refused
+returns-in-Some-first_unknown-clause-refused g c = (
+  c.in_default.ensures,
+  subst (λ (v : FabricZoning). IsFirstWithout (HasZone v) c.args.zones.now c.in-Some-first_unknown.zone) c.self.view_is c.in-Some-first_unknown.ensures,
+)
 
 pub returns-clause-sound : goal.returns-clause-sound
 returns-clause-sound g c sound =
