@@ -1,5 +1,5 @@
-//! Tests of requests: what is heard of the bytes of a connection, and what is meant by it. Nothing
-//! here is part of the product.
+//! Tests of requests as they are heard: of the bytes of a connection, with streams and memory that
+//! fail. Nothing here is part of the product.
 #![tactic(auto)]
 
 #[cfg(test)]
@@ -13,12 +13,8 @@ mod kinds;
 #[cfg(test)]
 mod limits;
 #[cfg(test)]
-mod meanings;
-#[cfg(test)]
 mod steps;
 #[cfg(test)]
 mod streams;
-#[cfg(test)]
-mod tells;
 #[cfg(test)]
 mod tokens;
