@@ -3,7 +3,7 @@
 
 Its 50 functions took 105 seconds of an idle processor from nothing then. Prints what they take here, by
 the toolchain and the processors of today, and how many times as long that is, by which docs/GATE.md tells
-what the gate takes. Run it by hand on an idle machine, in a clone that has the history; it takes some
+what the gate takes. Run it by hand on an idle machine, in a clone that has the history; it takes four to
 seven minutes, most of them for the two libraries below.
 """
 import os
