@@ -1,4 +1,3 @@
-pub mod NameLemmas
 pub mod PortListLemmas
 pub mod RecordLemmas
 pub mod FaultLemmas

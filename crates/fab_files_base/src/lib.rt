@@ -3,4 +3,3 @@
 
 pub mod laws;
 pub mod port_list;
-pub mod texts;

@@ -7,10 +7,9 @@ ghost use Rattle.fab_files_base.specs.PortLists.{header, SpellsRow, ListsPorts, 
 ghost use Rattle.fab_files_base.specs.FourFields.{four_of, texts_of};
 ghost use Rattle.fab_files_base.specs.RecordReaders.{IsReaderOf};
 
-use crate::texts::read_wwn;
 use csv::{ByteRecord, Reader, ReaderBuilder};
 use fab_inventory::PortRow;
-use fab_names::Place;
+use fab_names::{Place, read_wwn};
 use std::alloc::{Allocator, Global};
 
 /// Why a port list is refused.

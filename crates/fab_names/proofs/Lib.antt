@@ -9,3 +9,4 @@ pub mod InOrder
 pub mod Unique
 pub mod Characters
 pub mod Negations
+pub mod WwnText

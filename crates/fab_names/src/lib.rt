@@ -5,6 +5,7 @@
 //! form, and a `Display` that writes the same bytes without memory.
 #![tactic(auto)]
 
+mod bytes;
 mod fabric;
 pub mod laws;
 mod member;
@@ -13,6 +14,7 @@ mod number;
 mod place;
 mod wwn;
 
+pub use bytes::{read_fabric, read_name, read_wwn};
 pub use fabric::Fabric;
 pub use member::Member;
 pub use name::{MOST_CHARACTERS, Name};

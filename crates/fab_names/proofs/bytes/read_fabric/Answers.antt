@@ -4,7 +4,7 @@ use Rattle.std.proofs.lemmas.Str.{IsUtf8-from_ascii}
 use Rattle.fab_names.specs.Fabrics.{SpellsFabric}
 use Rattle.fab_names.specs.declared.fabric.Fabric.{Fabric}
 use Rattle.fab_names.specs.declared.fabric.Fabric.TheVariants.{A, B}
-use Rattle.fab_wire_base.proofs.parts.read_fabric.Goals as goal
+use Rattle.fab_names.proofs.bytes.read_fabric.Goals as goal
 
 letter-ascii : (c : ℕ) → c < 128 → IsAscii (c ∷ [])
 letter-ascii c h zero = h

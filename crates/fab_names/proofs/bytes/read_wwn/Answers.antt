@@ -1,7 +1,7 @@
 use Rattle.std.proofs.Common.{ℕ, List, subst, sym}
 use Rattle.fab_names.specs.WorldWideNames.{SpellsWwn}
-use Rattle.fab_files_base.proofs.NameLemmas.{IsUtf8-wwn}
-use Rattle.fab_files_base.proofs.texts.read_wwn.Goals as goal
+use Rattle.fab_names.proofs.WwnText.{IsUtf8-wwn}
+use Rattle.fab_names.proofs.bytes.read_wwn.Goals as goal
 
 pub returns-in_default : goal.returns-in_default
 returns-in_default c n s = c.in_default.ensures.cases.0 (IsUtf8-wwn _ n s)
