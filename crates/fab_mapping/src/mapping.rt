@@ -7,7 +7,7 @@ ghost use Rattle.fab_maps.specs.Firsts.{IsFirstWith, HasAt, HasNowhere};
 ghost use Rattle.fab_names.specs.Orders.{name_cmp};
 ghost use Rattle.fab_mapping_base.specs.Groups.{HoldsHost, HasTarget, IsOfArray, MapsVolume, host_group_of, new_storage_group, with_hosts, without_hosts, with_target, without_target, with_unit, without_unit, exposed_as, HasRoomForHosts, HasRoomForTarget, HasRoomForUnit, HasFreeUnit};
 ghost use Rattle.fab_mapping_base.specs.Fitting.{IsPortOf, IsVolumeOn};
-ghost use Rattle.fab_mapping.specs.Mappings.{no_groups, IsLeastClash, HasNoClash, CanPutHostGroup, PutHostGroupFails, IsUnservedIn, IsLeastServing, DropHostGroupFails, CanMakeGroup, NewGroupFails, NamesNoGroup, ChangesGroup, GroupHas, AddHostsFails, RemoveHostsFails, AddTargetFails, RemoveTargetFails, MapFails, UnmapFails};
+ghost use Rattle.fab_mapping.specs.Mappings.{no_groups, IsLeastClash, HasNoClash, CanPutHostGroup, PutHostGroupFails, IsUnservedIn, DropHostGroupFails, CanMakeGroup, NewGroupFails, NamesNoGroup, ChangesGroup, GroupHas, AddHostsFails, RemoveHostsFails, AddTargetFails, RemoveTargetFails, MapFails, UnmapFails};
 ghost use Rattle.fab_inventory.specs.Inventories.{InventoryRows};
 ghost use Rattle.fab_mapping.specs.Gone.{IsFirstGone};
 ghost use Rattle.fab_mapping.specs.Soundness.{IsSound, Fits, Keeps, KeepsAll};
@@ -97,16 +97,6 @@ impl<A: Allocator + Copy> Mapping<A> {
         ensures { MatchOption result (HasNowhere (map.get self.now.host_groups) (HoldsHost host.now)) (IsFirstWith name_cmp (HasAt (map.get self.now.host_groups) (HoldsHost host.now))) }
     {
         first_with_host(&self.host_groups, host)
-    }
-
-    /// The least storage group by name that has the host group. It takes no memory.
-    pub fn group_serving(&self, hosts: &Name) -> Option<Name>
-        ensures { MatchOption result (IsUnservedIn (map.get self.now.groups) hosts.now) (IsLeastServing (map.get self.now.groups) hosts.now) }
-    {
-        match first_serving(&self.groups, hosts) {
-            Some(name) => Some(*name),
-            None => None,
-        }
     }
 
     /// The least storage group by name that has the target port. It takes no memory.

@@ -15,14 +15,6 @@ HostGroups = List ℕ → Option HostGroupRows
 abbrev pub StorageGroups : Type 0
 StorageGroups = List ℕ → Option StorageGroupRows
 
--- the host, the target, and a volume of the group at its unit
-abbrev pub UnitClaims : List ℕ → ℕ → StorageGroupRows → Claim → Type 0
-UnitClaims host target g c = (c.0.host ≡ host) × (c.0.target ≡ target) × (map.get g.units c.0.unit ≡ Some c.1)
-
--- the host, a target of the group, and a volume of the group at its unit
-abbrev pub TargetClaims : List ℕ → StorageGroupRows → Claim → Type 0
-TargetClaims host g c = (c.0.host ≡ host) × (set.contains g.targets c.0.target ≡ true) × (map.get g.units c.0.unit ≡ Some c.1)
-
 -- a host of the host group, a target of the group, and a volume of the group at its unit
 abbrev pub HostClaims : HostGroupRows → StorageGroupRows → Claim → Type 0
 HostClaims hosts g c = (set.contains hosts.hosts c.0.host ≡ true) × (set.contains g.targets c.0.target ≡ true) × (map.get g.units c.0.unit ≡ Some c.1)

@@ -17,7 +17,6 @@ const SEARCHED: &[Row] = &[
 #[derive(Clone, Copy)]
 enum Search {
     Host(&'static str),
-    Served(&'static str),
     Target(u64),
     Array(&'static str),
     Volume(&'static str),
@@ -28,9 +27,6 @@ const FOUND: &[(Search, Option<&str>)] = &[
     (Search::Host("db1"), Some("hosts1")),
     (Search::Host("db2"), Some("hosts2")),
     (Search::Host("arr1"), None),
-    (Search::Served("hosts2"), Some("g1")),
-    (Search::Served("hosts3"), Some("g2")),
-    (Search::Served("hosts1"), None),
     (Search::Target(3), Some("g2")),
     (Search::Target(40), Some("g3")),
     (Search::Target(2), None),
@@ -46,7 +42,6 @@ const FOUND: &[(Search, Option<&str>)] = &[
 fn find(rt: &impl Abort, mapping: &Mapping<Global>, search: &Search) -> Option<Name> {
     match *search {
         Search::Host(host) => mapping.host_group_with(&named(rt, host)),
-        Search::Served(hosts) => mapping.group_serving(&named(rt, hosts)),
         Search::Target(target) => mapping.group_with_target(&port(target)),
         Search::Array(array) => mapping.group_of_array(&named(rt, array)),
         Search::Volume(volume) => mapping.group_with_volume(&named(rt, volume)),

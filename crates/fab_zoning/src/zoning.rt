@@ -7,7 +7,7 @@ ghost use Rattle.std.specs.Map.{keys_of};
 ghost use Rattle.std.specs.List.Sorted.{IsStrictlySortedBy};
 ghost use Rattle.fab_names.specs.declared.member.Member.TheVariants.{Alias};
 ghost use Rattle.fab_names.specs.Orders.{name_cmp, member_cmp};
-ghost use Rattle.fab_maps.specs.MapsOfSets.{in_tree, seen_set, seen_sets, HasNoUser, IsFirstUser};
+ghost use Rattle.fab_maps.specs.MapsOfSets.{in_tree, seen_set, seen_sets};
 ghost use Rattle.fab_zoning.specs.Limits.{most_rows};
 ghost use Rattle.fab_maps.specs.Lists.{IsListOf};
 ghost use Rattle.fab_zoning.specs.Rows.{row_cmp, IsRowOf, IsPlain};
@@ -511,20 +511,6 @@ impl<A: Allocator + Copy> Zoning<A> {
         ensures ordered { IsStrictlySortedBy name_cmp (keys_of result) }
     {
         self.sets.iter()
-    }
-
-    /// The first zone by name that names the alias.
-    pub fn user_of_alias(&self, alias: &Name) -> Option<&Name>
-        ensures { MatchOption result (HasNoUser self.now.zones (Alias alias.now)) (λ zone. IsFirstUser self.now.zones (Alias alias.now) zone.now) }
-    {
-        first_user(&self.zones, &Member::Alias(*alias))
-    }
-
-    /// The first zone set by name that names the zone.
-    pub fn user_of_zone(&self, zone: &Name) -> Option<&Name>
-        ensures { MatchOption result (HasNoUser self.now.sets zone.now) (λ zone_set. IsFirstUser self.now.sets zone.now zone_set.now) }
-    {
-        first_user(&self.sets, zone)
     }
 
     /// Whether the row of a zone and a member is active. It takes no memory.

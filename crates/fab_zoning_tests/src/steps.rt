@@ -632,24 +632,22 @@ fn parts_that_are_sound(rt: HostRuntime) {
     }
 }
 
-/// Whether just this one of three names is shown as an alias, a zone and a set, with its user.
-fn is_shown(rt: &impl Abort, zoning: &Zoning<Global>, text: &str) -> [bool; 5] {
+/// Whether a name is shown as an alias, as a zone and as a set.
+fn is_shown(rt: &impl Abort, zoning: &Zoning<Global>, text: &str) -> [bool; 3] {
     let name = named(rt, text);
     [
         zoning.alias(&name).is_some(),
         zoning.zone(&name).is_some(),
         zoning.zone_set(&name).is_some(),
-        zoning.user_of_alias(&name).is_some(),
-        zoning.user_of_zone(&name).is_some(),
     ]
 }
 
-/// Names, and whether each is an alias, a zone, a set, an alias in use and a zone in use.
-const SHOWN: &[(&str, [bool; 5])] = &[
-    ("disk", [true, false, false, true, false]),
-    ("z1", [false, true, false, false, true]),
-    ("s1", [false, false, true, false, false]),
-    ("x", [false, false, false, false, false]),
+/// Names, and whether each is an alias, a zone and a set.
+const SHOWN: &[(&str, [bool; 3])] = &[
+    ("disk", [true, false, false]),
+    ("z1", [false, true, false]),
+    ("s1", [false, false, true]),
+    ("x", [false, false, false]),
 ];
 
 #[test]
