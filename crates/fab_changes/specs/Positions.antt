@@ -1,5 +1,5 @@
 -- Where names stand in an order.
-use Rattle.std.specs.Prelude.{ℕ, ◌≡◌, ◌↔◌, ◌⊎◌, List, Contains, Option, Some}
+use Rattle.std.specs.Prelude.{ℕ, ◌≡◌, ◌⊎◌, List, Contains}
 use Rattle.std.specs.List.{IsDistinct}
 use Rattle.std.specs.Ordering.{eq_by_cmp}
 use Rattle.fab_names.specs.Orders.{name_cmp}
@@ -12,7 +12,3 @@ IsPosition order name k = Contains (numbered 1 order) (k, name) ⊎ ((k ≡ 0) �
 -- each name is in the order once, as in that of a sound world
 abbrev pub IsOrder : List (List ℕ) → Type 0
 IsOrder order = IsDistinct (eq_by_cmp name_cmp) order
-
--- each name has its place, where it is in the order once
-abbrev pub ArePositions : List (List ℕ) → (List ℕ → Option ℕ) → Type 0
-ArePositions order at = IsOrder order → (name : List ℕ) (k : ℕ) → (at name ≡ Some k) ↔ Contains (numbered 1 order) (k, name)

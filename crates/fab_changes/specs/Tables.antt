@@ -1,5 +1,5 @@
--- The rows of all tables that stand in a world, and those in which two worlds differ.
-use Rattle.std.specs.Prelude.{◌≡◌, Option, Some}
+-- Which rows of all tables stand in a world, and those in which two worlds differ.
+use Rattle.std.specs.Prelude.{◌≡◌}
 use Rattle.std.specs.declared.cmp.Ordering.{Ordering}
 use Rattle.std.specs.declared.cmp.Ordering.TheVariants.{Less, Greater}
 use Rattle.std.specs.Ordering.{nat_cmp}
@@ -20,9 +20,7 @@ use Rattle.fab_row_lists.specs.Inventories.{port_order, holder_order, volume_ord
 use Rattle.fab_row_lists.specs.Paths.{IsPathRow, path_row_order}
 use Rattle.fab_world.specs.Worlds.{WorldRows, records_of}
 use Rattle.fab_changes.specs.Keys.{plan_order, approval_order, undo_order}
-use Rattle.fab_changes.specs.Standing.{IsPlanRow, IsApprovalRow, IsUndoRow, IsOrdered, AreOrdered, AllHaveRows, Lacking}
-use Rattle.fab_changes.specs.declared.parts.Parts.{Parts}
-use Rattle.fab_changes.specs.declared.parts.PartChanges.{PartChanges}
+use Rattle.fab_changes.specs.Standing.{IsPlanRow, IsApprovalRow, IsUndoRow, IsOrdered, Lacking}
 use Rattle.fab_changes.specs.declared.tables.Changes.{Changes}
 
 -- ---- which rows stand
@@ -54,39 +52,24 @@ count_order (Schema m) (Revision n) = Less
 count_order (Revision m) (Schema n) = Greater
 count_order (Revision m) (Revision n) = nat_cmp m n
 
--- ---- the rows of a world, table by table
+-- ---- the rows in which two worlds differ, table by table
 
--- each list has the rows of its table that stand in the world, and not in the other if one is given:
--- each once, in their order, and no others; the rows of plans where each name is in the orders once,
--- as in those of sound worlds; where no other world is given, each plan within its limits has a row
-pub record AreRows {A : Type 0} (other : Option WorldRows) (w : WorldRows) (t : TableRows A) : Type 0 where
+-- each list has the rows of its table that stand in the one world and not in the other: each once, in
+-- their order, and no others; the rows of plans where each name is in the orders once, as in those of
+-- sound worlds
+pub record AreRowsLacking {A : Type 0} (other w : WorldRows) (t : TableRows A) : Type 0 where
   pub counts : IsListOf count_order (Lacking IsCountRow other w) t.counts.items
   pub ports : IsListOf port_order (Lacking IsPortRow other w) t.ports.items
   pub holders : IsListOf holder_order (Lacking IsHolderRow other w) t.holders.items
   pub volumes : IsListOf volume_order (Lacking IsVolumeRow other w) t.volumes.items
   pub config : IsListOf row_order (Lacking IsConfigRow other w) t.config.items
-  pub plans : IsOrdered w → AreOrdered other → IsListOf plan_order (Lacking IsPlanRow other w) t.plans.items
+  pub plans : IsOrdered w → IsOrdered other → IsListOf plan_order (Lacking IsPlanRow other w) t.plans.items
   pub approvals : IsListOf approval_order (Lacking IsApprovalRow other w) t.approvals.items
   pub undo : IsListOf undo_order (Lacking IsUndoRow other w) t.undo.items
   pub paths : IsListOf path_row_order (Lacking IsRowOfPath other w) t.paths.items
-  pub texts : AllHaveRows other w
 
 -- the rows that stand before and not after are removed, and those that stand after and not before are
 -- added
 pub record AreChanges {A : Type 0} (before after : WorldRows) (c : Changes A) : Type 0 where
-  pub removed : AreRows (Some after) before c.removed
-  pub added : AreRows (Some before) after c.added
-
--- ---- steps on the way
-
--- the same, of the tables of the inventory, the configuration and the paths
-pub record AreParts {A : Type 0} (other : Option WorldRows) (w : WorldRows) (p : Parts A) : Type 0 where
-  pub ports : IsListOf port_order (Lacking IsPortRow other w) p.inventory.ports.items
-  pub holders : IsListOf holder_order (Lacking IsHolderRow other w) p.inventory.holders.items
-  pub volumes : IsListOf volume_order (Lacking IsVolumeRow other w) p.inventory.volumes.items
-  pub config : IsListOf row_order (Lacking IsConfigRow other w) p.config.items
-  pub paths : IsListOf path_row_order (Lacking IsRowOfPath other w) p.paths.items
-
-pub record ArePartChanges {A : Type 0} (before after : WorldRows) (d : PartChanges A) : Type 0 where
-  pub taken : AreParts (Some after) before d.taken
-  pub added : AreParts (Some before) after d.added
+  pub removed : AreRowsLacking after before c.removed
+  pub added : AreRowsLacking before after c.added

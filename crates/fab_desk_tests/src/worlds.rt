@@ -3,30 +3,12 @@
 use crate::desks::made;
 use crate::lists::{List, turns_of};
 use fab_asking::{Turn, holds_in};
-use fab_changes::changes;
-use fab_rows::TableRows;
 use fab_store::Store;
+use fab_test_world::is_same;
 use fab_world::World;
 use std::alloc::Global;
 use std::process::Abort;
 use std::test::Fail;
-
-/// Whether there is no row.
-fn is_empty(rows: &TableRows<Global>) -> bool {
-    let records = rows.counts.is_empty()
-        && rows.ports.is_empty()
-        && rows.holders.is_empty()
-        && rows.volumes.is_empty()
-        && rows.config.is_empty();
-    let plans = rows.plans.is_empty() && rows.approvals.is_empty() && rows.undo.is_empty();
-    records && plans && rows.paths.is_empty()
-}
-
-/// Whether two worlds have the same rows.
-fn is_same(rt: &(impl Abort + AllocGlobal), one: &World<Global>, other: &World<Global>) -> bool {
-    let found = changes(rt.alloc(), one, other).expect(rt, "changes");
-    is_empty(&found.removed) && is_empty(&found.added)
-}
 
 /// Leads the machine's world through the turns, which it answers as they say.
 ///
@@ -57,7 +39,8 @@ pub fn are_kept<S: Store<Global>>(
     turns: &[Turn],
 ) -> bool {
     let loaded = tables.load(rt.alloc()).expect(rt, "load");
-    is_same(rt, &loaded, &world_after(rt, before, turns))
+    let wanted = world_after(rt, before, turns);
+    is_same(rt.alloc(), &loaded, &wanted).expect(rt, "memory")
 }
 
 /// Whether the tables have the world after so many of the turns.

@@ -4,7 +4,6 @@ ghost use Rattle.fab_world.specs.Soundness.{IsSound};
 ghost use Rattle.fab_world.specs.Worlds.{records_of};
 
 use fab_asking::{ADA, FIRST_INITIATOR, FIRST_PLAN, FIRST_TARGET, opened};
-use fab_changes::changes;
 use fab_desk_base::{Command, DeskFault, Query, Reply, Shown};
 use fab_files_base::port_list::read_ports;
 use fab_inventory::{HolderKind, Volume};
@@ -14,7 +13,7 @@ use fab_plans_base::read_plan;
 use fab_policy::Policy;
 use fab_reach::PathBook;
 use fab_refusing::Refusing;
-use fab_rows::TableRows;
+use fab_test_world::is_same;
 use fab_world::World;
 use std::alloc::Global;
 use std::process::Abort;
@@ -244,17 +243,6 @@ fn twin<'a, R: Abort + AllocGlobal, B: PathBook<Heap<'a>>>(
     world
 }
 
-/// Whether no table has rows.
-fn are_none(rows: &TableRows<Heap<'_>>) -> bool {
-    if rows.counts.len() != 0 || rows.ports.len() != 0 || rows.holders.len() != 0 {
-        return false;
-    }
-    if rows.volumes.len() != 0 || rows.config.len() != 0 || rows.plans.len() != 0 {
-        return false;
-    }
-    rows.approvals.len() == 0 && rows.undo.len() == 0 && rows.paths.len() == 0
-}
-
 /// Whether the world is as these make it.
 pub fn is_made_by<'a, R: Abort + AllocGlobal, B: PathBook<Heap<'a>>>(
     rt: &R,
@@ -263,6 +251,5 @@ pub fn is_made_by<'a, R: Abort + AllocGlobal, B: PathBook<Heap<'a>>>(
     orders: &[Order],
 ) -> bool {
     let twin = twin::<R, B>(rt, means, orders);
-    let changes = changes(means.heap, &twin, world).expect(rt, "changes");
-    are_none(&changes.removed) && are_none(&changes.added)
+    is_same(means.heap, &twin, world).expect(rt, "memory")
 }

@@ -1,13 +1,12 @@
-//! A desk whose changes are told as rows, and a second one that is a change behind.
+//! A desk whose changes are told as rows.
 ghost use Rattle.fab_world.specs.Soundness.{IsSound};
 ghost use Rattle.fab_world.specs.Worlds.{records_of};
 
 use crate::callers::{policy, token};
-use crate::same::are_same;
 use fab_asking::{Ask, command, opened};
-use fab_changes::{Changes, changes};
+use fab_changes::Changes;
 use fab_desk_base::Command;
-use fab_machine::{Proposal, answer, carry_through, lists_of, propose};
+use fab_machine::{Proposal, carry_through, lists_of, propose};
 use fab_next_changes::next_changes;
 use fab_policy::Policy;
 use fab_port_book::PortBook;
@@ -76,42 +75,21 @@ fn told<R: Abort + AllocGlobal, B: PathBook<Global>>(
     told
 }
 
-/// Whether the changes are those by which the worlds differ.
-fn are_wanted(
-    rt: &(impl Abort + AllocGlobal),
-    before: &World<Global>,
-    after: &World<Global>,
-    told: &Changes<Global>,
-) -> bool {
-    let wanted = changes(rt.alloc(), before, after).expect(rt, "changes");
-    are_same(told, &wanted)
-}
-
-/// Whether the desk tells the turn's rows as the worlds before and after it do, and so many. The
-/// second desk is a change behind, and follows then.
+/// Whether the desk tells so many rows of each table of the turn's change as the turn says.
 fn is_told<R: Abort + AllocGlobal, B: PathBook<Global>>(
     rt: &R,
     world: &mut World<Global>,
     book: &mut B,
-    behind: &mut World<Global>,
-    second: &mut B,
     policy: &Policy,
     turn: &Turn,
 ) -> bool
     requires sound { IsSound world.old }
     requires stands { B.stands book.old (records_of world.old) }
-    requires behind_sound { IsSound behind.old }
-    requires behind_stands { B.stands second.old (records_of behind.old) }
     ensures sound { IsSound world.new }
     ensures stands { B.stands book.new (records_of world.new) }
-    ensures behind_sound { IsSound behind.new }
-    ensures behind_stands { B.stands second.new (records_of behind.new) }
 {
     let told = told(rt, world, book, policy, turn.0);
-    let wanted = are_wanted(rt, behind, world, &told);
-    let again = asked_for(rt, turn.0);
-    let _reply = answer(rt.alloc(), behind, second, policy, token(turn.0), 0, again);
-    wanted && are_so_many(&told.removed, &turn.1) && are_so_many(&told.added, &turn.2)
+    are_so_many(&told.removed, &turn.1) && are_so_many(&told.added, &turn.2)
 }
 
 /// Ends the test where the same is not so of some turn.
@@ -119,22 +97,18 @@ fn tell_all<R: Abort + AllocGlobal, B: PathBook<Global>>(
     rt: &R,
     world: &mut World<Global>,
     book: &mut B,
-    behind: &mut World<Global>,
-    second: &mut B,
     policy: &Policy,
     turns: &[Turn],
 )
     requires sound { IsSound world.old }
     requires stands { B.stands book.old (records_of world.old) }
-    requires behind_sound { IsSound behind.old }
-    requires behind_stands { B.stands second.old (records_of behind.old) }
 {
     for turn in turns {
-        assert!(rt; is_told(rt, world, book, behind, second, policy, turn));
+        assert!(rt; is_told(rt, world, book, policy, turn));
     }
 }
 
-/// Has two new desks go through the turns.
+/// Has a new desk go through the turns.
 fn go_through<R: Abort + AllocGlobal, B: PathBook<Global>>(
     rt: &R,
     policy: &Policy,
@@ -145,24 +119,11 @@ fn go_through<R: Abort + AllocGlobal, B: PathBook<Global>>(
         Ok(book) => book,
         Err(_) => panic!(rt; "a book"),
     };
-    let mut behind = World::new(rt.alloc());
-    let mut second: B = match opened(rt.alloc(), &behind) {
-        Ok(book) => book,
-        Err(_) => panic!(rt; "a second book"),
-    };
-    tell_all(
-        rt,
-        &mut world,
-        &mut book,
-        &mut behind,
-        &mut second,
-        policy,
-        turns,
-    );
+    tell_all(rt, &mut world, &mut book, policy, turns);
 }
 
-/// Ends the test where a new desk does not tell the rows of each turn's change by its parts as the
-/// worlds before and after it tell them, and so many; and where a turn says no command or no change.
+/// Ends the test where a new desk does not tell so many rows of each turn's change, by its parts, as
+/// the turn says; and where a turn says no command or no change.
 pub fn tell<R: Abort + AllocGlobal>(rt: &R, turns: &[Turn]) {
     let policy = policy(rt);
     go_through::<R, PortBook<Global>>(rt, &policy, turns);

@@ -1,6 +1,6 @@
 //! Tests of the machine: worked commands, one after the other, and what is answered to each; what
-//! the policy denies, what the records refuse, and what reads show; and changes told as rows, by the
-//! parts of each and by the worlds before and after it. Nothing here is part of the product.
+//! the policy denies, what the records refuse, and what reads show; and the rows that
+//! the parts of a change tell. Nothing here is part of the product.
 #![tactic(auto)]
 
 #[cfg(test)]
@@ -15,8 +15,6 @@ mod judged;
 mod refusals;
 #[cfg(test)]
 mod replies;
-#[cfg(test)]
-mod same;
 #[cfg(test)]
 mod shows;
 #[cfg(test)]

@@ -1,12 +1,16 @@
 -- The rows of approvals of one plan, as they are listed caller by caller.
-use Rattle.std.proofs.Common.{◌≡◌, ℕ, List, [], ◌∷◌, ◌++◌, Contains, Option, None, Some, inl, inr, refl, sym, ap, ◌∙◌, subst}
+use Rattle.std.proofs.Common.{◌≡◌, ◌↔◌, ℕ, List, [], ◌∷◌, ◌++◌, Contains, Option, None, Some, inl, inr, refl, sym, ap, ◌∙◌, subst}
+use Rattle.std.specs.declared.cmp.Ordering.{Ordering}
 use Rattle.std.specs.declared.cmp.Ordering.TheVariants.{Less, Equal}
-use Rattle.std.specs.Cmp.{tied_itself}
-use Rattle.std.specs.Ordering.{nat_cmp, ordering_then, on}
+use Rattle.std.specs.Cmp.{IsTotalOrder, Equal-is, eq_by_cmp_equiv, tied_itself}
+use Rattle.std.specs.Ordering.{nat_cmp, eq_by_cmp, ordering_then, on}
 use Rattle.std.specs.BTreeMap.{BTreeMap, IsOrdered, get}
 use Rattle.std.specs.FinMap as map
+use Rattle.std.specs.FinSet as set
 use Rattle.std.specs.List.Sorted.{IsStrictlySortedBy}
 use Rattle.std.specs.Map.{keys_of}
+use Rattle.std.proofs.lemmas.Map.Keys.{IsDistinct-from_sorted}
+use Rattle.std.proofs.lemmas.Map.Views.{Contains-from_lookup, lookup-from_Contains}
 use Rattle.std.proofs.lemmas.Option.{same_Some}
 use Rattle.fab_maps.specs.Lists.{IsListOf}
 use Rattle.fab_maps.proofs.Filters.{list_as}
@@ -17,10 +21,16 @@ use Rattle.fab_store_base.specs.PlanRows.{IsApprovalOf}
 use Rattle.fab_world.specs.PlanRecords.{PlanRecord}
 use Rattle.fab_changes.specs.Keys.{approval_order}
 use Rattle.fab_changes.proofs.Picked.{Picked, picked_more, picked_skip}
-use Rattle.fab_changes.proofs.PlansKept.{entry_of}
 use Rattle.fab_next_changes.specs.PlanMoves.{IsPushed, IsGivenOnlyIn, IsOfOne, AreApprovalsMoved}
 use Rattle.fab_next_changes.proofs.Listed.{none_listed}
 use Rattle.fab_next_changes.proofs.Sorted.{sorted_as}
+
+-- a look-up finds just the entries
+entry_of : {K X : Type 0} {R : K → K → Ordering} → IsTotalOrder R → set.IsAntisymmetric R → (t : BTreeMap K X) → IsOrdered R t → (k : K) (x : X) → (get R t k ≡ Some x) ↔ Contains t.entries (k, x)
+entry_of {R = R} o exact t ordered k x = (
+  λ h. Contains-from_lookup {eq = eq_by_cmp R} (λ y z e. exact y z ((Equal-is (R y z)).0 e)) k x t.entries h,
+  λ h. lookup-from_Contains (eq_by_cmp_equiv o) k x t.entries (IsDistinct-from_sorted R (keys_of t.entries) ordered) h,
+)
 
 module _ (n : List ℕ) (others : List ℕ → Option ℕ) where
   abbrev pub IsNew : List ℕ × ℕ → Type 0

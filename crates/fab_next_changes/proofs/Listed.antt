@@ -1,5 +1,5 @@
 -- Lists of no rows, and of one.
-use Rattle.std.proofs.Common.{◌≡◌, List, [], ◌∷◌, Some, inl, inr, sym, subst, arith}
+use Rattle.std.proofs.Common.{◌≡◌, List, [], ◌∷◌, inl, inr, sym, subst, arith}
 use Rattle.std.specs.declared.cmp.Ordering.{Ordering}
 use Rattle.std.specs.List.Sorted.{IsStrictlySortedBy}
 use Rattle.fab_maps.specs.Lists.{IsListOf}
@@ -36,6 +36,6 @@ module _ {R : Type 0} (O : R → R → Ordering) where
   -- the same rows stand in both worlds
   pub none_moved : (Stands : WorldRows → R → Type 0) (w v : WorldRows) (xs ys : List R) → xs ≡ [] → ys ≡ [] → ((r : R) → Stands w r → Stands v r) → ((r : R) → Stands v r → Stands w r) → AreMoved O Stands w v xs ys
   none_moved Stands w v xs ys no_x no_y there back = record {
-    removed = none_listed (Lacking Stands (Some v) w) xs no_x (λ r h. h.1 (there r h.0));
-    added = none_listed (Lacking Stands (Some w) v) ys no_y (λ r h. h.1 (back r h.0));
+    removed = none_listed (Lacking Stands v w) xs no_x (λ r h. h.1 (there r h.0));
+    added = none_listed (Lacking Stands w v) ys no_y (λ r h. h.1 (back r h.0));
   }

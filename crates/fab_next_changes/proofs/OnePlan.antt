@@ -1,5 +1,5 @@
 -- The rows of one plan, where all others are as they were.
-use Rattle.std.proofs.Common.{◌≡◌, ℕ, List, Bool, true, false, Option, Some, refl, sym, ap, ◌∙◌, subst}
+use Rattle.std.proofs.Common.{◌≡◌, ℕ, List, Bool, true, false, Option, refl, sym, ap, ◌∙◌, subst}
 use mathlib.Core.Bool.{true≢false}
 use Rattle.std.specs.declared.cmp.Ordering.{Ordering}
 use Rattle.std.specs.Cmp.Lexicographic.{bytes_decides}
@@ -29,27 +29,27 @@ module _ {R : Type 0} (O : R → R → Ordering) (plan_of : R → List ℕ) (P :
   abbrev pub AreOthers : WorldRows → WorldRows → List ℕ → Type 0
   AreOthers w v n = (m : List ℕ) → ¬ (m ≡ n) → map.get w.plans m ≡ map.get v.plans m
 
-  one_side : (w v : WorldRows) (n : List ℕ) → AreOthers w v n → (xs : List R) → IsListOf O (IsOfOne plan_of P n (map.get w.plans n) (map.get v.plans n)) xs → IsListOf O (Lacking StandsOf (Some v) w) xs
-  one_side w v n others xs = list_as (IsOfOne plan_of P n (map.get w.plans n) (map.get v.plans n)) (Lacking StandsOf (Some v) w) xs to from
+  one_side : (w v : WorldRows) (n : List ℕ) → AreOthers w v n → (xs : List R) → IsListOf O (IsOfOne plan_of P n (map.get w.plans n) (map.get v.plans n)) xs → IsListOf O (Lacking StandsOf v w) xs
+  one_side w v n others xs = list_as (IsOfOne plan_of P n (map.get w.plans n) (map.get v.plans n)) (Lacking StandsOf v w) xs to from
     where
-      to : (r : R) → IsOfOne plan_of P n (map.get w.plans n) (map.get v.plans n) r → Lacking StandsOf (Some v) w r
+      to : (r : R) → IsOfOne plan_of P n (map.get w.plans n) (map.get v.plans n) r → Lacking StandsOf v w r
       to r h = (
         (h.1.0, ap (map.get w.plans) h.0 ∙ h.1.1, h.1.2),
         λ s. h.2 (s.0, sym (ap (map.get v.plans) h.0) ∙ s.1, s.2),
       )
 
-      here : (r : R) → Lacking StandsOf (Some v) w r → plan_of r ≡ n → IsOfOne plan_of P n (map.get w.plans n) (map.get v.plans n) r
+      here : (r : R) → Lacking StandsOf v w r → plan_of r ≡ n → IsOfOne plan_of P n (map.get w.plans n) (map.get v.plans n) r
       here r h is = (
         is,
         (h.0.0, sym (ap (map.get w.plans) is) ∙ h.0.1, h.0.2),
         λ s. h.1 (s.0, ap (map.get v.plans) is ∙ s.1, s.2),
       )
 
-      by : (r : R) (b : Bool) → same_name (plan_of r) n ≡ b → Lacking StandsOf (Some v) w r → IsOfOne plan_of P n (map.get w.plans n) (map.get v.plans n) r
+      by : (r : R) (b : Bool) → same_name (plan_of r) n ≡ b → Lacking StandsOf v w r → IsOfOne plan_of P n (map.get w.plans n) (map.get v.plans n) r
       by r true e h = here r h ((name_decides (plan_of r) n).0 e)
       by r false e h = absurd (h.1 (h.0.0, sym (others (plan_of r) (told_apart (plan_of r) n e)) ∙ h.0.1, h.0.2))
 
-      from : (r : R) → Lacking StandsOf (Some v) w r → IsOfOne plan_of P n (map.get w.plans n) (map.get v.plans n) r
+      from : (r : R) → Lacking StandsOf v w r → IsOfOne plan_of P n (map.get w.plans n) (map.get v.plans n) r
       from r h = by r (same_name (plan_of r) n) refl h
 
   -- what moves of the one plan is all that moves

@@ -80,7 +80,7 @@ module _ (w v : WorldRows) (n : List ℕ) (p : PlanRecord) (none : map.get w.pla
       let position = same_orders w.order v.order r.name (sym more.order) in
       (row_stays w v r same position, row_stays v w r (sym same) (other_way w.order v.order r.name position))
 
-  none_removed : (r : PlanEntry) → ¬ Lacking IsPlanRow (Some v) w r
+  none_removed : (r : PlanEntry) → ¬ Lacking IsPlanRow v w r
   none_removed r h = by (same_name r.name n) refl
     where
       by : (b : Bool) → same_name r.name n ≡ b → ⊥
@@ -91,13 +91,13 @@ module _ (w v : WorldRows) (n : List ℕ) (p : PlanRecord) (none : map.get w.pla
     now_placed : IsPosition v.order n place.position
     now_placed = subst (λ ns. IsPosition ns n place.position) (sym more.order) position
 
-    added_row : Spells (plan_text p.steps) p.steps → Lacking IsPlanRow (Some w) v (row_at n p place)
+    added_row : Spells (plan_text p.steps) p.steps → Lacking IsPlanRow w v (row_at n p place)
     added_row spelt = (
       record { plan = (p, more_there, record { author = refl; text = record { spells = spelt; printed = refl }; state = sym state }); position = now_placed },
       stood_not (row_at n p place) refl,
     )
 
-    only_row : (s : PlanEntry) → Lacking IsPlanRow (Some w) v s → s ≡ row_at n p place
+    only_row : (s : PlanEntry) → Lacking IsPlanRow w v s → s ≡ row_at n p place
     only_row s h = by (same_name s.name n) refl
       where
         named_so : s.name ≡ n → s ≡ row_at n p place
@@ -118,8 +118,8 @@ module _ (w v : WorldRows) (n : List ℕ) (p : PlanRecord) (none : map.get w.pla
     -- its row is the only one that comes
     pub row_comes : (row : PlanEntry) (xs ys : List PlanEntry) → xs ≡ [] → ys ≡ row ∷ [] → row ≡ row_at n p place → Spells (plan_text p.steps) p.steps → AreMoved plan_order IsPlanRow w v xs ys
     row_comes row xs ys no_x ys_are is spelt = record {
-      removed = none_listed plan_order (Lacking IsPlanRow (Some v) w) xs no_x none_removed;
-      added = subst (IsListOf plan_order (Lacking IsPlanRow (Some w) v)) (sym (ys_are ∙ ap (λ r. r ∷ []) is)) (one_listed plan_order (Lacking IsPlanRow (Some w) v) (row_at n p place) (added_row spelt) only_row);
+      removed = none_listed plan_order (Lacking IsPlanRow v w) xs no_x none_removed;
+      added = subst (IsListOf plan_order (Lacking IsPlanRow w v)) (sym (ys_are ∙ ap (λ r. r ∷ []) is)) (one_listed plan_order (Lacking IsPlanRow w v) (row_at n p place) (added_row spelt) only_row);
     }
 
 -- a plan that is new is not active in a sound world: the order has its name neither before nor after

@@ -1,5 +1,5 @@
 -- Sorted lists that are made of others.
-use Rattle.std.proofs.Common.{◌≡◌, List, [], ◌∷◌, ◌++◌, map, Contains, inl, inr, refl, subst, arith}
+use Rattle.std.proofs.Common.{◌≡◌, List, [], ◌∷◌, ◌++◌, map, Contains, inl, inr, refl, ap, subst, arith}
 use Rattle.std.specs.declared.cmp.Ordering.{Ordering}
 use Rattle.std.specs.declared.cmp.Ordering.TheVariants.{Less}
 use Rattle.std.specs.List.{AllByRecursion}
@@ -32,6 +32,13 @@ module _ {K R : Type 0} (f : K → R) where
   from_mapped (k ∷ ks) r h = elim (first_or_later (f k) r (map f ks) h) [
     | inl is ↦ (k, (0, omega arith, refl), is)
     | inr more ↦ let w = from_mapped ks r more in (w.0, later k w.0 ks w.1, w.2)
+  ]
+
+  pub to_mapped : (ks : List K) (k : K) → Contains ks k → Contains (map f ks) (f k)
+  to_mapped [] k h = absurd (omega (arith, h.1))
+  to_mapped (x ∷ xs) k h = elim (first_or_later x k xs h) [
+    | inl is ↦ (0, omega arith, ap f is)
+    | inr there ↦ later (f x) (f k) (map f xs) (to_mapped xs k there)
   ]
 
   pub mapped_sorted : (C : K → K → Ordering) (O : R → R → Ordering) → ((a b : K) → C a b ≡ Less → O (f a) (f b) ≡ Less) → (ks : List K) → IsStrictlySortedBy C ks → IsStrictlySortedBy O (map f ks)

@@ -1,5 +1,5 @@
 -- The rows of inventories, configurations and paths that are moved, as those of the tables.
-use Rattle.std.proofs.Common.{List, Some}
+use Rattle.std.proofs.Common.{List}
 use Rattle.fab_maps.specs.Lists.{IsListOf}
 use Rattle.fab_maps.proofs.Filters.{list_as}
 use Rattle.fab_inventory.specs.declared.port.Port.{Port}
@@ -17,17 +17,17 @@ use Rattle.fab_changes.specs.Standing.{Lacking}
 use Rattle.fab_changes.specs.Tables.{IsPortRow, IsHolderRow, IsVolumeRow, IsConfigRow, IsRowOfPath}
 
 module _ (w v : WorldRows) where
-  pub ports_only : (xs : List Port) → IsListOf port_order (λ r. IsKnownOnlyIn w.inventory v.inventory (row.Port r)) xs → IsListOf port_order (Lacking IsPortRow (Some v) w) xs
-  ports_only xs = list_as (λ r. IsKnownOnlyIn w.inventory v.inventory (row.Port r)) (Lacking IsPortRow (Some v) w) xs (λ r h. (h.there, h.not_there)) (λ r h. record { there = h.0; not_there = h.1 })
+  pub ports_only : (xs : List Port) → IsListOf port_order (λ r. IsKnownOnlyIn w.inventory v.inventory (row.Port r)) xs → IsListOf port_order (Lacking IsPortRow v w) xs
+  ports_only xs = list_as (λ r. IsKnownOnlyIn w.inventory v.inventory (row.Port r)) (Lacking IsPortRow v w) xs (λ r h. (h.there, h.not_there)) (λ r h. record { there = h.0; not_there = h.1 })
 
-  pub holders_only : (xs : List HolderRow) → IsListOf holder_order (λ r. IsKnownOnlyIn w.inventory v.inventory (row.Holder r)) xs → IsListOf holder_order (Lacking IsHolderRow (Some v) w) xs
-  holders_only xs = list_as (λ r. IsKnownOnlyIn w.inventory v.inventory (row.Holder r)) (Lacking IsHolderRow (Some v) w) xs (λ r h. (h.there, h.not_there)) (λ r h. record { there = h.0; not_there = h.1 })
+  pub holders_only : (xs : List HolderRow) → IsListOf holder_order (λ r. IsKnownOnlyIn w.inventory v.inventory (row.Holder r)) xs → IsListOf holder_order (Lacking IsHolderRow v w) xs
+  holders_only xs = list_as (λ r. IsKnownOnlyIn w.inventory v.inventory (row.Holder r)) (Lacking IsHolderRow v w) xs (λ r h. (h.there, h.not_there)) (λ r h. record { there = h.0; not_there = h.1 })
 
-  pub volumes_only : (xs : List VolumeRow) → IsListOf volume_order (λ r. IsKnownOnlyIn w.inventory v.inventory (row.Volume r)) xs → IsListOf volume_order (Lacking IsVolumeRow (Some v) w) xs
-  volumes_only xs = list_as (λ r. IsKnownOnlyIn w.inventory v.inventory (row.Volume r)) (Lacking IsVolumeRow (Some v) w) xs (λ r h. (h.there, h.not_there)) (λ r h. record { there = h.0; not_there = h.1 })
+  pub volumes_only : (xs : List VolumeRow) → IsListOf volume_order (λ r. IsKnownOnlyIn w.inventory v.inventory (row.Volume r)) xs → IsListOf volume_order (Lacking IsVolumeRow v w) xs
+  volumes_only xs = list_as (λ r. IsKnownOnlyIn w.inventory v.inventory (row.Volume r)) (Lacking IsVolumeRow v w) xs (λ r h. (h.there, h.not_there)) (λ r h. record { there = h.0; not_there = h.1 })
 
-  pub config_only : (xs : List ConfigRow) → IsListOf row_order (StandsOnlyIn w.config v.config) xs → IsListOf row_order (Lacking IsConfigRow (Some v) w) xs
-  config_only xs = list_as (StandsOnlyIn w.config v.config) (Lacking IsConfigRow (Some v) w) xs (λ r h. (h.there, h.not_there)) (λ r h. record { there = h.0; not_there = h.1 })
+  pub config_only : (xs : List ConfigRow) → IsListOf row_order (StandsOnlyIn w.config v.config) xs → IsListOf row_order (Lacking IsConfigRow v w) xs
+  config_only xs = list_as (StandsOnlyIn w.config v.config) (Lacking IsConfigRow v w) xs (λ r h. (h.there, h.not_there)) (λ r h. record { there = h.0; not_there = h.1 })
 
-  pub paths_only : (xs : List PathRow) → IsListOf path_row_order (IsPathRowOnlyIn (records_of w) (records_of v)) xs → IsListOf path_row_order (Lacking IsRowOfPath (Some v) w) xs
-  paths_only xs = list_as (IsPathRowOnlyIn (records_of w) (records_of v)) (Lacking IsRowOfPath (Some v) w) xs (λ r h. (h.there, h.not_there)) (λ r h. record { there = h.0; not_there = h.1 })
+  pub paths_only : (xs : List PathRow) → IsListOf path_row_order (IsPathRowOnlyIn (records_of w) (records_of v)) xs → IsListOf path_row_order (Lacking IsRowOfPath v w) xs
+  paths_only xs = list_as (IsPathRowOnlyIn (records_of w) (records_of v)) (Lacking IsRowOfPath v w) xs (λ r h. (h.there, h.not_there)) (λ r h. record { there = h.0; not_there = h.1 })

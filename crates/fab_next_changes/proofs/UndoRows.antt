@@ -21,10 +21,9 @@ use Rattle.fab_store_base.specs.PlanRows.{IsChanged, IsInOrder}
 use Rattle.fab_world.specs.PlanRecords.{Standing, staged, active, rolled_back, withdrawn, PlanRecord}
 use Rattle.fab_world.specs.Plans.{Change, state_of, undo_of}
 use Rattle.fab_changes.specs.Keys.{undo_order}
-use Rattle.fab_changes.proofs.KeysListed.{mapped}
 use Rattle.fab_next_changes.specs.PlanMoves.{undo_row, IsUndoOf, IsUndoRowOf, IsOfOne, AreUndoMoved}
 use Rattle.fab_next_changes.proofs.Listed.{none_listed}
-use Rattle.fab_next_changes.proofs.Sorted.{from_mapped, mapped_sorted, both_sorted}
+use Rattle.fab_next_changes.proofs.Sorted.{from_mapped, to_mapped, mapped_sorted, both_sorted}
 
 -- ---- the rows of one change
 
@@ -60,10 +59,10 @@ module _ (n : List ℕ) (taken added : List ConfigRow) where
       by : (s : Sign) → r.sign ≡ s → IsChanged (active taken added) s r.row → Contains told r
       by Taken e changed =
           let is : undo_row n Taken r.row ≡ r = λ i. record { plan = sym h.0 i; sign = sym e i; row = r.row } in
-          subst (Contains told) is (Contains-append_left (map (undo_row n Taken) taken) (map (undo_row n Added) added) (undo_row n Taken r.row) (mapped (undo_row n Taken) taken r.row changed))
+          subst (Contains told) is (Contains-append_left (map (undo_row n Taken) taken) (map (undo_row n Added) added) (undo_row n Taken r.row) (to_mapped (undo_row n Taken) taken r.row changed))
       by Added e changed =
           let is : undo_row n Added r.row ≡ r = λ i. record { plan = sym h.0 i; sign = sym e i; row = r.row } in
-          subst (Contains told) is (Contains-append_right (map (undo_row n Taken) taken) (map (undo_row n Added) added) (undo_row n Added r.row) (mapped (undo_row n Added) added r.row changed))
+          subst (Contains told) is (Contains-append_right (map (undo_row n Taken) taken) (map (undo_row n Added) added) (undo_row n Added r.row) (to_mapped (undo_row n Added) added r.row changed))
 
   pub change_listed : (rows : List UndoRow) → rows ≡ told → IsInOrder taken → IsInOrder added → IsListOf undo_order (IsUndoOf n taken added) rows
   change_listed rows is t a = subst (IsListOf undo_order (IsUndoOf n taken added)) (sym is) (record { sorted = told_sorted t a; sound = told_sound; complete = told_complete })

@@ -1,5 +1,5 @@
 -- The rows in which two worlds differ, kind by kind: words of the private functions.
-use Rattle.std.specs.Prelude.{ℕ, ◌≡◌, List, Some}
+use Rattle.std.specs.Prelude.{ℕ, ◌≡◌, List}
 use Rattle.std.specs.declared.cmp.Ordering.{Ordering}
 use Rattle.std.specs.FinMap as map
 use Rattle.fab_maps.specs.Lists.{IsListOf}
@@ -17,8 +17,8 @@ use Rattle.fab_next_changes.specs.declared.plans.PlanTables.{PlanTables}
 
 -- the rows of a kind that stand before and not after, and those that stand after and not before
 pub record AreMoved {R : Type 0} (O : R → R → Ordering) (Stands : WorldRows → R → Type 0) (before after : WorldRows) (xs ys : List R) : Type 0 where
-  pub removed : IsListOf O (Lacking Stands (Some after) before) xs
-  pub added : IsListOf O (Lacking Stands (Some before) after) ys
+  pub removed : IsListOf O (Lacking Stands after before) xs
+  pub added : IsListOf O (Lacking Stands before after) ys
 
 -- those of inventories, configurations and paths
 pub record ArePartsMoved {A : Type 0} (before after : WorldRows) (p : Parts A) : Type 0 where

@@ -75,7 +75,7 @@ pub record AreTold {A : Type 0} (at other : PlansAt A) (w v : WorldRows) : Type 
 
 -- the row of a plan stands in the one world, and not in the other
 abbrev pub IsOnlyRow : WorldRows → WorldRows → PlanEntry → Type 0
-IsOnlyRow w v = Lacking IsPlanRow (Some v) w
+IsOnlyRow w v = Lacking IsPlanRow v w
 
 -- the row of this name with Q, if there is one, is put behind the others
 abbrev pub IsPut : (PlanEntry → Type 0) → List ℕ → List PlanEntry → List PlanEntry → Type 0

@@ -1,3 +1,2 @@
 pub mod OneWorld
 pub mod WorldMade
-pub mod RowsBack

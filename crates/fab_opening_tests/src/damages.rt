@@ -3,7 +3,7 @@
 use crate::edits::{Edit, apply_all};
 use crate::lines::{Line, are, name};
 use crate::records::CONFIG;
-use crate::stock::{FIRST_INITIATOR, FIRST_TARGET, SECOND_TARGET};
+use crate::stock::{FIRST_INITIATOR, FIRST_TARGET, SECOND_TARGET, stock};
 use crate::tables::tables;
 use fab_inventory::HolderKind::{Array, Host};
 use fab_inventory::Inventory;
@@ -11,7 +11,7 @@ use fab_load::{LoadFault, Table};
 use fab_names::Fabric::A;
 use fab_opening::world_of;
 use fab_reach::Config;
-use fab_row_lists::{InventoryLists, inventory_rows, path_rows};
+use fab_row_lists::{InventoryLists, are_path_rows, inventory_difference};
 use fab_rows::{PlanState, Sign, TableRows, config_rows};
 use fab_world::{KeptPlan, World};
 use std::alloc::Global;
@@ -209,16 +209,15 @@ fn damage_is_named(rt: HostRuntime) {
     first_of_several_is_told(&rt);
 }
 
-/// Whether the inventory has the rows.
-fn has_inventory(
-    rt: &(impl Abort + AllocGlobal),
-    inventory: &Inventory<Global>,
-    tables: &TableRows<Global>,
-) -> bool {
-    let lists = inventory_rows(rt.alloc(), inventory).expect(rt, "memory");
-    lists.ports.as_slice() == tables.ports.as_slice()
-        && lists.holders.as_slice() == tables.holders.as_slice()
-        && lists.volumes.as_slice() == tables.volumes.as_slice()
+/// Whether there is no row.
+fn is_empty(lists: &InventoryLists<Global>) -> bool {
+    lists.ports.is_empty() && lists.holders.is_empty() && lists.volumes.is_empty()
+}
+
+/// Whether the inventory is that of the rows.
+fn has_inventory(rt: &(impl Abort + AllocGlobal), inventory: &Inventory<Global>) -> bool {
+    let found = inventory_difference(rt.alloc(), inventory, &stock(rt)).expect(rt, "memory");
+    is_empty(&found.taken) && is_empty(&found.added)
 }
 
 fn has_config(rt: &(impl Abort + AllocGlobal), config: &Config<Global>) -> bool {
@@ -231,8 +230,8 @@ fn has_paths(
     world: &World<Global>,
     tables: &TableRows<Global>,
 ) -> bool {
-    let rows = path_rows(rt.alloc(), &world.inventory, &world.config).expect(rt, "paths");
-    rows.as_slice() == tables.paths.as_slice()
+    let rows = tables.paths.as_slice();
+    are_path_rows(rt.alloc(), &world.inventory, &world.config, rows).expect(rt, "paths")
 }
 
 /// Whether the plan is ada's, active, of ten steps, with bob's approval, and its activation took one
@@ -267,7 +266,7 @@ fn has_plan(rt: &impl Abort, world: &World<Global>) -> bool {
 }
 
 /// The world of the rows.
-fn restored(rt: &(impl Abort + AllocGlobal), tables: &TableRows<Global>) -> World<Global> {
+pub fn restored(rt: &(impl Abort + AllocGlobal), tables: &TableRows<Global>) -> World<Global> {
     world_of(rt.alloc(), tables).expect(rt, "a world")
 }
 
@@ -275,7 +274,7 @@ fn restored(rt: &(impl Abort + AllocGlobal), tables: &TableRows<Global>) -> Worl
 fn rows_come_back(rt: HostRuntime) {
     let tables = tables(&rt);
     let world = restored(&rt, &tables);
-    assert!(rt; has_inventory(&rt, &world.inventory, &tables));
+    assert!(rt; has_inventory(&rt, &world.inventory));
     assert!(rt; has_config(&rt, &world.config));
     assert!(rt; has_paths(&rt, &world, &tables));
     assert!(rt; has_plan(&rt, &world));

@@ -17,6 +17,8 @@ mod plans;
 #[cfg(test)]
 mod records;
 #[cfg(test)]
+mod same;
+#[cfg(test)]
 mod stock;
 #[cfg(test)]
 mod tables;

@@ -4,9 +4,10 @@ use crate::lines::{name, port};
 use crate::plan_lines::{ApprovalLine, PlanLine, approval_row, plan_row};
 use crate::records::{config_rows, undo_rows};
 use crate::stock::{FIRST_INITIATOR, FIRST_TARGET, stock};
+use fab_inventory::Inventory;
 use fab_names::Fabric;
 use fab_reach::Path;
-use fab_row_lists::{InventoryLists, inventory_rows};
+use fab_row_lists::{InventoryLists, inventory_difference};
 use fab_rows::{CountRow, PathRow, PlanState, SCHEMA, TableRows};
 use std::alloc::Global;
 use std::process::Abort;
@@ -68,8 +69,9 @@ pub fn put_path(rt: &impl Abort, tables: &mut TableRows<Global>, host: &str, tar
 
 /// The rows of the inventory.
 fn stock_rows(rt: &(impl Abort + AllocGlobal)) -> InventoryLists<Global> {
-    let inventory = stock(rt);
-    inventory_rows(rt.alloc(), &inventory).expect(rt, "memory")
+    let new = Inventory::new(rt.alloc());
+    let found = inventory_difference(rt.alloc(), &new, &stock(rt)).expect(rt, "memory");
+    found.added
 }
 
 /// The rows of the inventory and the configuration, and the changed rows.

@@ -1,12 +1,12 @@
 -- The rows in which two worlds differ, in one list.
-use Rattle.std.proofs.Common.{ℕ, ◌≡◌, ◌<◌, ◌≤◌, ◌↔◌, ⊎_elim, List, ◌++◌, map, Contains, Some, refl, ap, ◌∙◌, subst, arith}
+use Rattle.std.proofs.Common.{ℕ, ◌≡◌, ◌<◌, ◌≤◌, ◌↔◌, ⊎_elim, List, ◌++◌, map, Contains, refl, ap, ◌∙◌, subst, arith}
 use Rattle.std.specs.Cmp.{nat_cmp_total}
 use Rattle.std.specs.declared.cmp.Ordering.TheVariants.{Less}
 use Rattle.std.proofs.lemmas.List.Elements.{Contains-append_left, Contains-append_right, Contains-append_cases}
-use Rattle.fab_changes.proofs.KeysAdded.{approval_total, undo_total}
+use Rattle.fab_changes.proofs.KeyOrders.{approval_total, undo_total}
 use Rattle.fab_changes.specs.Keys.{plan_order, approval_order, undo_order, approval_key, undo_key}
 use Rattle.fab_changes.specs.Standing.{IsOrdered, IsPlanRow, Lacking}
-use Rattle.fab_changes.specs.Tables.{AreRows, count_order}
+use Rattle.fab_changes.specs.Tables.{AreRowsLacking, count_order}
 use Rattle.fab_maps.specs.Lists.{IsListOf}
 use Rattle.fab_names.proofs.OrderLaws.{name_total}
 use Rattle.fab_row_lists.proofs.InventoryTables.{ports_total, holders_total, volumes_total}
@@ -96,8 +96,8 @@ left = Contains-append_left
 right : (xs ys : List AnyRow) (x : AnyRow) → Contains ys x → Contains (xs ++ ys) x
 right = Contains-append_right
 
-module _ {A : Type 0} (w other : WorldRows) (t : TableRows A) (h : AreRows (Some other) w t) (ordered : IsOrdered w) (also : IsOrdered other) where
-  plans_listed : IsListOf plan_order (Lacking IsPlanRow (Some other) w) t.plans.items
+module _ {A : Type 0} (w other : WorldRows) (t : TableRows A) (h : AreRowsLacking other w t) (ordered : IsOrdered w) (also : IsOrdered other) where
+  plans_listed : IsListOf plan_order (Lacking IsPlanRow other w) t.plans.items
   plans_listed = h.plans ordered also
 
   inventory_part : IsPart 0 3 (inventory_rows t)

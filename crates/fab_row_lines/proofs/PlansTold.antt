@@ -4,9 +4,8 @@ use mathlib.Core.Bool.{true≢false}
 use Rattle.std.specs.FinMap as map
 use Rattle.std.proofs.lemmas.List.Elements.{All-contains, All-contains_itself, All-weaker}
 use Rattle.fab_changes.proofs.PlacedNames.{one_place, placed_name, place_of}
-use Rattle.fab_changes.specs.Placed.{plan_row}
 use Rattle.fab_changes.specs.Positions.{IsPosition}
-use Rattle.fab_changes.specs.Standing.{IsPlanRow, HaveRows}
+use Rattle.fab_changes.specs.Standing.{IsPlanRow, HaveRows, plan_row}
 use Rattle.fab_rows.specs.PlanEntries.{PlanEntry}
 use Rattle.fab_rows.specs.declared.record_row.PlanState.TheVariants as state
 use Rattle.fab_steps.specs.Plans.{Spells, plan_text}

@@ -1,5 +1,5 @@
-//! Tests of rows as lines: worlds that are opened from lines and written as lines again, the lines in
-//! which worlds differ, and damaged lines. Nothing here is part of the product.
+//! Tests of rows as lines: worlds that are opened from lines and written as lines again, changes that
+//! are written as lines, and damaged lines. Nothing here is part of the product.
 #![tactic(auto)]
 
 #[cfg(test)]

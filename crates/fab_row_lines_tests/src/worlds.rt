@@ -1,10 +1,12 @@
-//! A world that is opened from lines, and its lines.
+//! Worlds that are opened from lines, and rows that are written as lines.
 
 use crate::stored::{WORLD, lines, no_lines, put};
-use fab_changes::{changes, rows_of};
-use fab_row_lines::{TableLines, change_lines, world_of_lines};
+use fab_changes::Changes;
+use fab_row_lines::{TableLines, change_lines, rows_of_lines, world_of_lines};
 use fab_row_lines_base::lines_of_rows;
+use fab_rows::TableRows;
 use fab_tables::TableLine;
+use fab_test_world::is_same;
 use fab_world::World;
 use std::alloc::Global;
 use std::process::Abort;
@@ -16,9 +18,15 @@ fn put_each(rt: &impl Abort, lines: &mut TableLines, found: Vec<TableLine<Global
     }
 }
 
-/// The lines of a world.
-fn lines_of(rt: &(impl Abort + AllocGlobal), world: &World<Global>) -> Vec<TableLine<Global>> {
-    let rows = rows_of(rt.alloc(), world).expect(rt, "rows");
+/// The rows of the texts.
+fn rows_of(rt: &(impl Abort + AllocGlobal), texts: &[&str]) -> TableRows<Global> {
+    let lines = lines(rt, texts);
+    rows_of_lines(rt.alloc(), &lines).expect(rt, "rows")
+}
+
+/// The lines of the rows of the texts.
+fn written(rt: &(impl Abort + AllocGlobal), texts: &[&str]) -> Vec<TableLine<Global>> {
+    let rows = rows_of(rt, texts);
     lines_of_rows(rt.alloc(), &rows).expect(rt, "lines")
 }
 
@@ -30,8 +38,8 @@ fn world_of(rt: &(impl Abort + AllocGlobal), found: Vec<TableLine<Global>>) -> W
 }
 
 /// The world of the texts.
-fn world(rt: &(impl Abort + AllocGlobal)) -> World<Global> {
-    let lines = lines(rt, WORLD);
+fn world(rt: &(impl Abort + AllocGlobal), texts: &[&str]) -> World<Global> {
+    let lines = lines(rt, texts);
     world_of_lines(rt.alloc(), &lines).expect(rt, "a world")
 }
 
@@ -74,36 +82,24 @@ fn are_of(lines: &[TableLine<Global>], counts: &[usize]) -> bool {
     true
 }
 
-/// Whether so many lines of each table lead from one world to another: those to remove, and those to
-/// add.
-fn lead(
-    rt: &(impl Abort + AllocGlobal),
-    before: &World<Global>,
-    after: &World<Global>,
-    removed: &[usize],
-    added: &[usize],
-) -> bool {
-    let rows = changes(rt.alloc(), before, after).expect(rt, "changes");
-    let found = change_lines(rt.alloc(), &rows).expect(rt, "lines");
-    are_of(found.removed.as_slice(), removed) && are_of(found.added.as_slice(), added)
-}
-
-const NONE: &[usize] = &[0, 0, 0, 0, 0, 0, 0, 0, 0, 0, 0, 0];
-
 /// How many lines each table of the world has.
 const SIZES: &[usize] = &[6, 6, 3, 2, 4, 2, 2, 4, 1, 1, 14, 1];
 
-/// Whether the world is written as lines of which it is opened again: no line leads from the one to the
-/// other.
+/// Whether the worlds are the same.
+fn are_same(rt: &(impl Abort + AllocGlobal), one: &World<Global>, other: &World<Global>) -> bool {
+    is_same(rt.alloc(), one, other).expect(rt, "memory")
+}
+
+/// Whether the rows of the world are written as lines of which it is opened again.
 fn is_written(rt: &(impl Abort + AllocGlobal), world: &World<Global>) -> bool {
-    let found = lines_of(rt, world);
+    let found = written(rt, WORLD);
     assert!(rt; are_of(found.as_slice(), SIZES));
-    lead(rt, world, &world_of(rt, found), NONE, NONE)
+    are_same(rt, world, &world_of(rt, found))
 }
 
 /// Whether the world of the texts has this revision, and is written and opened again.
 fn are_texts_kept(rt: &(impl Abort + AllocGlobal), revision: u64) -> bool {
-    let world = world(rt);
+    let world = world(rt, WORLD);
     world.revision == revision && is_written(rt, &world)
 }
 
@@ -112,21 +108,44 @@ fn a_world_is_opened_and_written_again(rt: HostRuntime) {
     assert!(rt; are_texts_kept(&rt, 7));
 }
 
-/// The lines of a new world that the world does not have: the revision and the active zone set of
-/// fabric A are others.
-const REMOVED: &[usize] = &[2, 0, 0, 0, 0, 0, 0, 0, 0, 0, 0, 0];
+/// The lines of a new world.
+const NEW: &[&str] = &[
+    "meta|schema|1",
+    "meta|revision|0",
+    "meta|active.A|",
+    "meta|active.B|",
+    "meta|default.A|deny",
+    "meta|default.B|deny",
+];
 
-/// The lines of the world that a new world does not have.
-const ADDED: &[usize] = &[2, 6, 3, 2, 4, 2, 2, 4, 1, 1, 14, 1];
-
-/// Whether these lines lead from a new world to that of the texts, and the same back.
-fn are_texts_changed(rt: &(impl Abort + AllocGlobal)) -> bool {
-    let new = World::new(rt.alloc());
-    let world = world(rt);
-    lead(rt, &new, &world, REMOVED, ADDED) && lead(rt, &world, &new, ADDED, REMOVED)
+/// Whether the world of the texts is a new one.
+fn is_new(rt: &(impl Abort + AllocGlobal), texts: &[&str]) -> bool {
+    are_same(rt, &world(rt, texts), &World::new(rt.alloc()))
 }
 
 #[test]
-fn a_new_world_is_changed(rt: HostRuntime) {
-    assert!(rt; are_texts_changed(&rt));
+fn a_new_world_is_told(rt: HostRuntime) {
+    assert!(rt; is_new(&rt, NEW));
+    assert!(rt; !is_new(&rt, WORLD));
+}
+
+/// The lines of a new world that the world does not have.
+const OLD: &[&str] = &["meta|revision|0", "meta|active.A|"];
+
+/// How many they are.
+const REMOVED: &[usize] = &[2, 0, 0, 0, 0, 0, 0, 0, 0, 0, 0, 0];
+
+/// Whether the rows of a change are written as so many lines of each table.
+fn is_change_written(rt: &(impl Abort + AllocGlobal)) -> bool {
+    let rows = Changes {
+        removed: rows_of(rt, OLD),
+        added: rows_of(rt, WORLD),
+    };
+    let found = change_lines(rt.alloc(), &rows).expect(rt, "lines");
+    are_of(found.removed.as_slice(), REMOVED) && are_of(found.added.as_slice(), SIZES)
+}
+
+#[test]
+fn a_change_is_written(rt: HostRuntime) {
+    assert!(rt; is_change_written(&rt));
 }

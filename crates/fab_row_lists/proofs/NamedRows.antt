@@ -1,8 +1,7 @@
 -- Lists of the rows of entries, which are ordered as the keys of their entries are.
 use Rattle.std.proofs.Common.{◌≡◌, suc, List, [], ◌∷◌, ◌++◌, Contains, ◌⊎◌, inl, inr, refl, sym, ap, ◌∙◌, subst, arith}
 use Rattle.std.specs.declared.cmp.Ordering.{Ordering}
-use Rattle.std.specs.declared.cmp.Ordering.TheVariants.{Less, Equal}
-use Rattle.std.specs.Cmp.{IsTotalOrder, tied_itself}
+use Rattle.std.specs.declared.cmp.Ordering.TheVariants.{Less}
 use Rattle.std.specs.List.{AllByRecursion}
 use Rattle.std.specs.List.Sorted.{IsStrictlySortedBy}
 use Rattle.std.specs.Map.{keys_of}
@@ -83,35 +82,3 @@ module _ {K X R : Type 0} {O : K → K → Ordering} {N : R → R → Ordering} 
     where
       wider : (x : R) → IsRowOfEntries row P before x → IsRowOfEntries row P (before ++ e ∷ []) x
       wider x h = (h.0, Contains-append_left before (e ∷ []) h.0 h.1, h.2)
-
--- ---- two lists of one property
-
-module _ {X : Type 0} {N : X → X → Ordering} (o : IsTotalOrder N) where
-  not_less : (x : X) → ¬ (N x x ≡ Less)
-  not_less x h = let e : Equal ≡ Less = sym (tied_itself o x) ∙ h in absurd cc
-
-  head_or_later : (x y : X) (ys : List X) → IsStrictlySortedBy N (y ∷ ys) → Contains (y ∷ ys) x → (y ≡ x) ⊎ (N y x ≡ Less)
-  head_or_later x y ys s c = elim (head_or_tail y ys x c) [ inl e ↦ inl e | inr t ↦ inr (each_has (λ z. N y z ≡ Less) ys x (sorted_head N y ys s) t) ]
-
-  tails : (x y : X) (xs ys : List X) → x ≡ y → IsStrictlySortedBy N (x ∷ xs) → ((z : X) → Contains (x ∷ xs) z → Contains (y ∷ ys) z) → (z : X) → Contains xs z → Contains ys z
-  tails x y xs ys is s f z c = elim (head_or_tail y ys z (f z (in_tail x xs z c))) [
-    | inl e ↦ absurd (not_less x (subst (λ w. N x w ≡ Less) (sym (is ∙ e)) (each_has (λ w. N x w ≡ Less) xs z (sorted_head N x xs s) c)))
-    | inr t ↦ t
-  ]
-
-  first_in : (x : X) (xs : List X) → Contains (x ∷ xs) x
-  first_in x xs = Contains-append_left (x ∷ []) xs x (Contains-push [] x)
-
-  same_items : (xs ys : List X) → IsStrictlySortedBy N xs → IsStrictlySortedBy N ys → ((x : X) → Contains xs x → Contains ys x) → ((x : X) → Contains ys x → Contains xs x) → xs ≡ ys
-  same_items [] [] s t f g = refl
-  same_items [] (y ∷ ys) s t f g = let c = g y (first_in y ys) in absurd (omega (arith, c.1))
-  same_items (x ∷ xs) [] s t f g = let c = f x (first_in x xs) in absurd (omega (arith, c.1))
-  same_items (x ∷ xs) (y ∷ ys) s t f g =
-      let is : x ≡ y = elim (head_or_later x y ys t (f x (first_in x xs))) [
-        | inl e ↦ sym e
-        | inr less ↦ elim (head_or_later y x xs s (g y (first_in y ys))) [ inl e ↦ e | inr more ↦ absurd (not_less x (o.trans x y x more less)) ]
-      ] in
-      ap (λ k. k ∷ xs) is ∙ ap (λ ks. y ∷ ks) (same_items xs ys (sorted_tail N x xs s) (sorted_tail N y ys t) (tails x y xs ys is s f) (tails y x ys xs (sym is) t g))
-
-  pub one_list : (P : X → Type 0) (xs ys : List X) → IsListOf N P xs → IsListOf N P ys → xs ≡ ys
-  one_list P xs ys l m = same_items xs ys l.sorted m.sorted (λ x c. m.complete x (l.sound x c)) (λ x c. l.complete x (m.sound x c))

@@ -1,16 +1,12 @@
 -- The order of rows of paths is total, tells them apart, and is the one that is stated.
-use Rattle.std.proofs.Common.{◌≡◌, List, refl}
+use Rattle.std.proofs.Common.{◌≡◌, refl}
 use Rattle.std.specs.declared.cmp.Ordering.{Ordering}
 use Rattle.std.specs.Cmp.{IsTotalOrder}
 use Rattle.std.specs.FinSet as set
-use Rattle.std.proofs.lemmas.Map.Made.{is_member-Decides}
-use Rattle.fab_maps.specs.Lists.{IsListOf}
-use Rattle.fab_maps.proofs.SeenSets.{tie_decides}
 use Rattle.fab_names.specs.Orders.{name_cmp}
 use Rattle.fab_names.proofs.OrderLaws.{name_exact}
 use Rattle.fab_reach.specs.Orders.{path_cmp}
 use Rattle.fab_reach.proofs.PathOrder.{both_equal, path_exact}
-use Rattle.fab_reach.proofs.SameLists.{same_sorted}
 use Rattle.fab_rows.specs.declared.record_row.PathRow.{PathRow}
 use Rattle.fab_rows.specs.contracts.record_row.PathRowOrd.TheImpl.Laws.{total-law}
 use Rattle.fab_row_lists.specs.Paths.{path_row_cmp, path_row_order}
@@ -29,9 +25,3 @@ in_order a b = refl
 -- the two are one function
 pub same_order : ◌≡◌ {A = PathRow → PathRow → Ordering} path_row_cmp path_row_order
 same_order = λ i a b. in_order a b i
-
--- two ordered lists of what has one property are one
-pub one_list : (P : PathRow → Type 0) (xs ys : List PathRow) → IsListOf path_row_order P xs → IsListOf path_row_order P ys → xs ≡ ys
-one_list P xs ys l m = same_sorted row_total row_exact xs ys l.sorted m.sorted
-    (λ k h. (is_member-Decides (tie_decides row_total row_exact) ys k).1 (m.complete k (l.sound k ((is_member-Decides (tie_decides row_total row_exact) xs k).0 h))))
-    (λ k h. (is_member-Decides (tie_decides row_total row_exact) xs k).1 (l.complete k (m.sound k ((is_member-Decides (tie_decides row_total row_exact) ys k).0 h))))

@@ -1,9 +1,8 @@
 -- Sets of rows of paths.
-use Rattle.std.proofs.Common.{◌≡◌, ℕ, ◌≤◌, List, [], length, Bool, true, false, cond, not, ◌&&◌, Contains, refl, sym, ap, ◌∙◌, subst, arith}
-use mathlib.Core.Bool.{true≢false}
+use Rattle.std.proofs.Common.{◌≡◌, ℕ, ◌≤◌, List, [], length, true, cond, Contains, refl, sym, ap, ◌∙◌, subst, arith}
 use Rattle.std.specs.declared.cmp.Ordering.{Ordering}
 use Rattle.std.specs.BTreeMap.{is_at}
-use Rattle.std.specs.BTreeSet.{BTreeSet, contains, difference, IsDifference, IsOrdered}
+use Rattle.std.specs.BTreeSet.{BTreeSet, contains, IsOrdered}
 use Rattle.std.specs.Cmp.{eq_by_cmp_equiv}
 use Rattle.std.specs.List.{list_any}
 use Rattle.std.specs.List.Sorted.{IsStrictlySortedBy}
@@ -12,7 +11,6 @@ use Rattle.std.proofs.lemmas.Map.Keys.{IsDistinct-from_sorted}
 use Rattle.std.proofs.lemmas.Map.Made.{is_member-Decides, length-le_from_is_member}
 use Rattle.std.proofs.lemmas.Map.Views.{btree_set_contains_iff}
 use Rattle.fab_maps.specs.Lists.{IsListOf}
-use Rattle.fab_maps.proofs.Filters.{list_as}
 use Rattle.fab_maps.proofs.SeenSets.{tie_decides}
 use Rattle.fab_reach.specs.declared.path.Path.{Path}
 use Rattle.fab_reach.specs.Adding.{Adds}
@@ -26,7 +24,7 @@ use Rattle.fab_reach.proofs.Same.{same_some}
 use Rattle.fab_reach.proofs.Sets.{adds_insert, none_in}
 use Rattle.fab_rows.specs.declared.record_row.PathRow.{PathRow}
 use Rattle.fab_row_lists.specs.PathGathering.{Has, HaveSame, IsRowOf, IsRowOfSome, HasPathRows}
-use Rattle.fab_row_lists.specs.Paths.{ArePathRows, IsPathRowOnlyIn, path_row_cmp, path_row_order}
+use Rattle.fab_row_lists.specs.Paths.{ArePathRows, path_row_cmp, path_row_order}
 use Rattle.fab_row_lists.proofs.PathRowOrder.{row_total, row_exact, same_order}
 
 -- the host of an initiator is one
@@ -83,27 +81,3 @@ are_rows w rows given wanted made has = (
   λ same r. let g = given_has rows given made r in ((λ c. (has r).0 ((same r).0 (g.1 c))), λ p. g.0 ((same r).1 ((has r).1 p))),
   λ all r. let g = given_has rows given made r in ((λ h. (has r).1 ((all r).0 (g.0 h))), λ h. g.1 ((all r).1 ((has r).0 h))),
 )
-
--- ---- the rows of one set that another lacks
-
-both : (a b : Bool) → (a && not b) ≡ true → (a ≡ true) × ((b ≡ true) → ⊥)
-both true true h = absurd (true≢false (sym h))
-both true false h = (refl, λ e. true≢false (sym e))
-both false b h = absurd (true≢false (sym h))
-
-back : (a b : Bool) → a ≡ true → ((b ≡ true) → ⊥) → (a && not b) ≡ true
-back true true e n = absurd (n refl)
-back true false e n = refl
-back false b e n = absurd (true≢false (sym e))
-
-pub without_list : (s t : BTreeSet PathRow) (ks xs : List PathRow) → IsDifference path_row_cmp s t ks → IsStrictlySortedBy path_row_cmp ks → ks ≡ difference path_row_cmp s t → xs ≡ difference path_row_cmp s t → IsListOf path_row_order (λ r. Has s r × ¬ Has t r) xs
-without_list s t ks xs members ordered rest is = subst (IsListOf path_row_order (λ r. Has s r × ¬ Has t r)) (rest ∙ sym is) (record {
-  sorted = subst (λ (O : PathRow → PathRow → Ordering). IsStrictlySortedBy O ks) same_order ordered;
-  sound = λ r h. both (contains path_row_cmp s r) (contains path_row_cmp t r) (sym (members r) ∙ (is_member-Decides (tie_decides row_total row_exact) ks r).1 h);
-  complete = λ r h. (is_member-Decides (tie_decides row_total row_exact) ks r).0 (members r ∙ back (contains path_row_cmp s r) (contains path_row_cmp t r) h.0 h.1);
-})
-
-pub only_in : (w v : Records) (s t : BTreeSet PathRow) (xs : List PathRow) → HasPathRows w s → HasPathRows v t → IsListOf path_row_order (λ r. Has s r × ¬ Has t r) xs → IsListOf path_row_order (IsPathRowOnlyIn w v) xs
-only_in w v s t xs a b = list_as (λ r. Has s r × ¬ Has t r) (IsPathRowOnlyIn w v) xs
-    (λ r h. record { there = (a r).0 h.0; not_there = λ k. h.1 ((b r).1 k) })
-    (λ r h. ((a r).1 h.there, λ k. h.not_there ((b r).0 k)))

@@ -1,4 +1,4 @@
--- The rows of an inventory as lists, and what one inventory has and another has not.
+-- Rows of inventories as lists, and what one inventory has and another has not.
 use Rattle.std.specs.Prelude.{ℕ, List}
 use Rattle.std.specs.declared.cmp.Ordering.{Ordering}
 use Rattle.std.specs.Ordering.{nat_cmp}

@@ -1,5 +1,5 @@
-//! The rows of a world's paths, listed and compared with given ones; the rows of an inventory,
-//! listed; and what two worlds differ by.
+//! The rows of a world's paths, compared with given ones, and the rows in which two inventories
+//! differ.
 #![tactic(auto)]
 
 mod inventories;
@@ -7,5 +7,5 @@ pub mod laws;
 mod paths;
 mod tables;
 
-pub use inventories::{InventoryDifference, InventoryLists, inventory_difference, inventory_rows};
-pub use paths::{PathRowDifference, are_path_rows, path_difference, path_rows};
+pub use inventories::{InventoryDifference, InventoryLists, inventory_difference};
+pub use paths::{PathRowDifference, are_path_rows};

@@ -1,11 +1,9 @@
-//! The rows of a world's paths, each with the host that holds its initiator.
-ghost use Rattle.std.specs.Prelude.{◌≡◌, ◌↔◌, ◌⊎◌, ℕ, List, IsTrue, OnOk, IfOk, IfErr, MatchOption};
-ghost use Rattle.std.specs.BTreeSet.{difference};
-ghost use Rattle.fab_maps.specs.Lists.{IsListOf};
+//! The rows of a world's paths, each with the host that holds its initiator, compared with given ones.
+ghost use Rattle.std.specs.Prelude.{◌↔◌, ℕ, List, IsTrue, OnOk, IfOk, IfErr, MatchOption};
 ghost use Rattle.fab_reach.specs.Adding.{Adds};
 ghost use Rattle.fab_reach.specs.Reach.{IsInitiatorOf};
 ghost use Rattle.fab_reach.specs.Views.{seen};
-ghost use Rattle.fab_row_lists.specs.Paths.{IsPathRow, ArePathRows, ArePathChanges, HasFewPaths, PathsFail, path_row_cmp, path_row_order};
+ghost use Rattle.fab_row_lists.specs.Paths.{ArePathRows, HasFewPaths, PathsFail};
 ghost use Rattle.fab_row_lists.specs.PathGathering.{Has, HaveSame, IsRowOf, IsRowOfSome, HasPathRows};
 
 use fab_inventory::{HolderKind, Inventory};
@@ -88,36 +86,6 @@ fn gather<A: Allocator + Copy>(
     Ok(rows)
 }
 
-/// The rows of a set, in order.
-fn listed<A: Allocator + Copy>(
-    alloc: A,
-    rows: &BTreeSet<PathRow, A>,
-) -> Result<Vec<PathRow, A>, AllocError>
-    ensures { IfOk result (λ items. items.items ≡ rows.now.keys) }
-{
-    rows.iter().copied().collect(alloc)
-}
-
-/// The rows of a world's paths, each with the host that holds the path's initiator; each once, by
-/// host and then by path.
-///
-/// # Errors
-/// `TooMany` where the world has more than `MOST_PATHS` paths, and only there; `Memory`.
-pub fn path_rows<A: Allocator + Copy>(
-    alloc: A,
-    inventory: &Inventory<A>,
-    config: &Config<A>,
-) -> Result<Vec<PathRow, A>, PathsFault>
-    ensures ok { IfOk result (λ rows. IsListOf path_row_order (IsPathRow (record { inventory = inventory.now; config = config.now })) rows.items) }
-    ensures few { OnOk result (HasFewPaths (record { inventory = inventory.now; config = config.now })) }
-    ensures err { IfErr result (PathsFail (record { inventory = inventory.now; config = config.now })) }
-{
-    let rows = gather(alloc, &View::of(inventory, config))?;
-    let _count = rows.len();
-    let items = listed(alloc, &rows)?;
-    Ok(items)
-}
-
 /// Whether the two sets have the same rows.
 fn are_equal<A: Allocator + Copy>(
     rows: &BTreeSet<PathRow, A>,
@@ -145,50 +113,4 @@ pub fn are_path_rows<A: Allocator + Copy>(
     let wanted = gather(alloc, &View::of(inventory, config))?;
     let given = set_of(alloc, rows)?;
     Ok(are_equal(&given, &wanted))
-}
-
-/// The rows of one set that are not in the other, as they come.
-fn kept<A: Allocator + Copy>(
-    alloc: A,
-    these: &BTreeSet<PathRow, A>,
-    those: &BTreeSet<PathRow, A>,
-) -> Result<Vec<PathRow, A>, AllocError>
-    ensures { IfOk result (λ items. items.items ≡ difference path_row_cmp these.now those.now) }
-{
-    these.difference(those).copied().collect(alloc)
-}
-
-/// The rows of one set that are not in the other, in order.
-fn without<A: Allocator + Copy>(
-    alloc: A,
-    these: &BTreeSet<PathRow, A>,
-    those: &BTreeSet<PathRow, A>,
-) -> Result<Vec<PathRow, A>, AllocError>
-    ensures { IfOk result (λ items. IsListOf path_row_order (λ r. Has these.now r × ¬ Has those.now r) items.items) }
-{
-    let _all = these.difference(those);
-    let items = kept(alloc, these, those)?;
-    Ok(items)
-}
-
-/// What one world's rows of paths have and another's have not, both ways: those of `before` that do
-/// not stand in `after` are taken, and those of `after` that do not stand in `before` are added, each
-/// once, by host and then by path.
-///
-/// # Errors
-/// `TooMany` where one of the worlds has more than `MOST_PATHS` paths, and only there; `Memory`.
-pub fn path_difference<A: Allocator + Copy>(
-    alloc: A,
-    before: &View<'_, A>,
-    after: &View<'_, A>,
-) -> Result<PathRowDifference<A>, PathsFault>
-    ensures ok { IfOk result (λ change. ArePathChanges (seen before.now) (seen after.now) change.taken.items change.added.items) }
-    ensures few { OnOk result (HasFewPaths (seen before.now) × HasFewPaths (seen after.now)) }
-    ensures err { IfErr result (λ fault. PathsFail (seen before.now) fault ⊎ PathsFail (seen after.now) fault) }
-{
-    let old = gather(alloc, before)?;
-    let new = gather(alloc, after)?;
-    let taken = without(alloc, &old, &new)?;
-    let added = without(alloc, &new, &old)?;
-    Ok(PathRowDifference { taken, added })
 }

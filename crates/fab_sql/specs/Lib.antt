@@ -1,5 +1,4 @@
 pub mod Cells
-pub mod Laws
 pub mod NewDesk
 pub mod Reading
 pub mod Rows

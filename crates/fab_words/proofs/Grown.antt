@@ -1,5 +1,5 @@
 -- Commands that grow by options and by subcommands.
-use Rattle.std.proofs.Common.{◌≡◌, ℕ, ◌+◌, ◌<◌, List, [], ◌∷◌, ◌++◌, Bool, true, false, ◌||◌, Some, map, drop, get_or, length, refl, sym, ap, ◌∙◌, append_assoc, append-nil, add-one}
+use Rattle.std.proofs.Common.{◌≡◌, ℕ, ◌+◌, ◌<◌, List, [], ◌∷◌, ◌++◌, Bool, true, false, ◌||◌, Some, map, drop, get_or, length, refl, sym, ap, ◌∙◌, append_assoc, add-one}
 use Rattle.std.proofs.Math.Seq.{drop-cons}
 use Rattle.std.specs.Borrow.{Bor}
 use Rattle.clap.specs.declared.builder.texts.Texts.TheVariants.{One}
@@ -25,9 +25,6 @@ option_made a long value help r = refl
 one_rule : (a : App) (r : Rule) (rest : List Rule) → with_rules a (r ∷ rest) ≡ with_rules (with_rule a r) rest
 one_rule a r rest = ap (λ (rules : List Rule). record a { top = record a.top { rules = rules } }) (sym (append_assoc a.top.rules (r ∷ []) rest))
 
-no_rules : (a : App) → with_rules a [] ≡ a
-no_rules a = ap (λ (rules : List Rule). record a { top = record a.top { rules = rules } }) (append-nil a.top.rules)
-
 -- the options from a place on are still to come
 pub record IsGrowing (old now : Command) (whole left : List Rule) : Type 0 where
   pub app : with_rules (app_of now) left ≡ with_rules (app_of old) whole
@@ -45,12 +42,6 @@ growing_more old now new arg whole is_required options i d lt so adds is local =
       app = grown ∙ ap (with_rules (app_of now)) (sym first) ∙ so.app;
       globals = adds.globals ∙ ap (λ (b : Bool). (out-Command now).has_globals || b) local ∙ or_false ((out-Command now).has_globals) ∙ so.globals;
     }
-
-pub growing_done : (old now : Command) (whole left : List Rule) → left ≡ [] → IsGrowing old now whole left → Gains old whole now
-growing_done old now whole left none so = record {
-  app = sym (no_rules (app_of now)) ∙ ap (with_rules (app_of now)) (sym none) ∙ so.app;
-  globals = so.globals;
-}
 
 -- a subcommand more
 pub subcommand_more : (now sub new : Command) (s : Shape) (rest whole : List Shape) (all : App) → with_subcommands (app_of now) whole ≡ all → whole ≡ s ∷ rest → AddsSubcommand now sub new

@@ -1,4 +1,2 @@
 mod Grown
-mod Named
-mod Found
 mod Reasons

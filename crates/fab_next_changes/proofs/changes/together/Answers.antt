@@ -16,7 +16,6 @@ returns g c = λ w v counts parts plans.
         approvals = plans.approvals.removed;
         undo = plans.undo.removed;
         paths = paths_only w v paths.taken.items parts.paths.takes;
-        texts = tt;
       };
       added = record {
         counts = counts.added;
@@ -28,6 +27,5 @@ returns g c = λ w v counts parts plans.
         approvals = plans.approvals.added;
         undo = plans.undo.added;
         paths = paths_only v w paths.added.items parts.paths.adds;
-        texts = tt;
       };
     }

@@ -2,7 +2,7 @@ use Rattle.std.proofs.Common.{sym, ap, ◌∙◌, subst}
 use Rattle.std.proofs.lemmas.Option.{same_Some}
 use Rattle.fab_world.specs.Worlds.{WorldRows}
 use Rattle.fab_next.specs.Nexts.{Leads}
-use Rattle.fab_changes.proofs.WorldPlans.{look}
+use Rattle.fab_next_changes.proofs.WorldPlans.{look}
 use Rattle.fab_next_changes.proofs.plans.plan_at.Goals as goal
 
 pub unreachable-requires : goal.unreachable-requires

@@ -1,7 +1,7 @@
 use Rattle.std.proofs.Common.{inl, inr, sym, ap, ◌∙◌, subst}
 use Rattle.fab_world.specs.Worlds.{WorldRows}
 use Rattle.fab_next.specs.Nexts.{next_world, Suits}
-use Rattle.fab_changes.proofs.WorldPlans.{ok_as}
+use Rattle.fab_next_changes.proofs.WorldPlans.{ok_as}
 use Rattle.fab_next_changes.specs.Moves.{HaveOnePlans}
 use Rattle.fab_next_changes.proofs.plans.plan_tables_moved.Goals as goal
 

@@ -1,6 +1,6 @@
 use Rattle.std.proofs.Common.{ℕ, List, refl, ap, ◌∙◌, subst}
 use Rattle.fab_world.specs.Worlds.{WorldRows}
-use Rattle.fab_changes.proofs.WorldPlans.{look}
+use Rattle.fab_next_changes.proofs.WorldPlans.{look}
 use Rattle.fab_next_changes.specs.Places.{HasName, AreMovable}
 use Rattle.fab_next_changes.proofs.PlansTurned.{tells_before, tells_after, told_together, all_removed, all_added}
 use Rattle.fab_next_changes.proofs.plans.turned_rows.Goals as goal

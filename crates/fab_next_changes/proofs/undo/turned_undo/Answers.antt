@@ -1,7 +1,7 @@
 use Rattle.std.proofs.Common.{inl, inr, sym, ap, subst}
 use Rattle.fab_store_base.specs.PlanRows.{ChangesInOrder}
 use Rattle.fab_next.specs.Nexts.{turned, Leads}
-use Rattle.fab_changes.proofs.WorldPlans.{ok_as}
+use Rattle.fab_next_changes.proofs.WorldPlans.{ok_as}
 use Rattle.fab_next_changes.proofs.Quiet.{staged_idle, IsQuiet, withdrawn_quiet}
 use Rattle.fab_next_changes.proofs.UndoRows.{activated, idle_stays}
 use Rattle.fab_next_changes.proofs.undo.turned_undo.Goals as goal

@@ -2,7 +2,7 @@ use Rattle.std.proofs.Common.{subst}
 use Rattle.fab_store_base.specs.PlanRows.{ChangesInOrder}
 use Rattle.fab_world.specs.PlanRecords.{rolled_back}
 use Rattle.fab_world.specs.Plans.{change_in}
-use Rattle.fab_changes.proofs.WorldPlans.{ok_as}
+use Rattle.fab_next_changes.proofs.WorldPlans.{ok_as}
 use Rattle.fab_next_changes.proofs.UndoRows.{undo_is, no_undo, deactivated, idle_stays}
 use Rattle.fab_next_changes.proofs.undo.undone.Goals as goal
 
