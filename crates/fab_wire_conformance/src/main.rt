@@ -1,8 +1,13 @@
 //! Plays recorded exchanges: requests, the moments at which they come, and the bytes by which a desk has
-//! to answer them. Its words name the files, which lie in `data/`: `rows.txt` has the worked rows,
-//! `limits.txt` the limits of names, sets, groups and parts, `scenarios.txt` random scenarios, all three
-//! made by an independent reference from the definitions, and `more.txt` cases whose answers were
-//! written by hand. None is made by the desk itself. Nothing here is part of the product.
+//! to answer them. Its words name the files, which lie in `data/`:
+//!
+//! - `rows.txt`, the worked requests; `limits.txt`, limits of names, sets, groups and parts, at each and
+//!   past it; `scenarios.txt`, forty random scenarios of sixty requests: made by an independent reference
+//!   from the definitions;
+//! - `more.txt`, cases whose answers were written by hand; `ports.txt`, a list of as many ports as may be
+//!   known and one of a port more.
+//!
+//! None is made by the desk itself. Nothing here is part of the product.
 //!
 //! Each scenario is played by two new desks in memory: one reads each request whole, the other byte by
 //! byte. For each file a line says how many answers are as recorded. The form of a file is told in
@@ -12,7 +17,7 @@
 //! An answer that differs is told on standard output, in the form of the files, and the status is 1:
 //!
 //! ```text
-//! rows.txt, line 77: 01/2 default permit, request 3, read byte by byte
+//! rows.txt, line 77: default permit, request 3, read byte by byte
 //! recorded:
 //! < HTTP/1.1 200 OK\r
 //! ..
