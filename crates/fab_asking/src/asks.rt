@@ -1,6 +1,5 @@
 //! Commands as plain data.
 
-use crate::wide::{Wide, command_for};
 use fab_desk_base::{Command, Query};
 use fab_files_base::port_list::read_ports;
 use fab_inventory::{HolderKind, Volume};
@@ -28,7 +27,6 @@ pub enum Ask {
     Activate(&'static str),
     Rollback(&'static str),
     Show(See),
-    Wide(Wide),
 }
 
 /// What a read asks for.
@@ -38,29 +36,16 @@ pub enum See {
     Joined(u64, u64),
     Port(u64),
     Holder(HolderKind, &'static str),
-    Volume(&'static str),
-    HostGroup(&'static str),
     Group(&'static str),
-    Plan(&'static str),
-    Alias(Fabric, &'static str),
-    Zone(Fabric, &'static str),
-    Set(Fabric, &'static str),
-    Active(Fabric),
 }
 
 /// The name of this text.
-///
-/// # Errors
-/// Where it is no name.
-pub fn name(text: &str) -> Result<Name, Fail> {
+fn name(text: &str) -> Result<Name, Fail> {
     Ok(Name::read(text)?)
 }
 
-/// The port of this number.
-///
-/// # Errors
-/// Where it is 0.
-pub fn port(number: u64) -> Result<Wwn, Fail> {
+/// The port of this number, which is none at 0.
+fn port(number: u64) -> Result<Wwn, Fail> {
     if number == 0 {
         return Err(Fail::from("port"));
     }
@@ -114,42 +99,10 @@ fn put_volume(
     Ok(Command::PutVolume { name, volume })
 }
 
-/// The plan of a name and the text of its steps, to be staged.
-///
-/// # Errors
-/// Where one text is no name or the other no plan, or there is no memory.
-pub fn stage(alloc: Global, plan: &str, text: &str) -> Result<Command<Global>, Fail> {
+fn stage(alloc: Global, plan: &str, text: &str) -> Result<Command<Global>, Fail> {
     let plan = name(plan)?;
     let steps = read_plan(alloc, text)?;
     Ok(Command::Stage { plan, steps })
-}
-
-fn show_group(see: See) -> Result<Query, Fail> {
-    match see {
-        See::HostGroup(text) => Ok(Query::HostGroup { name: name(text)? }),
-        See::Group(text) => Ok(Query::Group { name: name(text)? }),
-        See::Plan(text) => Ok(Query::Plan { name: name(text)? }),
-        _ => Err(Fail::from("read")),
-    }
-}
-
-fn show_zoning(see: See) -> Result<Query, Fail> {
-    match see {
-        See::Alias(fabric, text) => Ok(Query::Alias {
-            fabric,
-            name: name(text)?,
-        }),
-        See::Zone(fabric, text) => Ok(Query::Zone {
-            fabric,
-            name: name(text)?,
-        }),
-        See::Set(fabric, text) => Ok(Query::Set {
-            fabric,
-            name: name(text)?,
-        }),
-        See::Active(fabric) => Ok(Query::Active { fabric }),
-        _ => show_group(see),
-    }
 }
 
 fn joined(first: u64, second: u64) -> Result<Query, Fail> {
@@ -169,8 +122,7 @@ fn query(see: See) -> Result<Query, Fail> {
             kind,
             name: name(text)?,
         }),
-        See::Volume(text) => Ok(Query::Volume { name: name(text)? }),
-        _ => show_zoning(see),
+        See::Group(text) => Ok(Query::Group { name: name(text)? }),
     }
 }
 
@@ -207,7 +159,6 @@ pub fn command(alloc: Global, ask: Ask) -> Result<Command<Global>, Fail> {
         Ask::Import(fabric, text) => import(alloc, fabric, text),
         Ask::Put(kind, text, tenant, ports) => put(alloc, kind, (text, tenant), ports),
         Ask::Stage(plan, text) => stage(alloc, plan, text),
-        Ask::Wide(part) => command_for(alloc, part),
         _ => on_names(ask),
     }
 }

@@ -6,8 +6,7 @@ use fab_plans::{Item, Refusal, StepLimit};
 use fab_rows::PlanState;
 use std::alloc::AllocError;
 
-/// The word for the state.
-pub fn state_word(state: PlanState) -> &'static str {
+fn state_word(state: PlanState) -> &'static str {
     match state {
         PlanState::Staged => "staged",
         PlanState::Active => "active",

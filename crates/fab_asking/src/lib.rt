@@ -12,14 +12,11 @@ mod replies;
 mod reports;
 pub mod rows;
 mod stages;
-mod wide;
 
 pub use asks::{Ask, See, command};
 pub use desk::{Turn, holds, holds_in, is_told, opened};
 pub use lists::{are_told, holds_at_once, requests};
 pub use policies::policy;
 pub use stages::{
-    ADA, FIRST, FIRST_INITIATOR, FIRST_PLAN, FIRST_TARGET, NO_PORTS, PORTS, SECOND,
-    SECOND_INITIATOR, SECOND_TARGET, THIRD_INITIATOR, WORLD,
+    ADA, FIRST, FIRST_INITIATOR, FIRST_PLAN, FIRST_TARGET, NO_PORTS, SECOND, SECOND_TARGET, WORLD,
 };
-pub use wide::Wide;

@@ -255,9 +255,6 @@ pub const THAWED: &[Turn] = &[(ADA, 351_000, Ask::Activate("q1"), "done q1 at 7"
 /// The last moment of the window.
 pub const LATE: &[Turn] = &[(ADA, 352_799, Ask::Activate("q1"), "done q1 at 7")];
 
-/// The moments at which the window is shut, and those at which it is open.
-pub const WINDOW: [&[Turn]; 4] = [SHUT, FREEZING, THAWED, LATE];
-
 /// Bob approves the plan: his is the one approval that counts.
 const BOB_APPROVES: Turn = (
     "t-bob",

@@ -30,12 +30,6 @@ pub const EMPTY_LIST: Bytes = (
     "HTTP/1.1 200 OK\r\nContent-Type: application/json\r\nContent-Length: 14\r\nConnection: close\r\n\r\n{\"revision\":2}",
 );
 
-/// The paths of a host that has one.
-pub const PATHS: &[Bytes] = &[(
-    "GET /paths/db1 HTTP/1.1\r\nAuthorization: Bearer t-ada\r\n\r\n",
-    "HTTP/1.1 200 OK\r\nContent-Type: application/json\r\nContent-Length: 134\r\nConnection: close\r\n\r\n{\"host\":\"db1\",\"paths\":[{\"fabric\":\"A\",\"initiator\":\"10:00:00:00:00:00:00:01\",\"lun\":0,\"target\":\"50:00:00:00:00:00:00:01\",\"volume\":\"v1\"}]}",
-)];
-
 /// Requests over the worked world that are not whole, too long, or by nobody; units at the limit and
 /// past it; an input without a byte; and a method that a path does not take.
 pub const ROW_16: &[Bytes] = &[
@@ -83,32 +77,3 @@ pub const NO_CALLER: Bytes = (
     "GET /hosts/db1 HTTP/1.1\r\n\r\n",
     "HTTP/1.1 401 Unauthorized\r\nContent-Type: application/json\r\nContent-Length: 30\r\nWWW-Authenticate: Bearer\r\nConnection: close\r\n\r\n{\"code\":1,\"error\":\"no-caller\"}",
 );
-
-/// Heads that are refused, the methods that paths take, and a plan with bytes behind it.
-pub const REFUSED: &[Bytes] = &[
-    NO_CALLER,
-    (
-        "GET /hosts/db1 HTTP/1.1\r\nAuthorization: Bearer t-ada\r\nAuthorization: Bearer t-ada\r\n\r\n",
-        "HTTP/1.1 401 Unauthorized\r\nContent-Type: application/json\r\nContent-Length: 30\r\nWWW-Authenticate: Bearer\r\nConnection: close\r\n\r\n{\"code\":1,\"error\":\"no-caller\"}",
-    ),
-    (
-        "GET /hosts/db1 HTTP/1.1\r\nAuthorization: Bearer t-ada\r\nContent-Length: x\r\n\r\n",
-        "HTTP/1.1 400 Bad Request\r\nContent-Type: application/json\r\nContent-Length: 29\r\nConnection: close\r\n\r\n{\"code\":2,\"error\":\"bad-head\"}",
-    ),
-    (
-        "POST /hosts/db1 HTTP/1.1\r\nAuthorization: Bearer t-ada\r\n\r\n",
-        "HTTP/1.1 405 Method Not Allowed\r\nContent-Type: application/json\r\nContent-Length: 31\r\nAllow: DELETE, GET, PUT\r\nConnection: close\r\n\r\n{\"code\":4,\"error\":\"bad-method\"}",
-    ),
-    (
-        "GET /imports/A HTTP/1.0\r\nAuthorization: Bearer t-ada\r\n\r\n",
-        "HTTP/1.1 405 Method Not Allowed\r\nContent-Type: application/json\r\nContent-Length: 31\r\nAllow: POST\r\nConnection: close\r\n\r\n{\"code\":4,\"error\":\"bad-method\"}",
-    ),
-    (
-        "PUT /plans/x HTTP/1.1\r\nAuthorization: Bearer t-ada\r\n\r\ndeactivate A\n",
-        "HTTP/1.1 411 Length Required\r\nContent-Type: application/json\r\nContent-Length: 30\r\nConnection: close\r\n\r\n{\"code\":5,\"error\":\"no-length\"}",
-    ),
-    (
-        "PUT /plans/x HTTP/1.1\r\nauthorization: bearer  t-ada \r\nContent-Length: 012\r\ncontent-length: 12\r\n\r\ndeactivate A\ndeactivate C\n",
-        "HTTP/1.1 200 OK\r\nContent-Type: application/json\r\nContent-Length: 22\r\nConnection: close\r\n\r\n{\"plan\":\"x\",\"steps\":1}",
-    ),
-];

@@ -1,21 +1,22 @@
-//! Tests of the machine: worked commands, one after the other, and what is answered to each; what
-//! the policy denies, what the records refuse, and what reads show; and the rows that
-//! the parts of a change tell. Nothing here is part of the product.
+//! Tests of the machine: how many rows of each table are told of the next world, for each kind of
+//! change; the desk at its limits; lists of requests; and each request for memory of a command refused
+//! in turn. What is said by requests and answers alone is recorded in `fab_wire_conformance`. Nothing
+//! here is part of the product.
 #![tactic(auto)]
 
 #[cfg(test)]
 mod callers;
 #[cfg(test)]
-mod changes;
-#[cfg(test)]
 mod desk;
 #[cfg(test)]
-mod judged;
+mod growth;
 #[cfg(test)]
-mod refusals;
+mod limits;
 #[cfg(test)]
-mod replies;
+mod lists;
 #[cfg(test)]
-mod shows;
+mod small;
 #[cfg(test)]
 mod worked;
+#[cfg(test)]
+mod worlds;

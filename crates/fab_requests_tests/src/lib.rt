@@ -1,15 +1,12 @@
-//! Tests of requests as they are heard: of the bytes of a connection, with streams and memory that
-//! fail. Nothing here is part of the product.
+//! Tests of requests as they are heard: reads and inputs that are cut, the longest body, and streams
+//! and memory that fail. Which heads and bodies are taken is recorded in `fab_wire_conformance`. Nothing
+//! here is part of the product.
 #![tactic(auto)]
 
 #[cfg(test)]
-mod bodies;
+mod cuts;
 #[cfg(test)]
 mod growth;
-#[cfg(test)]
-mod heads;
-#[cfg(test)]
-mod kinds;
 #[cfg(test)]
 mod limits;
 #[cfg(test)]

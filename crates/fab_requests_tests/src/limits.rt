@@ -1,84 +1,9 @@
-//! The longest heads and bodies, and one byte more.
+//! The longest body, and one byte more.
 
-use crate::steps::{QUESTION, QUESTIONED, Wanted, hears};
+use crate::steps::{Wanted, hears};
 use fab_wire_base::kinds::Kind;
 use fab_wire_base::requests::Refusal;
 use std::process::Abort;
-
-/// The question without its last, empty line.
-fn open_question(rt: &(impl Abort + AllocGlobal)) -> Vec<u8> {
-    Vec::from_slice(rt.alloc(), &QUESTION[..99]).expect(rt, "memory")
-}
-
-/// Whether this is heard of a head of so many bytes: the question with one line more.
-fn hears_head(
-    rt: &(impl Abort + AllocGlobal),
-    size: usize,
-    most: usize,
-    wanted: Wanted<'_>,
-) -> bool {
-    let mut input = open_question(rt);
-    input.extend_from_slice(b"x: ").expect(rt, "memory");
-    input
-        .resize(size.saturating_sub(4), b'a')
-        .expect(rt, "memory");
-    input.extend_from_slice(b"\r\n\r\n").expect(rt, "memory");
-    input.len() == size && hears(rt, input.as_slice(), most, wanted)
-}
-
-/// The size of a head, and what is heard of it.
-const SIZES: &[(usize, Wanted<'static>)] = &[
-    (8191, QUESTIONED),
-    (8192, QUESTIONED),
-    (8193, Wanted::Refused(Refusal::BadHead)),
-    (16384, Wanted::Refused(Refusal::BadHead)),
-];
-
-#[test]
-fn heads_are_limited(rt: HostRuntime) {
-    for &(size, wanted) in SIZES {
-        assert!(rt; hears_head(&rt, size, 100, wanted));
-        assert!(rt; hears_head(&rt, size, 100000, wanted));
-    }
-}
-
-/// Whether the question is heard with so many lines more, in a head of so many bytes.
-fn hears_lines(rt: &(impl Abort + AllocGlobal), lines: u32, size: usize) -> bool {
-    let mut input = open_question(rt);
-    for _ in 0..lines {
-        input.extend_from_slice(b"a:1\r\n").expect(rt, "memory");
-    }
-    input.extend_from_slice(b"\r\n").expect(rt, "memory");
-    input.len() == size && hears(rt, input.as_slice(), 100, QUESTIONED)
-}
-
-/// The number of lines is no limit.
-#[test]
-fn lines_are_not_counted(rt: HostRuntime) {
-    assert!(rt; hears_lines(&rt, 1600, 8101));
-}
-
-/// A head of 8192 bytes, of which one line fills what the others leave, and a body behind it, with
-/// two bytes more.
-fn longest_with_body(rt: &(impl Abort + AllocGlobal)) -> Vec<u8> {
-    let begin =
-        b"PUT /hosts/db1 HTTP/1.1\r\nAuthorization: Bearer t-ada\r\nContent-Length: 2\r\nx: ";
-    let mut input = Vec::from_slice(rt.alloc(), begin).expect(rt, "memory");
-    input.resize(8188, b'a').expect(rt, "memory");
-    input
-        .extend_from_slice(b"\r\n\r\n{}{}")
-        .expect(rt, "memory");
-    input
-}
-
-/// The body behind the longest head is taken.
-#[test]
-fn body_behind_the_longest_head(rt: HostRuntime) {
-    let input = longest_with_body(&rt);
-    let wanted = Wanted::Asked(b"t-ada", Kind::PutHost, b"/hosts/db1", b"{}");
-    assert!(rt; hears(&rt, input.as_slice(), 100000, wanted));
-    assert!(rt; hears(&rt, input.as_slice(), 819, wanted));
-}
 
 /// The greatest length of a body.
 const MOST: usize = 1048576;

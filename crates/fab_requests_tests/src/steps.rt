@@ -41,9 +41,6 @@ pub const QUESTIONED: Wanted<'static> = Wanted::Asked(
     b"",
 );
 
-/// How many bytes a read gets at most.
-pub const READS: &[usize] = &[1, 2, 7, 8192];
-
 /// The callers of these tests: two, whose tokens are `t-ada` and `t-bob`.
 pub struct Two;
 
@@ -64,9 +61,6 @@ pub enum Wanted<'w> {
     /// A token, what is asked for, the target, and the body.
     Asked(&'w [u8], Kind, &'w [u8], &'w [u8]),
 }
-
-/// An input, and what is to be heard of it.
-pub type Case = (&'static [u8], Wanted<'static>);
 
 fn is_refused(wanted: Wanted<'_>, why: Refusal) -> bool {
     match wanted {
@@ -117,14 +111,4 @@ pub fn hears(
     let mut reader = Counted::new(Slow::new(input, most, u64::MAX));
     let heard = heard_by(rt, rt.alloc(), &mut reader);
     is_wanted(wanted, &heard)
-}
-
-/// The place in a table of the first input of which something else is heard.
-pub fn first_other(rt: &(impl Abort + AllocGlobal), cases: &[Case], most: usize) -> Option<usize> {
-    for (i, case) in cases.iter().enumerate() {
-        if !hears(rt, case.0, most, case.1) {
-            return Some(i);
-        }
-    }
-    None
 }

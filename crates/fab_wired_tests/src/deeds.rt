@@ -2,8 +2,7 @@
 
 use super::breaks::{Side, act, are_cut, bytes_survive, imports_count, survive, take_none};
 use super::desks::{DeskOver, Serving, made};
-use super::stages::sets;
-use super::turns::{plays, plays_all, serves_each};
+use super::turns::{plays_all, serves_each};
 use super::waiting::{Waiting, serves_list};
 use fab_exchanges::bytes::Bytes;
 use fab_policy_base::{Policy, TRIAL_POLICY};
@@ -36,16 +35,8 @@ pub enum Deed<'t> {
     IsNotTaken(&'t [&'t str]),
     /// These connections are served as one list, and each ends as it says.
     ServesList(&'t [Waiting]),
-    /// A plan with as many sets as there may be is staged.
-    StagesSets,
     /// The halted desk is opened again over the store that it hands out.
     IsReopened,
-}
-
-/// Stages the plan of sets.
-fn stages_sets(rt: &(impl Abort + AllocGlobal), desk: &mut impl Serving) {
-    let text = sets(rt);
-    plays(rt, desk, usize::MAX, text.as_str());
 }
 
 /// Does it with the desk.
@@ -60,7 +51,6 @@ fn do_one(rt: &(impl Abort + AllocGlobal), desk: &mut impl Serving, deed: Deed<'
         Deed::Acts(turns, k) => act(rt, desk, turns, k),
         Deed::IsNotTaken(turns) => take_none(rt, desk, turns),
         Deed::ServesList(list) => serves_list(rt, desk, list),
-        Deed::StagesSets => stages_sets(rt, desk),
         Deed::IsReopened => assert!(rt; desk.is_reopened()),
     }
 }

@@ -1,5 +1,6 @@
-//! Tests of the wire over a desk in memory: the bytes of requests, one connection after the other,
-//! and the bytes of their answers; each also where a read gets one byte. Nothing here is part of the
+//! Tests of the wire over a desk in memory: connections of which a read or a write fails, a store that
+//! refuses a call, connections that are served as one list, and the first worked requests. What else is
+//! said by requests and answers alone is recorded in `fab_wire_conformance`. Nothing here is part of the
 //! product.
 #![tactic(auto)]
 
@@ -14,17 +15,9 @@ mod deeds;
 #[cfg(test)]
 mod desks;
 #[cfg(test)]
-mod faults;
-#[cfg(test)]
-mod judged;
-#[cfg(test)]
 mod paths;
 #[cfg(test)]
-mod refusals;
-#[cfg(test)]
 mod refusing;
-#[cfg(test)]
-mod shows;
 #[cfg(test)]
 mod stages;
 #[cfg(test)]

@@ -1,5 +1,4 @@
-//! A store that refuses one call, a writer that takes none of some bytes, and an action that no rule
-//! names.
+//! A store that refuses one call, and a writer that takes none of some bytes.
 
 use super::deeds::{Deed, does, does_by};
 use super::stages::ROW_1;
@@ -54,33 +53,6 @@ const SERVES_ON: &[Deed<'static>] = &[Deed::Plays(usize::MAX, &[READ_IS_REFUSED]
 #[test]
 fn refused_read_halts_nothing(rt: HostRuntime) {
     does_by(&rt, TRIAL_POLICY, Some(2), SERVES_ON);
-}
-
-/// A policy in which no rule names anything but the inventory.
-const NARROW: &str = r#"
-[[callers]]
-name = "ada"
-token = "t-ada"
-roles = []
-tenants = "*"
-[[rules]]
-name = "stock"
-actions = ["inventory"]
-"#;
-
-const NO_RULE: &[&str] = &[
-    r#"ada PUT /hosts/db1 {"ports":[],"tenant":"blue"} -> 200 OK: {"revision":1}"#,
-    r#"ada POST /imports/A port_name,node_name,domain,port
- -> 403 Forbidden: {"code":8,"error":"denied","need":"rule","rule":0,"rule_name":"no-rule"}"#,
-    r#"ada PUT /plans/d1 default A permit
- -> 403 Forbidden: {"code":8,"error":"denied","need":"rule","rule":0,"rule_name":"no-rule"}"#,
-];
-
-const IS_DENIED: &[Deed<'static>] = &[Deed::Plays(usize::MAX, &[NO_RULE])];
-
-#[test]
-fn no_rule_names_the_action(rt: HostRuntime) {
-    does_by(&rt, NARROW, None, IS_DENIED);
 }
 
 /// What the unsent import has done.

@@ -1,11 +1,10 @@
 //! What is answered at the limits of the desk: one more is taken, and the next is refused.
 
 use crate::worlds::{Nearly, world};
-use fab_asking::{ADA, Ask, NO_PORTS, See, Turn, Wide, holds, holds_in};
+use fab_asking::{ADA, Ask, NO_PORTS, See, Turn, holds_in};
 use fab_inventory::HolderKind::{Array, Host};
 use fab_names::Fabric;
 use std::process::Abort;
-use std::test::Fail;
 
 /// A list of one port.
 const ONE: &str = "port_name,node_name,domain,port
@@ -135,19 +134,4 @@ fn the_last_plan_is_taken(rt: HostRuntime) {
 #[test]
 fn the_last_change_is_taken(rt: HostRuntime) {
     hold(&rt, Nearly::Changes, &[CHANGES]);
-}
-
-/// A list alone may have as many ports as may be known.
-const LONG: &[Turn] = &[
-    (ADA, 0, Ask::Wide(Wide::List(4097)), "limit ports"),
-    (ADA, 0, Ask::Wide(Wide::List(4096)), "changed at 1"),
-    (ADA, 0, Ask::Wide(Wide::List(4096)), "changed at 2"),
-    (ADA, 0, Ask::Wide(Wide::List(4097)), "limit ports"),
-    (ADA, 0, Ask::Import(Fabric::A, NO_PORTS), "changed at 3"),
-];
-
-#[test]
-fn long_lists_of_ports_are_taken(rt: HostRuntime) -> Result<(), Fail> {
-    assert!(rt; holds(rt.alloc(), &[LONG])?);
-    Ok(())
 }

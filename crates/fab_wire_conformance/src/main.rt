@@ -1,0 +1,103 @@
+//! Plays recorded exchanges: requests, the moments at which they come, and the bytes by which a desk has
+//! to answer them. Its words name the files, which lie in `data/`:
+//!
+//! - `rows.txt`, the worked requests; `limits.txt`, limits of names, sets, groups and parts, at each and
+//!   past it; `scenarios.txt`, forty random scenarios of sixty requests: made by an independent reference
+//!   from the definitions;
+//! - `more.txt`, cases whose answers were written by hand; `ports.txt`, a list of as many ports as may be
+//!   known and one of a port more.
+//!
+//! None is made by the desk itself. Nothing here is part of the product.
+//!
+//! Each scenario is played by two new desks in memory: one reads each request whole, the other byte by
+//! byte. For each file a line says how many answers are as recorded. The form of a file is told in
+//! `texts`; a line that is not of it ends the player, which tells the file and the line on standard
+//! error, with status 3. So does a policy that is none.
+//!
+//! An answer that differs is told on standard output, in the form of the files, and the status is 1:
+//!
+//! ```text
+//! rows.txt, line 77: default permit, request 3, read byte by byte
+//! recorded:
+//! < HTTP/1.1 200 OK\r
+//! ..
+//! answered:
+//! < HTTP/1.1 404 Not Found\r
+//! ..
+//! ```
+//!
+//! The line is that of the request's `@`; the number counts the requests of the scenario from 1 on. What
+//! comes behind the first difference of a scenario may follow from it, since the desk goes on from what
+//! it has done: so the first one is read, and the lines above it in the file say what the desk was asked
+//! before. Is only `read byte by byte` told, then the answer depends on how the input is cut.
+//!
+//! To add a scenario, write its requests and the answers that the definitions ask for as a list, as
+//! `tools/record.py --help` tells, and put the text that the script makes of it at the end of `more.txt`.
+//! `tools/try_player.py` shows what the player does with a bad text and with an answer that differs.
+#![tactic(auto)]
+
+mod desks;
+mod faults;
+mod playing;
+mod scenarios;
+mod sips;
+mod telling;
+mod texts;
+
+use fab_wire_base::routes::Routes;
+use faults::Fault;
+use playing::{Tally, play_twice};
+use scenarios::scenarios_of;
+use std::process::ExitCode;
+use std::{env, fs};
+
+/// Plays a file, says how many answers are as recorded, and tells whether all are.
+fn play_file(rt: &HostRuntime, routes: &Routes, path: &str) -> Result<bool, Fault> {
+    let Ok(text) = fs::read_to_string(rt, path) else {
+        return Err(Fault::File);
+    };
+    let scenarios = scenarios_of(rt.alloc(), text.as_str())?;
+    let Tally { right, wrong } = play_twice(rt, routes, path, scenarios.as_slice())?;
+    match println!(rt; "{path}: {right} answers as recorded, {wrong} otherwise") {
+        Ok(()) => Ok(wrong == 0),
+        Err(_) => Err(Fault::Output),
+    }
+}
+
+/// Plays the files of these names, and tells whether all is as recorded. A fault ends it, and is told
+/// with the name of its file.
+fn play_files(rt: &HostRuntime, routes: &Routes, paths: &[String]) -> Option<bool> {
+    let mut is_right = true;
+    for path in paths {
+        match play_file(rt, routes, path.as_str()) {
+            Ok(right) => is_right &= right,
+            Err(fault) => {
+                let _ = eprintln!(rt; "{path}: {fault}");
+                return None;
+            }
+        }
+    }
+    Some(is_right)
+}
+
+/// Plays the files that the words name, behind the program's name.
+fn play_words(rt: &HostRuntime) -> Option<bool> {
+    let Ok(words) = env::args(rt) else {
+        return None;
+    };
+    let Ok(paths) = words.skip(1).collect::<Vec<String>>(rt.alloc()) else {
+        return None;
+    };
+    let Ok(routes) = Routes::new(rt.alloc()) else {
+        return None;
+    };
+    play_files(rt, &routes, paths.as_slice())
+}
+
+fn main(rt: HostRuntime) -> ExitCode {
+    match play_words(&rt) {
+        Some(true) => ExitCode::from(0),
+        Some(false) => ExitCode::from(1),
+        None => ExitCode::from(3),
+    }
+}

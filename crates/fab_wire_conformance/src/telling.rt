@@ -1,0 +1,76 @@
+//! How an answer that differs is told: in the form of the files.
+
+use crate::faults::Fault;
+use std::alloc::Global;
+use std::fmt::Write;
+
+/// Adds what stands for a byte.
+fn push_byte(text: &mut String, byte: u8) -> Result<(), Fault> {
+    match byte {
+        b'\n' => text.push('\n')?,
+        b'\r' => text.push_str("\\r")?,
+        b'\\' => text.push_str("\\\\")?,
+        b' '..=b'~' => text.push(char::from(byte))?,
+        _ => {
+            if write!(text, "\\x{byte:02x}").is_err() {
+                return Err(Fault::Memory);
+            }
+        }
+    }
+    Ok(())
+}
+
+/// The lines that stand for the bytes of an answer.
+fn lines_of(alloc: Global, bytes: &[u8]) -> Result<String, Fault> {
+    let mut text = String::new(alloc);
+    let mut is_begun = false;
+    for &byte in bytes {
+        if !is_begun {
+            text.push_str("< ")?;
+        }
+        push_byte(&mut text, byte)?;
+        is_begun = byte != b'\n';
+    }
+    if is_begun {
+        text.push_str("\\\n")?;
+    }
+    Ok(text)
+}
+
+/// Where an answer differs: the file and the line at which its exchange begins, the scenario, the
+/// request's number in it from 1 on, and how its bytes are read.
+#[derive(Clone, Copy)]
+pub struct Place<'t> {
+    pub path: &'t str,
+    pub line: usize,
+    pub name: &'t str,
+    pub number: usize,
+    pub reads: &'t str,
+}
+
+/// Tells an answer that differs, whole, beside the one that is recorded.
+///
+/// # Errors
+/// `Memory`, and `Output` where it cannot be written.
+pub fn tell(
+    rt: &HostRuntime,
+    place: Place<'_>,
+    recorded: &[u8],
+    answered: &[u8],
+) -> Result<(), Fault> {
+    let Place {
+        path,
+        line,
+        name,
+        number,
+        reads,
+    } = place;
+    let recorded = lines_of(rt.alloc(), recorded)?;
+    let answered = lines_of(rt.alloc(), answered)?;
+    match println!(rt;
+        "{path}, line {line}: {name}, request {number}, read {reads}\nrecorded:\n{recorded}answered:\n{answered}"
+    ) {
+        Ok(()) => Ok(()),
+        Err(_) => Err(Fault::Output),
+    }
+}

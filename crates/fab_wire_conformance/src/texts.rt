@@ -1,0 +1,107 @@
+//! The lines of recorded exchanges. Each has a mark, a space, and a text:
+//!
+//! | mark | text |
+//! |---|---|
+//! | `#` | what the file is; the first line, and no other |
+//! | `=` | the name of a scenario, which a new desk plays |
+//! | <code>&#124;</code> | its policy; where it has none, the policy of the scenario before stays |
+//! | `@` | the moment at which a request comes, in Unix seconds |
+//! | `>` | the request's bytes |
+//! | `<` | those of its answer: none where there is none |
+//!
+//! The text of a `|`, `>` or `<` stands for itself and a line feed, where `\r` is CR, `\\` a backslash,
+//! `\xHH` any byte, and a `\` at the end means that no line feed follows.
+
+use crate::faults::Fault;
+
+/// A line's text, or what is left of it, and its number from 1 on.
+#[derive(Clone, Copy)]
+pub struct Line<'t> {
+    pub number: usize,
+    pub text: &'t str,
+}
+
+impl<'t> Line<'t> {
+    /// Its mark, and the text behind it.
+    ///
+    /// # Errors
+    /// `Text` where there is no space.
+    pub fn parts(self) -> Result<(&'t str, Line<'t>), Fault> {
+        match self.text.split_once(' ') {
+            Some((mark, text)) => Ok((mark, Line { text, ..self })),
+            None => Err(Fault::Text(self.number)),
+        }
+    }
+
+    /// The moment that it spells.
+    ///
+    /// # Errors
+    /// `Text` where it spells no number of 64 bits.
+    pub fn moment(self) -> Result<u64, Fault> {
+        match self.text.parse() {
+            Ok(moment) => Ok(moment),
+            Err(_) => Err(Fault::Text(self.number)),
+        }
+    }
+}
+
+/// The value of a hexadecimal digit.
+fn digit_of(byte: u8) -> Option<u8> {
+    match byte {
+        b'0'..=b'9' => Some(byte - b'0'),
+        b'a'..=b'f' => Some(byte - b'a' + 10),
+        _ => None,
+    }
+}
+
+/// The byte that two digits spell, and what stands behind them.
+fn byte_of(digits: &str) -> Option<(u8, &[u8])> {
+    let [high, low, rest @ ..] = digits.as_bytes() else {
+        return None;
+    };
+    Some((digit_of(*high)? << 4 | digit_of(*low)?, rest))
+}
+
+/// The byte that is spelled right behind a backslash, and what stands behind it.
+fn escaped(piece: &str) -> Option<(u8, &[u8])> {
+    match piece.strip_prefix('r') {
+        Some(rest) => Some((b'\r', rest.as_bytes())),
+        None => byte_of(piece.strip_prefix('x')?),
+    }
+}
+
+/// Adds what stands right behind a backslash.
+fn push_escaped(bytes: &mut Vec<u8>, number: usize, piece: &str) -> Result<(), Fault> {
+    let Some((byte, rest)) = escaped(piece) else {
+        return Err(Fault::Text(number));
+    };
+    bytes.push(byte)?;
+    bytes.extend_from_slice(rest)?;
+    Ok(())
+}
+
+/// Adds the bytes that a line stands for. Its pieces are parted by backslashes, so an empty one behind
+/// a backslash is a second backslash, or the end of the line: then it is taken back.
+///
+/// # Errors
+/// `Text` where the line spells no bytes, and `Memory`; some bytes may have been added then.
+pub fn push_line(bytes: &mut Vec<u8>, line: Line<'_>) -> Result<(), Fault> {
+    let mut is_plain = true;
+    for piece in line.text.split('\\') {
+        if is_plain {
+            bytes.extend_from_slice(piece.as_bytes())?;
+            is_plain = false;
+        } else if piece.is_empty() {
+            bytes.push(b'\\')?;
+            is_plain = true;
+        } else {
+            push_escaped(bytes, line.number, piece)?;
+        }
+    }
+    if is_plain {
+        let _ = bytes.pop();
+    } else {
+        bytes.push(b'\n')?;
+    }
+    Ok(())
+}

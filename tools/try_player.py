@@ -1,0 +1,103 @@
+#!/usr/bin/env python3
+"""Shows what the player of recorded exchanges does with texts that are not of the form, and with an
+answer that differs: what it writes, and its status. PLAYER names the built player; without it the one
+is taken that `rt run` leaves in its crate. Each case is compared; the status is 1 where one is not as
+it has to be."""
+import os
+import subprocess
+import sys
+import tempfile
+
+sys.dont_write_bytecode = True
+TOP = os.path.dirname(os.path.dirname(os.path.realpath(__file__)))
+CRATE = os.path.join(TOP, "crates", "fab_wire_conformance")
+PLAYER = os.path.abspath(
+    os.environ.get("PLAYER") or os.path.join(CRATE, "out", "fab_wire_conformance")
+)
+
+POLICY = """| [[callers]]
+| name = "ada"
+| token = "t-ada"
+| roles = []
+| tenants = "*"
+| [[rules]]
+| name = "all"
+| actions = ["stage"]
+"""
+
+ASKED = """@ 0
+> GET /paths/db9 HTTP/1.1\\r
+> Authorization: Bearer t-ada\\r
+> \\r
+"""
+
+ANSWERED = """< HTTP/1.1 404 Not Found\\r
+< Content-Type: application/json\\r
+< Content-Length: 30\\r
+< Connection: close\\r
+< \\r
+< {"code":9,"error":"not-found"}\\
+"""
+
+GOOD = f"# A text.\n= one host\n{POLICY}{ASKED}{ANSWERED}"
+OTHER = ANSWERED.replace("404 Not Found", "200 OK").replace("not-found", "not\\\\found")
+
+
+def difference(reads):
+    """What is told of the answer that differs."""
+    return (
+        f"text, line 11: one host, request 1, read {reads}\n"
+        f"recorded:\n{OTHER}answered:\n{ANSWERED}\n"
+    )
+
+
+# What it is, the bytes of the text, the status, and what is written on standard output and error.
+CASES = (
+    ("what is recorded", GOOD.encode(), 0, "text: 2 answers as recorded, 0 otherwise\n", ""),
+    (
+        "an answer that differs",
+        f"# A text.\n= one host\n{POLICY}{ASKED}{OTHER}{ASKED}{ANSWERED}".encode(),
+        1,
+        difference("whole") + difference("byte by byte")
+        + "text: 2 answers as recorded, 2 otherwise\n",
+        "",
+    ),
+    ("no first line", GOOD[10:].encode(), 3, "", "text: line 1 is not of the form\n"),
+    ("no text", b"", 3, "", "text: line 1 is not of the form\n"),
+    ("a second first line", f"{GOOD}# end\n".encode(), 3, "", "text: line 21 is not of the form\n"),
+    ("an empty line", f"{GOOD}\n{ASKED}".encode(), 3, "", "text: line 21 is not of the form\n"),
+    ("another mark", f"{GOOD}! x\n".encode(), 3, "", "text: line 21 is not of the form\n"),
+    ("a mark alone", f"{GOOD}@\n".encode(), 3, "", "text: line 21 is not of the form\n"),
+    ("no moment", f"{GOOD}@ now\n".encode(), 3, "", "text: line 21 is not of the form\n"),
+    ("no scenario", f"# A text.\n{ASKED}".encode(), 3, "", "text: line 2 is not of the form\n"),
+    ("a policy too late", f"{GOOD}| x\n".encode(), 3, "", "text: line 21 is not of the form\n"),
+    ("a request too late", f"{GOOD}> x\n".encode(), 3, "", "text: line 21 is not of the form\n"),
+    (
+        "an answer to nothing", f"# A text.\n= a\n{ANSWERED}".encode(), 3, "",
+        "text: line 3 is not of the form\n",
+    ),
+    ("no escape", f"{GOOD}@ 0\n> \\q\n".encode(), 3, "", "text: line 22 is not of the form\n"),
+    ("half a byte", f"{GOOD}@ 0\n> \\x0\n".encode(), 3, "", "text: line 22 is not of the form\n"),
+    ("no policy", f"# A text.\n= a\n{ASKED}".encode(), 3, "", "text: the scenario of line 2 has no policy\n"),
+    ("a policy that is none", b"# A text.\n= a\n| x\n", 3, "", "text: the scenario of line 2 has no policy\n"),
+    ("no UTF-8", GOOD.encode() + b"@ 0\n> \xff\n", 3, "", "text: it cannot be read\n"),
+)
+
+
+def is_so(folder, case):
+    """Whether the player does with the text what the case says."""
+    what, text, status, output, errors = case
+    with open(os.path.join(folder, "text"), "wb") as file:
+        file.write(text)
+    run = subprocess.run([PLAYER, "text"], cwd=folder, capture_output=True, check=False)
+    found = (run.returncode, run.stdout.decode(), run.stderr.decode())
+    if found == (status, output, errors):
+        print(f"{what}: as it has to be")
+        return True
+    print(f"{what}: status {found[0]}\n{found[1]}{found[2]}in place of status {status}\n{output}{errors}")
+    return False
+
+
+if __name__ == "__main__":
+    with tempfile.TemporaryDirectory() as scratch:
+        sys.exit(0 if all([is_so(scratch, case) for case in CASES]) else 1)
