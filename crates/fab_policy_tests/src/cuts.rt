@@ -1,9 +1,9 @@
-//! The worked policy, cut behind each of its bytes.
+//! The worked policy, which is also that of trials, and what it is where it is cut behind a byte.
 use fab_policy_base::{Policy, PolicyFault, TRIAL_POLICY};
 use std::process::Abort;
 
 /// The worked policy.
-const WHOLE: &str = r#"[[callers]]
+pub(crate) const WORKED: &str = r#"[[callers]]
 name = "ada"
 token = "t-ada"
 roles = ["operator"]
@@ -68,7 +68,7 @@ const READ: &[usize] = &[
 /// Whether the first bytes of the text, so many, are a policy. Ends the test where there is no memory
 /// to tell.
 fn is_policy(rt: &(impl Abort + AllocGlobal), end: usize) -> bool {
-    let text = WHOLE.get(..end).expect(rt, "a beginning");
+    let text = WORKED.get(..end).expect(rt, "a beginning");
     match Policy::read(rt.alloc(), text) {
         Ok(_) => true,
         Err(PolicyFault::Memory) => panic!(rt; "memory"),
@@ -78,7 +78,7 @@ fn is_policy(rt: &(impl Abort + AllocGlobal), end: usize) -> bool {
 
 /// The first cut that is read as a policy where it is none, or refused where it is one.
 fn first_wrong(rt: &(impl Abort + AllocGlobal)) -> Option<usize> {
-    for end in 0..=WHOLE.len() {
+    for end in 0..=WORKED.len() {
         if is_policy(rt, end) != READ.contains(&end) {
             return Some(end);
         }
@@ -93,5 +93,5 @@ fn policy_cut(rt: HostRuntime) {
 
 #[test]
 fn trial_is_under_the_worked_policy(rt: HostRuntime) {
-    assert_eq!(rt; TRIAL_POLICY, WHOLE);
+    assert_eq!(rt; TRIAL_POLICY, WORKED);
 }
