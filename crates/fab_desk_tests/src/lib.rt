@@ -1,5 +1,5 @@
 //! Tests of the desk over tables in memory: worked requests, with the tables read back after each;
-//! each call of the store refused in turn; tables that somebody else has changed. And stops: its files
+//! each call of the store refused in turn; plans rolled back; tables that somebody else has changed. And stops: its files
 //! are on two memory disks, one of which fails after so many calls; what is left is opened again, and
 //! serves on. Nothing here is part of the product.
 #![tactic(auto)]
@@ -24,5 +24,7 @@ mod refused;
 mod stops;
 #[cfg(test)]
 mod stored;
+#[cfg(test)]
+mod undo;
 #[cfg(test)]
 mod worlds;

@@ -1,5 +1,5 @@
 //! Each value that a key may have, and every way to write TOML that a policy may use.
-use fab_policy_base::{Policy, PolicyFault};
+use fab_policy_base::Policy;
 
 /// Texts that spell a policy.
 const READ: &[&str] = &[
@@ -26,22 +26,4 @@ fn each_value(rt: HostRuntime) {
     for text in READ {
         assert!(rt; Policy::read(rt.alloc(), text).is_ok());
     }
-}
-
-/// A text with each key.
-const WHOLE: &str =
-    "[[callers]]\nname = \"a\"\ntoken = \"t\"\nroles = [\"x\"]\ntenants = [\"y\"]\n[[windows]]\nname = \"w\"\nweekly = [[60, 120]]\nfreeze = [[5, 9]]\n[[rules]]\nname = \"r\"\nactions = [\"stage\"]\nfabric = \"A\"\nrole = \"x\"\nscope = \"own\"\nwindow = \"w\"\napprovals = 2\napprover = \"x\"\nfresh = true\n";
-
-/// The text cut behind each of its characters is read, or refused for what it is.
-#[test]
-fn cut_text(rt: HostRuntime) {
-    let alloc = rt.alloc();
-    let mut text = String::new(alloc);
-    for c in WHOLE.chars() {
-        text.push(c).expect(&rt, "memory");
-        if let Err(PolicyFault::Memory) = Policy::read(alloc, text.as_str()) {
-            panic!(rt; "memory");
-        }
-    }
-    assert!(rt; Policy::read(alloc, text.as_str()).is_ok());
 }

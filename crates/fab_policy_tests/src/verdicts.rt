@@ -1,14 +1,11 @@
 //! What no clause says: that the worked verdicts come out.
+use crate::cuts::WORKED;
 use crate::told::policy;
 use fab_names::{Fabric, Name};
 use fab_policy::{Act, Action, Approval, Need, PlanApprovals, Policy, Verdict, decide};
 use std::process::Abort;
 
-/// The policy of the worked verdicts.
-const P: &str =
-    "[[callers]]\nname = \"ada\"\ntoken = \"t-ada\"\nroles = [\"operator\"]\ntenants = \"*\"\n[[callers]]\nname = \"bob\"\ntoken = \"t-bob\"\nroles = [\"approver\"]\ntenants = \"*\"\n[[callers]]\nname = \"cyd\"\ntoken = \"t-cyd\"\nroles = [\"operator\"]\ntenants = [\"blue\"]\n[[callers]]\nname = \"dan\"\ntoken = \"t-dan\"\nroles = [\"approver\"]\ntenants = \"*\"\n[[callers]]\nname = \"eve\"\ntoken = \"t-eve\"\nroles = []\ntenants = [\"green\"]\n[[windows]]\nname = \"early\"\nweekly = [[60, 120]]\nfreeze = [[350000, 351000]]\n[[rules]]\nname = \"ops\"\nactions = [\"import\", \"inventory\", \"stage\", \"withdraw\", \"dryrun\", \"activate\", \"rollback\"]\nrole = \"operator\"\n[[rules]]\nname = \"signers\"\nactions = [\"approve\"]\n[[rules]]\nname = \"two-eyes\"\nactions = [\"activate\"]\nfabric = \"B\"\napprovals = 2\napprover = \"approver\"\nfresh = true\n[[rules]]\nname = \"quiet\"\nactions = [\"activate\"]\nfabric = \"B\"\nwindow = \"early\"\n[[rules]]\nname = \"own\"\nactions = [\"import\", \"inventory\", \"activate\", \"rollback\"]\nscope = \"own\"\n";
-
-/// The same, where ada is an approver too.
+/// The worked policy, but that ada is an approver too.
 const Q: &str =
     "[[callers]]\nname = \"ada\"\ntoken = \"t-ada\"\nroles = [\"operator\", \"approver\"]\ntenants = \"*\"\n[[callers]]\nname = \"bob\"\ntoken = \"t-bob\"\nroles = [\"approver\"]\ntenants = \"*\"\n[[callers]]\nname = \"cyd\"\ntoken = \"t-cyd\"\nroles = [\"operator\"]\ntenants = [\"blue\"]\n[[callers]]\nname = \"dan\"\ntoken = \"t-dan\"\nroles = [\"approver\"]\ntenants = \"*\"\n[[callers]]\nname = \"eve\"\ntoken = \"t-eve\"\nroles = []\ntenants = [\"green\"]\n[[windows]]\nname = \"early\"\nweekly = [[60, 120]]\nfreeze = [[350000, 351000]]\n[[rules]]\nname = \"ops\"\nactions = [\"import\", \"inventory\", \"stage\", \"withdraw\", \"dryrun\", \"activate\", \"rollback\"]\nrole = \"operator\"\n[[rules]]\nname = \"signers\"\nactions = [\"approve\"]\n[[rules]]\nname = \"two-eyes\"\nactions = [\"activate\"]\nfabric = \"B\"\napprovals = 2\napprover = \"approver\"\nfresh = true\n[[rules]]\nname = \"quiet\"\nactions = [\"activate\"]\nfabric = \"B\"\nwindow = \"early\"\n[[rules]]\nname = \"own\"\nactions = [\"import\", \"inventory\", \"activate\", \"rollback\"]\nscope = \"own\"\n";
 
@@ -177,7 +174,7 @@ const ACTIVATIONS: &[Activation] = &[
 
 #[test]
 fn worked_verdicts(rt: HostRuntime) {
-    let p = policy(&rt, P);
+    let p = policy(&rt, WORKED);
     for case in ACTIVATIONS {
         assert!(rt; is_judged(&rt, &p, case));
     }
@@ -326,7 +323,7 @@ fn is_judged_alone(rt: &impl Abort, policy: &Policy, case: &Plain) -> bool {
 
 #[test]
 fn without_a_plan(rt: HostRuntime) {
-    let p = policy(&rt, P);
+    let p = policy(&rt, WORKED);
     for case in PLAIN {
         assert!(rt; is_judged_alone(&rt, &p, case));
     }

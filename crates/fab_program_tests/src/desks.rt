@@ -27,6 +27,12 @@ pub trait Asked: Sized + Drop {
     /// Serves the bytes of a request by these routes, and gives the bytes of the answer.
     fn answer(&mut self, global: Global, routes: &Routes, moment: u64, request: &[u8]) -> Vec<u8>;
 
+    /// Whether the token is a caller's.
+    fn knows(&self, token: &str) -> bool;
+
+    /// Whether the desk is halted.
+    fn is_halted(&self) -> bool;
+
     /// The desk, opened again over its store, with the world of the tables.
     fn with_world<R: Abort + AllocGlobal>(self, rt: &R) -> (Self::World, Self);
 
@@ -93,6 +99,14 @@ impl<A: Allocator + Copy, S: Store<A>, B: PathBook<A>> Asked for Trial<A, S, B> 
             &mut writer,
         );
         writer.into_inner()
+    }
+
+    fn knows(&self, token: &str) -> bool {
+        self.desk.knows(token)
+    }
+
+    fn is_halted(&self) -> bool {
+        self.desk.halted()
     }
 
     fn with_world<R: Abort + AllocGlobal>(self, rt: &R) -> (World<A>, Trial<A, S, B>) {

@@ -1,6 +1,7 @@
 //! Tests of the program `sandesk` by calls of `run`; of the statements of its tables; and want of memory
 //! under a desk that is asked over the wire, one of whose requests for memory is refused, the first,
-//! then the next, until a request meets no refusal. Nothing here is part of the product.
+//! then the next, until a request meets no refusal; and what a desk tells without memory. Nothing here
+//! is part of the product.
 #![tactic(auto)]
 
 #[cfg(test)]
@@ -11,6 +12,10 @@ mod desks;
 mod faults;
 #[cfg(test)]
 mod growth;
+#[cfg(test)]
+mod moments;
+#[cfg(test)]
+mod quiet;
 #[cfg(test)]
 mod runs;
 #[cfg(test)]

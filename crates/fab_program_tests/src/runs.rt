@@ -6,11 +6,13 @@ use fab_exchanges::rows::{FIRST_PLAN, WORLD};
 use fab_exchanges::streams::{Breaking, Slow};
 use fab_policy_base::TRIAL_POLICY;
 use fab_program_base::run;
+use std::cell::Cell;
 use std::fs;
 use std::process::Abort;
 
-/// A run: its words; what its clock tells; its standard input, and the read of it that fails; the write
-/// of its standard output that fails; what it writes to its two outputs, and its exit status.
+/// A run: its words; what its clock tells, which goes on by a second each time that it is asked; its
+/// standard input, and the read of it that fails; the write of its standard output that fails; what it
+/// writes to its two outputs, and its exit status.
 #[derive(Clone, Copy)]
 pub struct Run<'t> {
     pub words: &'t str,
@@ -59,16 +61,23 @@ fn has_written(rt: &impl Abort, run: &Run<'_>, output: &[u8], errors: &[u8], sta
     }
 }
 
+/// What the clock tells. It goes on by a second.
+fn tick(clock: &Cell<Option<u64>>) -> Option<u64> {
+    let moment = clock.get();
+    clock.set(moment.map(|told| told.saturating_add(1)));
+    moment
+}
+
 /// Runs the program so, and compares what it writes.
 fn is_run(host: &HostRuntime, rt: &(impl Abort + AllocGlobal), wanted: &Run<'_>) {
     let words = words_from(rt, wanted.words);
-    let moment = wanted.moment;
+    let clock = Cell::new(wanted.moment);
     let mut output = Breaking::new(rt.alloc(), usize::MAX, wanted.write);
     let mut errors = Vec::new(rt.alloc());
     let status = run(
         host,
         words.as_slice(),
-        || moment,
+        || tick(&clock),
         Slow::new(wanted.input.as_bytes(), usize::MAX, wanted.read),
         &mut output,
         &mut errors,

@@ -2,6 +2,10 @@
 #![tactic(auto)]
 
 #[cfg(test)]
+mod active;
+#[cfg(test)]
+mod copies;
+#[cfg(test)]
 mod inventory;
 #[cfg(test)]
 mod large;

@@ -378,7 +378,7 @@ fn assert_right(rt: &(impl Abort + AllocGlobal), lines: &[(Act, Want)]) {
 }
 
 #[test]
-fn joined_by_active_set(rt: HostRuntime) {
+fn active_set_joins_its_zones(rt: HostRuntime) {
     assert_right(&rt, ACTIVE_SET);
 }
 

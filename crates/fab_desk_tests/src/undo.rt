@@ -1,0 +1,280 @@
+//! What a plan in force took away and added, as the table of changes to undo has it; and the rows of the
+//! configuration when plans are rolled back, the last one first, by one desk or each by a desk that is
+//! opened anew.
+
+use crate::desks::tables_of;
+use crate::lists::List;
+use crate::memory::{Tables, tables_after, tables_then};
+use fab_asking::{ADA, Ask, Turn};
+use fab_names::Fabric;
+use sqlite::{Connection, MemStore};
+use std::process::Abort;
+
+/// The rows of a query, each of which is one text, on lines of their own.
+fn add_rows(
+    rt: &(impl Abort + AllocGlobal),
+    text: &mut String,
+    conn: &mut Connection<MemStore>,
+    query: &str,
+) {
+    let rows = conn.query_all(query, &[]).expect(rt, "rows");
+    for row in rows.iter() {
+        let line: String = row.get(0).expect(rt, "a text");
+        write!(text, "{line}\n").expect(rt, "memory");
+    }
+}
+
+/// The lines as one text.
+fn text_of(rt: &(impl Abort + AllocGlobal), lines: &[&str]) -> String {
+    let mut text = String::new(rt.alloc());
+    for line in lines {
+        write!(text, "{line}\n").expect(rt, "memory");
+    }
+    text
+}
+
+/// The tables again. Ends the test where the queries, one after the other, show other lines of them.
+fn shown(
+    rt: &(impl Abort + AllocGlobal),
+    tables: Tables,
+    queries: &[&str],
+    lines: &[&str],
+) -> Tables {
+    let mut conn = tables.into_connection();
+    let mut found = String::new(rt.alloc());
+    for query in queries {
+        add_rows(rt, &mut found, &mut conn, query);
+    }
+    let wanted = text_of(rt, lines);
+    assert_eq!(rt; found.as_str(), wanted.as_str());
+    tables_of(rt, conn)
+}
+
+/// What shows the plan, the sign and the entry of each change to undo.
+const ENTRIES: &[&str] = &[
+    "SELECT plan || ' ' || sign || ' ' || entry FROM undo ORDER BY plan, sign, entry",
+];
+
+/// Two ports and a plan that lets the default zone join them.
+const PERMITTED: &[Turn] = &[
+    (
+        ADA,
+        0,
+        Ask::Import(
+            Fabric::A,
+            "port_name,node_name,domain,port
+10:00:00:00:00:00:00:01,20:00:00:00:00:00:00:01,1,1
+50:00:00:00:00:00:00:01,50:00:00:00:00:00:00:00,1,2
+",
+        ),
+        "changed at 1",
+    ),
+    (
+        ADA,
+        0,
+        Ask::Stage("d1", "default A permit\n"),
+        "staged d1 of 1",
+    ),
+    (ADA, 0, Ask::Activate("d1"), "done d1 at 2"),
+];
+
+/// Its changes.
+const PERMITTED_ENTRIES: &[&str] = &["d1 + meta default.A permit", "d1 - meta default.A deny"];
+
+/// The changes of the first worked plan, and of one that maps another volume in place of its own.
+const MAPPED_ENTRIES: &[&str] = &[
+    "p1 + active A z1 wwpn=10:00:00:00:00:00:00:01",
+    "p1 + active A z1 wwpn=50:00:00:00:00:00:00:01",
+    "p1 + group_parts host hosts1 host db1 ",
+    "p1 + group_parts storage g1 hostgroup hosts1 ",
+    "p1 + group_parts storage g1 target 5000000000000001 ",
+    "p1 + group_parts storage g1 unit 0 v1",
+    "p1 + groups host hosts1 blue  0",
+    "p1 + groups storage g1 blue arr1 1",
+    "p1 + meta active.A s1",
+    "p1 + zoning A alias disk wwpn=50:00:00:00:00:00:00:01",
+    "p1 + zoning A set s1 z1",
+    "p1 + zoning A zone z1 alias=disk",
+    "p1 + zoning A zone z1 wwpn=10:00:00:00:00:00:00:01",
+    "p1 - meta active.A ",
+    "p3 + group_parts storage g3 hostgroup hosts1 ",
+    "p3 + group_parts storage g3 target 5000000000000001 ",
+    "p3 + group_parts storage g3 unit 0 v2",
+    "p3 + groups storage g3 blue arr1 1",
+    "p3 - group_parts storage g1 unit 0 v1",
+];
+
+#[test]
+fn undo_entries(rt: HostRuntime) {
+    let permitted = tables_after(&rt, &[], PERMITTED);
+    let _tables = shown(&rt, permitted, ENTRIES, PERMITTED_ENTRIES);
+    let mapped = tables_after(&rt, &[List::World, List::First, List::Row14], &[]);
+    let _tables = shown(&rt, mapped, ENTRIES, MAPPED_ENTRIES);
+}
+
+/// What shows the rows of the configuration, table by table.
+const CONFIG: &[&str] = &[
+    "SELECT key || ' ' || value FROM meta WHERE key <> 'schema' AND key <> 'revision' ORDER BY key",
+    "SELECT fabric || ' ' || kind || ' ' || name || ' ' || item FROM zoning ORDER BY fabric, kind, name, item",
+    "SELECT fabric || ' ' || zone || ' ' || member FROM active ORDER BY fabric, zone, member",
+    "SELECT kind || ' ' || name || ' ' || tenant || ' ' || array || ' ' || exposed FROM groups ORDER BY kind, name",
+    "SELECT kind || ' ' || name || ' ' || part || ' ' || item || ' ' || volume FROM group_parts ORDER BY kind, name, part, item",
+];
+
+/// The configuration of the worked world.
+const BEFORE_FIRST: &[&str] = &["active.A ", "active.B ", "default.A deny", "default.B deny"];
+
+/// After the first plan.
+const BEFORE_SECOND: &[&str] = &[
+    "active.A s1",
+    "active.B ",
+    "default.A deny",
+    "default.B deny",
+    "A alias disk wwpn=50:00:00:00:00:00:00:01",
+    "A set s1 z1",
+    "A zone z1 alias=disk",
+    "A zone z1 wwpn=10:00:00:00:00:00:00:01",
+    "A z1 wwpn=10:00:00:00:00:00:00:01",
+    "A z1 wwpn=50:00:00:00:00:00:00:01",
+    "host hosts1 blue  0",
+    "storage g1 blue arr1 1",
+    "host hosts1 host db1 ",
+    "storage g1 hostgroup hosts1 ",
+    "storage g1 target 5000000000000001 ",
+    "storage g1 unit 0 v1",
+];
+
+/// After the second.
+const BEFORE_THIRD: &[&str] = &[
+    "active.A s1",
+    "active.B ",
+    "default.A deny",
+    "default.B deny",
+    "A alias disk wwpn=50:00:00:00:00:00:00:01",
+    "A set s1 z1",
+    "A set s1 z3",
+    "A zone z1 alias=disk",
+    "A zone z1 wwpn=10:00:00:00:00:00:00:01",
+    "A zone z3 dp=12,5",
+    "A zone z3 wwpn=50:00:00:00:00:00:00:01",
+    "A z1 wwpn=10:00:00:00:00:00:00:01",
+    "A z1 wwpn=50:00:00:00:00:00:00:01",
+    "A z3 dp=12,5",
+    "A z3 wwpn=50:00:00:00:00:00:00:01",
+    "host hosts1 blue  0",
+    "host hosts2 green  0",
+    "storage g1 blue arr1 1",
+    "storage g2 green arr1 1",
+    "host hosts1 host db1 ",
+    "host hosts2 host db2 ",
+    "storage g1 hostgroup hosts1 ",
+    "storage g1 target 5000000000000001 ",
+    "storage g1 unit 0 v1",
+    "storage g2 hostgroup hosts2 ",
+    "storage g2 target 5000000000000001 ",
+    "storage g2 unit 0 v2",
+];
+
+/// After the third, which takes a member out of a zone.
+const AFTER_THIRD: &[&str] = &[
+    "active.A s1",
+    "active.B ",
+    "default.A deny",
+    "default.B deny",
+    "A alias disk wwpn=50:00:00:00:00:00:00:01",
+    "A set s1 z1",
+    "A set s1 z3",
+    "A zone z1 alias=disk",
+    "A zone z1 wwpn=10:00:00:00:00:00:00:01",
+    "A zone z3 wwpn=50:00:00:00:00:00:00:01",
+    "A z1 wwpn=10:00:00:00:00:00:00:01",
+    "A z1 wwpn=50:00:00:00:00:00:00:01",
+    "A z3 wwpn=50:00:00:00:00:00:00:01",
+    "host hosts1 blue  0",
+    "host hosts2 green  0",
+    "storage g1 blue arr1 1",
+    "storage g2 green arr1 1",
+    "host hosts1 host db1 ",
+    "host hosts2 host db2 ",
+    "storage g1 hostgroup hosts1 ",
+    "storage g1 target 5000000000000001 ",
+    "storage g1 unit 0 v1",
+    "storage g2 hostgroup hosts2 ",
+    "storage g2 target 5000000000000001 ",
+    "storage g2 unit 0 v2",
+];
+
+/// A third plan behind the worked two, and the way back.
+const THERE_AND_BACK: &[Turn] = &[
+    (
+        ADA,
+        0,
+        Ask::Stage(
+            "p3",
+            "zone.put A z3 wwpn=50:00:00:00:00:00:00:01
+activate A s1
+",
+        ),
+        "staged p3 of 2",
+    ),
+    (
+        ADA,
+        0,
+        Ask::Activate("p3"),
+        "done p3 at 9
+-A 10:00:00:00:00:00:00:02 50:00:00:00:00:00:00:01 v2 0
+-A 10:00:00:00:00:00:00:03 50:00:00:00:00:00:00:01 v2 0",
+    ),
+    (
+        ADA,
+        0,
+        Ask::Rollback("p3"),
+        "done p3 at 10
++A 10:00:00:00:00:00:00:02 50:00:00:00:00:00:00:01 v2 0
++A 10:00:00:00:00:00:00:03 50:00:00:00:00:00:00:01 v2 0",
+    ),
+    (
+        ADA,
+        0,
+        Ask::Rollback("p2"),
+        "done p2 at 11
+-A 10:00:00:00:00:00:00:02 50:00:00:00:00:00:00:01 v2 0
+-A 10:00:00:00:00:00:00:03 50:00:00:00:00:00:00:01 v2 0",
+    ),
+    (
+        ADA,
+        0,
+        Ask::Rollback("p1"),
+        "done p1 at 12
+-A 10:00:00:00:00:00:00:01 50:00:00:00:00:00:00:01 v1 0",
+    ),
+];
+
+/// The configuration after each of these turns.
+const STAGES: &[&[&str]] = &[
+    BEFORE_THIRD,
+    AFTER_THIRD,
+    BEFORE_THIRD,
+    BEFORE_SECOND,
+    BEFORE_FIRST,
+];
+
+/// The worked world and plans.
+const WORKED: &[List] = &[List::World, List::First, List::Second];
+
+#[test]
+fn rolled_back_last_first(rt: HostRuntime) {
+    for (place, lines) in STAGES.iter().enumerate() {
+        let turns = THERE_AND_BACK.get(..=place).expect(&rt, "turns");
+        let _tables = shown(&rt, tables_after(&rt, WORKED, turns), CONFIG, lines);
+    }
+}
+
+#[test]
+fn rolled_back_by_desks_opened_anew(rt: HostRuntime) {
+    let mut tables = tables_after(&rt, WORKED, &[]);
+    for (turn, lines) in THERE_AND_BACK.iter().zip(STAGES) {
+        tables = tables_then(&rt, tables, &[], &[*turn]);
+        tables = shown(&rt, tables, CONFIG, lines);
+    }
+}

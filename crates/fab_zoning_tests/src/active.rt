@@ -1,0 +1,129 @@
+//! Ports that an inventory knows, and rows that are made the active ones.
+use crate::rows::named;
+use fab_inventory::{Inventory, Port, PortRow};
+use fab_names::{Fabric, Member, Place, Wwn};
+use fab_zoning::{Why, Zoning};
+use std::alloc::Global;
+use std::process::Abort;
+
+/// A record of a port list: the port, its node and its place.
+type Record = (&'static str, &'static str, &'static str);
+
+/// The port of a host.
+const INITIATOR: &str = "1000000000000001";
+
+/// The port of an array.
+const TARGET: &str = "5000000000000001";
+
+/// A port at the place of the target, in the other fabric.
+const TARGET_IN_B: &str = "5000000000000002";
+
+/// The port lists of both fabrics.
+const LISTS: &[(Fabric, &[Record])] = &[
+    (
+        Fabric::A,
+        &[
+            (INITIATOR, "2000000000000001", "1,1"),
+            (TARGET, "5000000000000000", "1,2"),
+        ],
+    ),
+    (Fabric::B, &[(TARGET_IN_B, "5000000000000000", "1,2")]),
+];
+
+/// The rows: both ports are in the zone, the one by its name and the other by its place.
+const ROWS: &[(&str, &str)] = &[("z1", "wwpn=1000000000000001"), ("z1", "dp=1,2")];
+
+/// Two ports, and the zone that joins them, if one does.
+const PAIRS: &[(&str, &str, Option<&str>)] = &[
+    (INITIATOR, TARGET, Some("z1")),
+    (TARGET, INITIATOR, Some("z1")),
+    (INITIATOR, INITIATOR, None),
+    (INITIATOR, TARGET_IN_B, None),
+    (TARGET_IN_B, INITIATOR, None),
+    (TARGET, TARGET_IN_B, None),
+];
+
+fn wwn(rt: &impl Abort, text: &str) -> Wwn {
+    Wwn::read(text).expect(rt, "a world-wide name")
+}
+
+fn record(rt: &impl Abort, texts: Record) -> PortRow {
+    PortRow {
+        name: wwn(rt, texts.0),
+        node: wwn(rt, texts.1),
+        place: Place::read(texts.2).expect(rt, "a place"),
+    }
+}
+
+/// Imports a port list.
+fn import(
+    rt: &(impl Abort + AllocGlobal),
+    inventory: &mut Inventory<Global>,
+    fabric: Fabric,
+    listed: &[Record],
+) {
+    let mut rows = Vec::new(rt.alloc());
+    for texts in listed {
+        rows.push(record(rt, *texts)).expect(rt, "memory");
+    }
+    inventory
+        .import(fabric, rows.as_slice())
+        .expect(rt, "an import");
+}
+
+/// The inventory after the imports of both lists.
+fn imported(rt: &(impl Abort + AllocGlobal)) -> Inventory<Global> {
+    let mut inventory = Inventory::new(rt.alloc());
+    for &(fabric, listed) in LISTS {
+        import(rt, &mut inventory, fabric, listed);
+    }
+    inventory
+}
+
+/// A zoning of fabric A, whose active rows these are.
+fn zoned(rt: &(impl Abort + AllocGlobal)) -> Zoning<Global> {
+    let mut rows = Vec::new(rt.alloc());
+    for &(zone, member) in ROWS {
+        let member = Member::read(member).expect(rt, "a member");
+        rows.push((named(rt, zone), member)).expect(rt, "memory");
+    }
+    let mut zoning = Zoning::new(rt.alloc(), Fabric::A);
+    zoning
+        .set_active(named(rt, "s1"), rows.as_slice())
+        .expect(rt, "memory");
+    zoning
+}
+
+fn known(rt: &impl Abort, inventory: &Inventory<Global>, port: &str) -> Port {
+    inventory.port(&wwn(rt, port)).expect(rt, "a known port")
+}
+
+/// Whether this zone is why; or whether nothing is, where none is wanted.
+fn is_zone(why: Option<Why<'_>>, wanted: Option<&str>) -> bool {
+    match (why, wanted) {
+        (Some(Why::Zone(zone)), Some(name)) => zone.as_str() == name,
+        (None, None) => true,
+        _ => false,
+    }
+}
+
+/// The first pair that is joined otherwise.
+fn first_wrong(
+    rt: &impl Abort,
+    inventory: &Inventory<Global>,
+    zoning: &Zoning<Global>,
+) -> Option<(&'static str, &'static str)> {
+    for &(one, other, wanted) in PAIRS {
+        let (p, q) = (known(rt, inventory, one), known(rt, inventory, other));
+        if !is_zone(zoning.joined(&p, &q), wanted) {
+            return Some((one, other));
+        }
+    }
+    None
+}
+
+#[test]
+fn joined_by_active_set(rt: HostRuntime) {
+    let wrong = first_wrong(&rt, &imported(&rt), &zoned(&rt));
+    assert_eq!(rt; wrong, None);
+}
