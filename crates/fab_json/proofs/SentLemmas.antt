@@ -1,12 +1,12 @@
 -- A text that goes out in parts.
-use Rattle.std.proofs.Common.{◌≡◌, ℕ, zero, suc, ◌+◌, ◌<◌, List, [], ◌∷◌, ◌++◌, length, take, drop, get_or, refl, ap, sym, ◌∙◌, subst, append_assoc, add-one, arith, Option, Result, Ok, Err, OnErr}
+use Rattle.std.proofs.Common.{◌≡◌, ℕ, zero, suc, ◌+◌, ◌<◌, List, [], ◌∷◌, ◌++◌, length, take, drop, get_or, refl, ap, sym, ◌∙◌, subst, append_assoc, add-one, arith, Option}
 use Rattle.std.specs.Io.KnownBytes.{Appends}
 use Rattle.std.specs.List.{flat_map}
 use Rattle.std.proofs.lemmas.Grind.{common_steps}
 use Rattle.std.proofs.lemmas.Bool.Decides.{nat_tests}
 use Rattle.fab_json.specs.Failures.{Rose, one_more}
 use Rattle.fab_json.specs.Sent.{AppendsBeginning}
-use Rattle.fab_json.specs.SentLaws.{Appends-append, AppendsBeginning-append, AppendsBeginning-behind}
+use Rattle.fab_json.specs.SentLaws.{Appends-append, AppendsBeginning-append}
 
 -- the front of a text has gone out, the rest has not, and no write failed
 pub record SentTo (old new : Option (List ℕ)) (before after : ℕ) (text rest : List ℕ) : Type 0 where
@@ -64,8 +64,3 @@ pub sent-text-part : {X : Type 0} (f : X → List ℕ) (a b c : Option (List ℕ
 sent-text-part f a b c n m text xs i d s h r =
     let P : List ℕ → Type 0 = λ t. SentTo a b n m text t in
     sent-part a b c n m text (f (get_or xs i d) ++ flat_map f (drop (i + 1) xs)) (subst P (flat-cut f xs i d h) s) (AppendsBeginning-append b c (f (get_or xs i d)) _ r)
-
--- the same, where the other text failed
-pub OnErr-behind : {V E : Type 0} (r : Result V E) (a b c : Option (List ℕ)) (x y : List ℕ) → Appends a b x → OnErr r (AppendsBeginning b c y) → OnErr r (AppendsBeginning a c (x ++ y))
-OnErr-behind (Ok v) a b c x y h k = tt
-OnErr-behind (Err e) a b c x y h k = AppendsBeginning-behind a b c x y h k

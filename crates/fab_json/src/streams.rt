@@ -2,7 +2,7 @@
 //!
 //! The count of a stream is raised in `counted` alone, by its calls `read` and `write`.
 
-ghost use Rattle.std.specs.Prelude.{◌≡◌, ◌<◌, ◌++◌, length, take, drop, OnOk, OnErr};
+ghost use Rattle.std.specs.Prelude.{◌≡◌, ◌<◌, length, take, drop, OnOk, OnErr};
 ghost use Rattle.std.specs.List.{flat_map};
 ghost use Rattle.std.specs.Io.KnownBytes.{Appends};
 ghost use Rattle.fab_json.specs.Counting.{inner_of, failures_of};
@@ -72,25 +72,6 @@ impl<W: Write> Counted<W> {
             };
         }
         Ok(())
-    }
-
-    /// Writes texts one after the other and then others, as `put` writes one.
-    ///
-    /// # Errors
-    /// `WriteFailed` at the first write that fails. A beginning of the texts is written then.
-    pub fn put_both(&mut self, texts: &[&[u8]], others: &[&[u8]]) -> Result<(), WriteFailed>
-        ensures ok { OnOk result (Appends (W.contents (inner_of self.old))
-            (W.contents (inner_of self.new))
-            (flat_map (λ text. text.now) texts.now ++ flat_map (λ text. text.now) others.now)) }
-        ensures err { OnErr result (AppendsBeginning (W.contents (inner_of self.old))
-            (W.contents (inner_of self.new))
-            (flat_map (λ text. text.now) texts.now ++ flat_map (λ text. text.now) others.now)) }
-        ensures count { failures_of self.new ≡ failures_after result (failures_of self.old) }
-    {
-        let Ok(()) = self.put_all(texts) else {
-            return Err(WriteFailed);
-        };
-        self.put_all(others)
     }
 }
 
