@@ -5,8 +5,10 @@ named, what documents name is there, and the README is short. Commands that are 
 run by examples/readme.sh and examples/session.sh.
 
 A line for each fault, and status 1 where there is one."""
+import collections
 import pathlib
 import re
+import subprocess
 import sys
 
 TOP = pathlib.Path(__file__).resolve().parent.parent
@@ -18,17 +20,25 @@ DATED = "docs/measurements.md"
 CONTRACTS = "docs/CONTRACTS.md"
 FILE = r"[\w./-]+\.(rt|antt|py|sh|md|toml|http|plan|csv|edit)"
 
-
-def words(text):
-    return re.findall(r"[\w':`-]+", text)
-
-
-documents = {str(it.relative_to(TOP)): it.read_text() for it in [*TOP.glob("*.md"), *TOP.glob("docs/*.md")]}
-spoken = {name: " ".join(words(text)) for name, text in documents.items()}
-files = [it for it in TOP.rglob("*") if it.is_file() and "out" not in it.parts and ".git" not in it.parts]
-sources = {it: it.read_text() for it in files if it.suffix in (".rt", ".antt")}
-known = set(re.findall(r"\w+", "\n".join(sources.values())))
+listed = subprocess.run(["git", "ls-files", "-co", "--exclude-standard"], cwd=TOP, capture_output=True, text=True, check=True)
+files = [it for it in listed.stdout.splitlines() if (TOP / it).is_file()]
+places = {str(it) for file in files for it in [pathlib.Path(file), *pathlib.Path(file).parents]}
+names = {pathlib.Path(it).name for it in files}
+documents = {it: (TOP / it).read_text() for it in files if re.fullmatch(r"(docs/)?[^/]+\.md", it)}
+known, items = set(), collections.defaultdict(set)
+for file in files:
+    if file.endswith((".rt", ".antt")):
+        text = (TOP / file).read_text()
+        known.update(re.findall(r"\w+", text))
+        for item in re.findall(r"\b(?:fn|struct|enum|trait) (\w+)", text):
+            items[item].add(file)
 crates, faults = [], []
+
+
+def runs(text):
+    """Each run of so many words that are the same contract."""
+    words = re.findall(r"[\w':`-]+", text)
+    return {" ".join(words[i : i + SAME_WORDS]) for i in range(len(words) - SAME_WORDS + 1)}
 
 
 def check_rooms():
@@ -48,23 +58,19 @@ def check_rooms():
 
 
 def check_contracts():
-    for names, file, sentence in re.findall(r"^\| (`[^|]+) \| `([^|]+)` \| ([^|]+) \|$", documents[CONTRACTS], re.M):
-        place = TOP / "crates" / file
-        text = "\n".join(text for it, text in sources.items() if it == place or place in it.parents)
-        for name in re.findall(r"`(?:\w+::)?(\w+)`", names):
-            if not re.search(rf"\b(fn|struct|enum|trait) {name}\b", text):
+    told = {other: runs(text) for other, text in documents.items() if other != CONTRACTS}
+    for calls, file, sentence in re.findall(r"^\| (`[^|]+) \| `([^|]+)` \| ([^|]+) \|$", documents[CONTRACTS], re.M):
+        for name in re.findall(r"`(?:\w+::)?(\w+)`", calls):
+            if not any(it == f"crates/{file}" or it.startswith(f"crates/{file}/") for it in items[name]):
                 faults.append(f"{CONTRACTS}: {name} is not in {file}")
-        said = words(sentence)
-        runs = [" ".join(said[i : i + SAME_WORDS]) for i in range(len(said) - SAME_WORDS + 1)]
-        for other, text in spoken.items():
-            if other != CONTRACTS and any(run in text for run in runs):
-                faults.append(f"{other}: the contract of {names} is told in {CONTRACTS}")
+        for other in (it for it in told if told[it] & runs(sentence)):
+            faults.append(f"{other}: the contract of {calls} is told in {CONTRACTS}")
 
 
 def is_there(word, line):
     """Whether there is a file of this name: at the top, in crates/, or in a crate that the line names."""
-    below = [TOP, TOP / "crates", *(TOP / "crates" / it for it in re.findall(r"\bfab_\w+", line) or crates)]
-    return any((it / word).exists() for it in below) or "/" not in word and any(it.name == word for it in files)
+    below = re.findall(r"\bfab_\w+", line) or crates
+    return word in names or any(it + word.rstrip("/") in places for it in ["", "crates/", *(f"crates/{it}/" for it in below)])
 
 
 def check_names(name, line):
