@@ -18,6 +18,8 @@ SAME_WORDS = 14
 # Names in it may be gone: a figure stays that of its day.
 DATED = "docs/measurements.md"
 CONTRACTS = "docs/CONTRACTS.md"
+# Each word of them that has the form of a name is one of the code.
+NAMING = ("docs/model.md", "docs/house.md", CONTRACTS, "CONTRIBUTING.md")
 FILE = r"[\w./-]+\.(rt|antt|py|sh|md|toml|http|plan|csv|edit)"
 
 listed = subprocess.run(["git", "ls-files", "-co", "--exclude-standard"], cwd=TOP, capture_output=True, text=True, check=True)
@@ -48,6 +50,7 @@ def check_rooms():
             heading = heading or re.fullmatch(r"# [a-z]+: .+", line)
         elif found := re.match(r"(\w+)[ \w=+]*:", line):
             crates.append(found[1])
+            known.add(found[1])
             if not heading:
                 faults.append(f"crates.txt: {found[1]} is under no room: a group begins with '# ROOM: sentence'")
         else:
@@ -81,7 +84,7 @@ def check_names(name, line):
         is_path = re.fullmatch(FILE, word) or re.match(r"(crates|docs|bench|tools|examples)/", word)
         if is_path and "NAME" not in word and not is_there(word, line):
             faults.append(f"{name}: there is no {word}")
-        elif name == "docs/model.md" and re.fullmatch(r"[A-Z]\w*[a-z]\w*|[a-z]+_\w+", word) and word not in known:
+        elif name in NAMING and re.fullmatch(r"[A-Z]\w*[a-z]\w*|[a-z]+_\w+", word) and word not in known:
             faults.append(f"{name}: nothing is called {word}")
 
 
