@@ -387,6 +387,9 @@ says 'a dry run tells the path that it would give' 0 '{"gained":['"$first"'],"lo
     dryrun --db "$db" --policy "$policy" --token t-ada --plan p1 --now 0
 says 'a dry run of a plan that is not there' 1 "$not_found"$'\n' '' \
     dryrun --db "$db" --policy "$policy" --token t-ada --plan p9 --now 0
+asks 'bob, who is to approve it, tries it too' t-bob GET /plans/p1/dryrun 200 \
+    '{"gained":['"$first"'],"lost":[],"plan":"p1"}'
+asks 'eve may not try it' t-eve GET /plans/p1/dryrun 403 "$(denied role 6 reviewers)"
 asks 'its author can not approve it' t-ada POST /plans/p1/approve 409 '{"code":19,"error":"own-plan"}'
 asks 'bob approves it' t-bob POST /plans/p1/approve 200 '{"approvals":1,"plan":"p1","revision":7}'
 asks 'eve may not activate it' t-eve POST /plans/p1/activate 403 "$(denied role 1 ops)"
