@@ -1,12 +1,14 @@
 //! A server that stands in for the desk: it says again what it is told, and halts where it is told to.
 
 ghost use Rattle.std.specs.Prelude.{⊤};
+ghost use Rattle.std.specs.Prelude.{codes, decimal};
+ghost use Rattle.fab_serving_tests.specs.declared.echo.Said.TheVariants.{Again, Halted, Unsent, Unread, Nothing};
 
 use fab_json::counted::Counted;
-use fab_serving::Server;
-use std::fmt::Display;
+use fab_serving::{Bounded, Server, Shown};
+use std::cell::Cell;
+use std::io;
 use std::io::{Read, Write};
-use std::{fmt, io};
 
 /// What came of a connection.
 #[derive(Clone, Copy, Drop)]
@@ -23,26 +25,53 @@ pub enum Said {
     Nothing,
 }
 
-impl Display for Said {
-    fn fmt<W: fmt::Write>(&self, f: &mut fmt::Formatter<W>) -> fmt::Result {
-        f.write_str(match self {
-            Said::Again => "answered 200",
-            Said::Halted => "answered 503",
-            Said::Unsent => "unsent",
-            Said::Unread => "unread",
-            Said::Nothing => "empty",
-        })
+/// What an echo is opened over. There is one at a time: until it is dropped there can be no other.
+pub struct Held<'h> {
+    is_held: &'h Cell<bool>,
+    opens: bool,
+}
+
+impl<'h> Held<'h> {
+    /// One over which an echo is opened, or is not.
+    ///
+    /// # Errors
+    /// There is one already.
+    pub fn take(is_held: &'h Cell<bool>, opens: bool) -> Result<Self, ()> {
+        if is_held.get() {
+            return Err(());
+        }
+        is_held.set(true);
+        Ok(Held { is_held, opens })
+    }
+}
+
+impl Drop for Held<'_> {
+    fn drop(self) {
+        self.is_held.set(false);
+        let Held {
+            is_held: _,
+            opens: _,
+        } = self;
     }
 }
 
 /// Says again what it is told in one read of up to 64 bytes. It halts at `!`, and says `halted` until
 /// it is opened anew. At `*` it says more than any socket holds.
 #[derive(Drop)]
-pub struct Echo {
-    pub is_halted: bool,
+pub struct Echo<'h> {
+    is_halted: bool,
+    store: Option<Held<'h>>,
 }
 
-impl Echo {
+impl<'h> Echo<'h> {
+    /// One over this.
+    pub fn over(store: Option<Held<'h>>) -> Self {
+        Echo {
+            is_halted: false,
+            store,
+        }
+    }
+
     fn answer<W: Write>(&mut self, told: &[u8], writer: &mut W) -> io::Result<Said> {
         if told.starts_with(b"!") {
             self.is_halted = true;
@@ -68,9 +97,8 @@ fn say_much<W: Write>(writer: &mut W) -> io::Result<()> {
     Ok(())
 }
 
-impl Server for Echo {
-    /// Opened over `true` alone.
-    type Store = bool;
+impl<'h> Server for Echo<'h> {
+    type Store = Held<'h>;
 
     type Fault = ();
 
@@ -78,7 +106,9 @@ impl Server for Echo {
 
     ghost is_halted = { λ echo. echo.is_halted };
 
-    ghost serves = { λ before moment outcome after. ⊤ };
+    ghost serves = { λ before moment sides sides' outcome after. ⊤ };
+
+    ghost shows = { elim [ Again ↦ decimal 200 | Halted ↦ decimal 503 | Unsent ↦ codes "unsent" | Unread ↦ codes "unread" | Nothing ↦ codes "empty" ] };
 
     ghost releases = { λ before after. ⊤ };
 
@@ -90,20 +120,21 @@ impl Server for Echo {
         self.is_halted
     }
 
-    fn release(&mut self) -> Option<bool> {
-        None
+    fn release(&mut self) -> Option<Held<'h>> {
+        self.store.take()
     }
 
-    fn reopen(&mut self, store: bool) -> Result<(), ((), bool)> {
-        if store {
+    fn reopen(&mut self, store: Held<'h>) -> Result<(), ((), Held<'h>)> {
+        if store.opens {
             self.is_halted = false;
+            self.store = Some(store);
             Ok(())
         } else {
             Err(((), store))
         }
     }
 
-    fn serve_one<R: Read, W: Write>(
+    fn serve_one<R: Read + Bounded, W: Write + Bounded>(
         &mut self,
         _moment: u64,
         reader: &mut Counted<R>,
@@ -117,6 +148,16 @@ impl Server for Echo {
                 Err(_) => Said::Unsent,
             },
             Err(_) => Said::Unread,
+        }
+    }
+
+    fn shown(outcome: &Said) -> Shown {
+        match outcome {
+            Said::Again => Shown::Status(200),
+            Said::Halted => Shown::Status(503),
+            Said::Unsent => Shown::Word("unsent"),
+            Said::Unread => Shown::Word("unread"),
+            Said::Nothing => Shown::Word("empty"),
         }
     }
 }
