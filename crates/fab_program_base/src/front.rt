@@ -1,4 +1,5 @@
 //! A desk that serves connections.
+ghost use Rattle.std.specs.Prelude.{◌≡◌};
 
 use crate::database::ProgramDesk;
 use fab_json::counted::Counted;
@@ -28,6 +29,8 @@ impl<S: Store<Global>> Server for Front<S> {
     type Outcome = Outcome;
 
     ghost use Rattle.fab_program_base.specs.Fronts.{is_halted_desk, ServesDesk, ReleasesDesk, ReopensDesk, RefusesDesk};
+    ghost use Rattle.fab_serving.specs.Shown.{shown_text};
+
     ghost use Rattle.fab_wire.specs.Telling.{outcome_text};
 
     ghost is_halted = { λ f. is_halted_desk f.desk };
@@ -71,7 +74,9 @@ impl<S: Store<Global>> Server for Front<S> {
         )
     }
 
-    fn shown(outcome: &Outcome) -> Shown {
+    fn shown(outcome: &Outcome) -> Shown
+        ensures { shown_text result ≡ outcome_text outcome.now }
+    {
         match outcome {
             Outcome::Answered(status) => Shown::Status(status.as_u16()),
             Outcome::Unsent => Shown::Word("unsent"),

@@ -1,29 +1,13 @@
 //! A server that stands in for the desk: it says again what it is told, and halts where it is told to.
 
-ghost use Rattle.std.specs.Prelude.{⊤};
-ghost use Rattle.std.specs.Prelude.{codes, decimal};
-ghost use Rattle.fab_serving_tests.specs.declared.echo.Said.TheVariants.{Again, Halted, Unsent, Unread, Nothing};
+ghost use Rattle.std.specs.Prelude.{◌≡◌, ⊤};
+ghost use Rattle.fab_serving.specs.Shown.{shown_text};
 
 use fab_json::counted::Counted;
 use fab_serving::{Bounded, Server, Shown};
 use std::cell::Cell;
 use std::io;
 use std::io::{Read, Write};
-
-/// What came of a connection.
-#[derive(Clone, Copy, Drop)]
-pub enum Said {
-    /// What was told was said again.
-    Again,
-    /// The echo is halted.
-    Halted,
-    /// The answer was not taken.
-    Unsent,
-    /// Nothing could be read.
-    Unread,
-    /// Nothing was told.
-    Nothing,
-}
 
 /// What an echo is opened over. There is one at a time: until it is dropped there can be no other.
 pub struct Held<'h> {
@@ -72,19 +56,19 @@ impl<'h> Echo<'h> {
         }
     }
 
-    fn answer<W: Write>(&mut self, told: &[u8], writer: &mut W) -> io::Result<Said> {
+    fn answer<W: Write>(&mut self, told: &[u8], writer: &mut W) -> io::Result<Shown> {
         if told.starts_with(b"!") {
             self.is_halted = true;
         }
         if self.is_halted {
             writer.write_all(b"halted")?;
-            return Ok(Said::Halted);
+            return Ok(Shown::Status(503));
         }
         if told.starts_with(b"*") {
             say_much(writer)?;
         }
         writer.write_all(told)?;
-        Ok(Said::Again)
+        Ok(Shown::Status(200))
     }
 }
 
@@ -102,13 +86,13 @@ impl<'h> Server for Echo<'h> {
 
     type Fault = ();
 
-    type Outcome = Said;
+    type Outcome = Shown;
 
     ghost is_halted = { λ echo. echo.is_halted };
 
     ghost serves = { λ before moment sides sides' outcome after. ⊤ };
 
-    ghost shows = { elim [ Again ↦ decimal 200 | Halted ↦ decimal 503 | Unsent ↦ codes "unsent" | Unread ↦ codes "unread" | Nothing ↦ codes "empty" ] };
+    ghost shows = { shown_text };
 
     ghost releases = { λ before after. ⊤ };
 
@@ -139,25 +123,21 @@ impl<'h> Server for Echo<'h> {
         _moment: u64,
         reader: &mut Counted<R>,
         writer: &mut Counted<W>,
-    ) -> Said {
+    ) -> Shown {
         let mut told = [0u8; 64];
         match reader.read(&mut told) {
-            Ok(0) => Said::Nothing,
+            Ok(0) => Shown::Word("empty"),
             Ok(taken) => match self.answer(&told[..taken], writer) {
                 Ok(said) => said,
-                Err(_) => Said::Unsent,
+                Err(_) => Shown::Word("unsent"),
             },
-            Err(_) => Said::Unread,
+            Err(_) => Shown::Word("unread"),
         }
     }
 
-    fn shown(outcome: &Said) -> Shown {
-        match outcome {
-            Said::Again => Shown::Status(200),
-            Said::Halted => Shown::Status(503),
-            Said::Unsent => Shown::Word("unsent"),
-            Said::Unread => Shown::Word("unread"),
-            Said::Nothing => Shown::Word("empty"),
-        }
+    fn shown(outcome: &Shown) -> Shown
+        ensures { shown_text result ≡ shown_text outcome.now }
+    {
+        *outcome
     }
 }
