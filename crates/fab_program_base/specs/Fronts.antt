@@ -1,10 +1,12 @@
 -- What a desk that serves connections does.
 use Rattle.std.specs.Prelude.{ℕ, ◌≡◌, Bool, None, is_none}
+use Rattle.fab_serving.specs.Sides.{Side, Sides}
 use Rattle.fab_store.specs.declared.OpenFault.{OpenFault}
 use Rattle.fab_store.specs.declared.Store as store
 use Rattle.fab_wire.specs.Desks.{IsOpened, IsUnopened}
 use Rattle.fab_wire.specs.Handled.{policy_of, world_of, serving_of}
-use Rattle.fab_wire.specs.Serving.{Side, Serves}
+use Rattle.fab_wire.specs.Serving.{Serves}
+use Rattle.fab_wire.specs.Serving as wire
 use Rattle.fab_wire.specs.declared.Desk.{Desk}
 use Rattle.fab_wire.specs.declared.outcome.Outcome.{Outcome}
 
@@ -16,10 +18,15 @@ is_halted_desk d = is_none (serving_of d)
 abbrev pub ReleasesDesk : {A S B R : Type 0} → Desk A S B R → Desk A S B R → Type 0
 ReleasesDesk d e = e ≡ record d { aside = None }
 
+-- a side of a connection as the wire sees it: its bytes, and how many of its calls have failed
+abbrev pub wire_side : Side → wire.Side
+wire_side side = wire.side side.bytes side.failures
+
 module _ {A S B R : Type 0} (g : store.Ghosts S A) where
-  -- a connection, whatever its sides, is served so
-  abbrev pub ServesDesk : Desk A S B R → ℕ → Outcome → Desk A S B R → Type 0
-  ServesDesk d moment o e = (input : Side) × (input' : Side) × (sent : Side) × (sent' : Side) × Serves g input input' sent sent' d moment o e
+  -- a connection is served so: what its input spells is answered, and its two sides are left so
+  abbrev pub ServesDesk : Desk A S B R → ℕ → Sides → Sides → Outcome → Desk A S B R → Type 0
+  ServesDesk d moment before after o e =
+      Serves g (wire_side before.input) (wire_side after.input) (wire_side before.sent) (wire_side after.sent) d moment o e
 
   -- the desk is opened over the store, with the policy that it had
   abbrev pub ReopensDesk : Desk A S B R → S → Desk A S B R → Type 0

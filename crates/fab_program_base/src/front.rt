@@ -3,7 +3,7 @@ ghost use Rattle.std.specs.Prelude.{◌≡◌};
 
 use crate::database::ProgramDesk;
 use fab_json::counted::Counted;
-use fab_serving::Server;
+use fab_serving::{Bounded, Server, Shown};
 use fab_store::{OpenFault, Store};
 use fab_wire::{Outcome, serve_one};
 use fab_wire_base::routes::Routes;
@@ -29,10 +29,15 @@ impl<S: Store<Global>> Server for Front<S> {
     type Outcome = Outcome;
 
     ghost use Rattle.fab_program_base.specs.Fronts.{is_halted_desk, ServesDesk, ReleasesDesk, ReopensDesk, RefusesDesk};
+    ghost use Rattle.fab_serving.specs.Shown.{shown_text};
+
+    ghost use Rattle.fab_wire.specs.Telling.{outcome_text};
 
     ghost is_halted = { λ f. is_halted_desk f.desk };
 
-    ghost serves = { λ f moment outcome g. ServesDesk S.Store f.desk moment outcome g.desk };
+    ghost serves = { λ f moment before after outcome g. ServesDesk S.Store f.desk moment before after outcome g.desk };
+
+    ghost shows = { outcome_text };
 
     ghost releases = { λ f g. ReleasesDesk f.desk g.desk };
 
@@ -52,7 +57,7 @@ impl<S: Store<Global>> Server for Front<S> {
         self.desk.reopen(store)
     }
 
-    fn serve_one<R: Read, W: Write>(
+    fn serve_one<R: Read + Bounded, W: Write + Bounded>(
         &mut self,
         moment: u64,
         reader: &mut Counted<R>,
@@ -67,5 +72,16 @@ impl<S: Store<Global>> Server for Front<S> {
             reader,
             writer,
         )
+    }
+
+    fn shown(outcome: &Outcome) -> Shown
+        ensures { shown_text result ≡ outcome_text outcome.now }
+    {
+        match outcome {
+            Outcome::Answered(status) => Shown::Status(status.as_u16()),
+            Outcome::Unsent => Shown::Word("unsent"),
+            Outcome::ReadFailed => Shown::Word("read-failed"),
+            Outcome::Empty => Shown::Word("empty"),
+        }
     }
 }

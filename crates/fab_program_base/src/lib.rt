@@ -7,7 +7,7 @@ mod commands;
 mod contents;
 mod database;
 mod faults;
-mod front;
+pub mod front;
 mod once;
 mod running;
 mod serving;

@@ -36,7 +36,7 @@ const MEMORY: &[u8] =
     b"HTTP/1.1 503 Service Unavailable\r\nContent-Type: application/json\r\nContent-Length: 28\r\nConnection: close\r\n\r\n{\"code\":21,\"error\":\"memory\"}";
 
 /// The answer where the store refused a call.
-const STORE: &[u8] =
+pub const STORE: &[u8] =
     b"HTTP/1.1 503 Service Unavailable\r\nContent-Type: application/json\r\nContent-Length: 27\r\nConnection: close\r\n\r\n{\"code\":22,\"error\":\"store\"}";
 
 /// Whether this is the answer where there is memory, and not that memory or a call of the store was

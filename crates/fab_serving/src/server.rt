@@ -1,9 +1,12 @@
 //! What serves connections.
 
-ghost use Rattle.std.specs.Prelude.{◌≡◌, ℕ, Bool, true, OnOk, IfErr, OnErr};
+ghost use Rattle.std.specs.Prelude.{◌≡◌, ℕ, Bool, true, List, OnOk, IfErr, OnErr};
+ghost use Rattle.fab_serving.specs.Sides.{Sides, sides};
+ghost use Rattle.fab_serving.specs.Shown.{shown_text};
 
+use crate::bounds::Bounded;
+use crate::shown::Shown;
 use fab_json::counted::Counted;
-use std::fmt::Display;
 use std::io::{Read, Write};
 
 /// What serves one connection after the other. It may halt; it then lets go of the store that it
@@ -15,14 +18,18 @@ pub trait Server {
     /// Why it was not opened.
     type Fault: Drop;
 
-    /// What came of a connection; its text is what the log shows.
-    type Outcome: Display + Drop;
+    /// What came of a connection.
+    type Outcome: Drop;
 
     // It is halted.
     ghost is_halted: { Self → Bool };
 
-    // What a connection at a moment (Unix seconds) does to it, and what came of the connection.
-    ghost serves: { Self → ℕ → Self.Outcome → Self → Type 0 };
+    // What a connection at a moment (Unix seconds), whose sides are known so before and after, does to
+    // it, and what came of the connection.
+    ghost serves: { Self → ℕ → Sides → Sides → Self.Outcome → Self → Type 0 };
+
+    // The text of what came of a connection.
+    ghost shows: { Self.Outcome → List ℕ };
 
     // What letting go of its store does to a halted one.
     ghost releases: { Self → Self → Type 0 };
@@ -55,11 +62,17 @@ pub trait Server {
         ensures kept { OnErr result (self.new ≡ self.old) };
 
     /// Serves one connection at a moment, in Unix seconds: reads what is asked, and writes the answer.
-    fn serve_one<R: Read, W: Write>(
+    fn serve_one<R: Read + Bounded, W: Write + Bounded>(
         &mut self,
         moment: u64,
         reader: &mut Counted<R>,
         writer: &mut Counted<W>,
     ) -> Self::Outcome
-        ensures { serves self.old moment result self.new };
+        ensures { serves self.old moment
+            (sides R.remaining R.until W.contents W.until reader.old writer.old)
+            (sides R.remaining R.until W.contents W.until reader.new writer.new) result self.new };
+
+    /// What the log shows of what came of a connection.
+    fn shown(outcome: &Self::Outcome) -> Shown
+        ensures { shown_text result ≡ shows outcome.now };
 }

@@ -1,61 +1,74 @@
 //! A server that stands in for the desk: it says again what it is told, and halts where it is told to.
 
-ghost use Rattle.std.specs.Prelude.{⊤};
+ghost use Rattle.std.specs.Prelude.{◌≡◌, ⊤};
+ghost use Rattle.fab_serving.specs.Shown.{shown_text};
 
 use fab_json::counted::Counted;
-use fab_serving::Server;
-use std::fmt::Display;
+use fab_serving::{Bounded, Server, Shown};
+use std::cell::Cell;
+use std::io;
 use std::io::{Read, Write};
-use std::{fmt, io};
 
-/// What came of a connection.
-#[derive(Clone, Copy, Drop)]
-pub enum Said {
-    /// What was told was said again.
-    Again,
-    /// The echo is halted.
-    Halted,
-    /// The answer was not taken.
-    Unsent,
-    /// Nothing could be read.
-    Unread,
-    /// Nothing was told.
-    Nothing,
+/// What an echo is opened over. There is one at a time: until it is dropped there can be no other.
+pub struct Held<'h> {
+    is_held: &'h Cell<bool>,
+    opens: bool,
 }
 
-impl Display for Said {
-    fn fmt<W: fmt::Write>(&self, f: &mut fmt::Formatter<W>) -> fmt::Result {
-        f.write_str(match self {
-            Said::Again => "answered 200",
-            Said::Halted => "answered 503",
-            Said::Unsent => "unsent",
-            Said::Unread => "unread",
-            Said::Nothing => "empty",
-        })
+impl<'h> Held<'h> {
+    /// One over which an echo is opened, or is not.
+    ///
+    /// # Errors
+    /// There is one already.
+    pub fn take(is_held: &'h Cell<bool>, opens: bool) -> Result<Self, ()> {
+        if is_held.get() {
+            return Err(());
+        }
+        is_held.set(true);
+        Ok(Held { is_held, opens })
+    }
+}
+
+impl Drop for Held<'_> {
+    fn drop(self) {
+        self.is_held.set(false);
+        let Held {
+            is_held: _,
+            opens: _,
+        } = self;
     }
 }
 
 /// Says again what it is told in one read of up to 64 bytes. It halts at `!`, and says `halted` until
 /// it is opened anew. At `*` it says more than any socket holds.
 #[derive(Drop)]
-pub struct Echo {
-    pub is_halted: bool,
+pub struct Echo<'h> {
+    is_halted: bool,
+    store: Option<Held<'h>>,
 }
 
-impl Echo {
-    fn answer<W: Write>(&mut self, told: &[u8], writer: &mut W) -> io::Result<Said> {
+impl<'h> Echo<'h> {
+    /// One over this.
+    pub fn over(store: Option<Held<'h>>) -> Self {
+        Echo {
+            is_halted: false,
+            store,
+        }
+    }
+
+    fn answer<W: Write>(&mut self, told: &[u8], writer: &mut W) -> io::Result<Shown> {
         if told.starts_with(b"!") {
             self.is_halted = true;
         }
         if self.is_halted {
             writer.write_all(b"halted")?;
-            return Ok(Said::Halted);
+            return Ok(Shown::Status(503));
         }
         if told.starts_with(b"*") {
             say_much(writer)?;
         }
         writer.write_all(told)?;
-        Ok(Said::Again)
+        Ok(Shown::Status(200))
     }
 }
 
@@ -68,17 +81,18 @@ fn say_much<W: Write>(writer: &mut W) -> io::Result<()> {
     Ok(())
 }
 
-impl Server for Echo {
-    /// Opened over `true` alone.
-    type Store = bool;
+impl<'h> Server for Echo<'h> {
+    type Store = Held<'h>;
 
     type Fault = ();
 
-    type Outcome = Said;
+    type Outcome = Shown;
 
     ghost is_halted = { λ echo. echo.is_halted };
 
-    ghost serves = { λ before moment outcome after. ⊤ };
+    ghost serves = { λ before moment sides sides' outcome after. ⊤ };
+
+    ghost shows = { shown_text };
 
     ghost releases = { λ before after. ⊤ };
 
@@ -90,33 +104,40 @@ impl Server for Echo {
         self.is_halted
     }
 
-    fn release(&mut self) -> Option<bool> {
-        None
+    fn release(&mut self) -> Option<Held<'h>> {
+        self.store.take()
     }
 
-    fn reopen(&mut self, store: bool) -> Result<(), ((), bool)> {
-        if store {
+    fn reopen(&mut self, store: Held<'h>) -> Result<(), ((), Held<'h>)> {
+        if store.opens {
             self.is_halted = false;
+            self.store = Some(store);
             Ok(())
         } else {
             Err(((), store))
         }
     }
 
-    fn serve_one<R: Read, W: Write>(
+    fn serve_one<R: Read + Bounded, W: Write + Bounded>(
         &mut self,
         _moment: u64,
         reader: &mut Counted<R>,
         writer: &mut Counted<W>,
-    ) -> Said {
+    ) -> Shown {
         let mut told = [0u8; 64];
         match reader.read(&mut told) {
-            Ok(0) => Said::Nothing,
+            Ok(0) => Shown::Word("empty"),
             Ok(taken) => match self.answer(&told[..taken], writer) {
                 Ok(said) => said,
-                Err(_) => Said::Unsent,
+                Err(_) => Shown::Word("unsent"),
             },
-            Err(_) => Said::Unread,
+            Err(_) => Shown::Word("unread"),
         }
+    }
+
+    fn shown(outcome: &Shown) -> Shown
+        ensures { shown_text result ≡ shown_text outcome.now }
+    {
+        *outcome
     }
 }

@@ -1,9 +1,10 @@
 //! Connections over loopback, whose bytes are sent before they are served.
 
-use super::doubles::{Broken, Full, Ticking};
-use super::echo::Echo;
+use super::doubles::{Broken, Full, Late, Leaky, Ticking};
+use super::echo::{Echo, Held};
 use fab_serving::{ServeFault, Watch, serve_on};
-use std::io::{Read, Write};
+use std::cell::Cell;
+use std::io::{BufWriter, Read, Write};
 use std::net::{Ipv4Addr, Net, Shutdown, SocketAddr, TcpListener, TcpStream};
 use std::process::Abort;
 use std::time::{Clock, Duration};
@@ -71,9 +72,16 @@ fn are_answered(rt: &(impl Abort + AllocGlobal), streams: &[TcpStream], turns: T
     true
 }
 
+/// What a log has taken that was handed on to it.
+fn taken(rt: &impl Abort, log: BufWriter<Vec<u8>>) -> String {
+    let (bytes, _) = log.into_parts();
+    String::from_utf8(bytes).expect(rt, "a text")
+}
+
 /// What the log says of as many connections as `stores` has values. They come at 1000, 1001 and so on;
-/// what the echo is opened anew over is taken from `stores` in its order, where there is something. The
-/// clock is read whenever it is opened, so that by a clock that goes on at each reading that takes time.
+/// what the echo is opened anew over is taken from `stores` in its order, where there is something, and
+/// only where it has let go of what it was opened over before. The clock is read whenever it is opened,
+/// so that by a clock that goes on at each reading that takes time.
 fn log_of<C: Clock>(
     rt: &(impl Abort + AllocGlobal),
     clock: &C,
@@ -81,11 +89,13 @@ fn log_of<C: Clock>(
     listener: &TcpListener,
     stores: &[Option<bool>],
 ) -> String {
-    let mut watch = Watch::new(rt.alloc(), clock, Vec::new(rt.alloc()));
+    let log = BufWriter::new(rt.alloc(), Vec::new(rt.alloc())).expect(rt, "a log");
+    let mut watch = Watch::new(rt.alloc(), clock, log);
     watch.most = Duration::from_millis(most_milliseconds);
     let mut moment = 999u64;
     let mut opened = stores.iter();
-    let mut echo = Echo { is_halted: false };
+    let held = Cell::new(false);
+    let mut echo = Echo::over(Held::take(&held, true).ok());
     serve_on(
         &mut watch,
         &mut echo,
@@ -98,13 +108,13 @@ fn log_of<C: Clock>(
         &mut || {
             clock.monotonic().map_err(|_| ())?;
             match opened.next() {
-                Some(Some(store)) => Ok(*store),
+                Some(Some(opens)) => Held::take(&held, *opens),
                 _ => Err(()),
             }
         },
     )
     .expect(rt, "connections");
-    String::from_utf8(watch.log).expect(rt, "a text")
+    taken(rt, watch.log.into_inner())
 }
 
 /// How long a connection may last, but in the tests of just that.
@@ -125,7 +135,7 @@ fn has_line(
     log.as_str() == line
 }
 
-/// Ends the test unless connections over which this is told are answered so, and the log is this one.
+/// Ends the test unless connections over which this is told are so, and the log is this one.
 /// The clock goes on by so many seconds at each reading, a connection may last so many milliseconds, and
 /// the echo is opened anew as `log_of` says.
 fn serves(
@@ -151,14 +161,14 @@ fn end_of<C: Clock>(
     count: Option<u64>,
 ) -> &'static str {
     let mut watch = Watch::new(rt.alloc(), clock, Full);
-    let mut echo = Echo { is_halted: false };
+    let mut echo = Echo::over(None);
     let ended = serve_on(
         &mut watch,
         &mut echo,
         listener,
         &mut || moment,
         count,
-        &mut || Ok(true),
+        &mut || Err(()),
     );
     match ended {
         Ok(()) => "done",
@@ -182,7 +192,7 @@ const TWO: Turns = &[(b"one", b"one"), (b"two", b"two")];
 
 #[test]
 fn two_connections_are_served_in_turn(rt: HostRuntime) {
-    let log = "1000 answered 200 0 ms\n1001 answered 200 0 ms\n";
+    let log = "1000 200 0 ms\n1001 200 0 ms\n";
     serves(&rt, TWO, (0, LONG), &[None, None], log);
 }
 
@@ -198,20 +208,19 @@ const HALTED: Turns = &[
 #[test]
 fn a_halted_server_is_opened_anew_before_the_next(rt: HostRuntime) {
     let stores = [None, Some(false), Some(true), None];
-    let log =
-        "1000 answered 503 0 ms\n1001 answered 503 0 ms\n1002 answered 503 0 ms\n1003 answered 200 0 ms\n";
+    let log = "1000 503 0 ms\n1001 503 0 ms\n1002 503 0 ms\n1003 200 0 ms\n";
     serves(&rt, HALTED, (0, LONG), &stores, log);
 }
 
 /// Bytes, how many seconds the clock goes on at each reading, how many milliseconds a connection may
 /// last, and the line. The clock is read as the connection comes and as its time begins, before the
-/// read, before the write and before the flush of what there is to write, and for the line.
+/// read, before what there is to write is sent, and for the line.
 const LINES: &[(&[u8], u64, u64, &str)] = &[
-    (b"a", 1, LONG, "1000 answered 200 5000 ms\n"),
+    (b"a", 1, LONG, "1000 200 4000 ms\n"),
     (b"", 1, LONG, "1000 empty 3000 ms\n"),
-    (b"a", 10, 30001, "1000 answered 200 50000 ms\n"),
-    (b"a", 10, 30000, "1000 unsent 50000 ms\n"),
+    (b"a", 10, 20001, "1000 200 40000 ms\n"),
     (b"a", 10, 20000, "1000 unsent 40000 ms\n"),
+    (b"a", 10, 10001, "1000 unsent 40000 ms\n"),
     (b"a", 10, 10000, "1000 unread 30000 ms\n"),
 ];
 
@@ -224,12 +233,83 @@ fn each_connection_has_its_line(rt: HostRuntime) {
 
 const ANEW: Turns = &[(b"!", b"halted"), (b"a", b"a")];
 
-/// Opening the server anew takes ten seconds, which the log counts, and the 30 seconds and a bit that
+/// Opening the server anew takes ten seconds, which the log counts, and the 20 seconds and a bit that
 /// the connection has do not: it has as many as the one before.
 #[test]
 fn opening_anew_is_no_part_of_a_connections_time(rt: HostRuntime) {
-    let log = "1000 answered 503 50000 ms\n1001 answered 200 60000 ms\n";
-    serves(&rt, ANEW, (10, 30001), &[Some(true), None], log);
+    let log = "1000 503 40000 ms\n1001 200 50000 ms\n";
+    serves(&rt, ANEW, (10, 20001), &[Some(true), None], log);
+}
+
+/// The clock goes on by a thousand seconds while a connection is waited for: that is before its moment,
+/// and no part of its time.
+#[test]
+fn a_connections_moment_is_that_at_which_it_came(rt: HostRuntime) {
+    let listener = listen(&rt);
+    let streams = told_each(&rt, &listener, TWO);
+    let clock = Ticking::by(0);
+    let late = Late {
+        listener: &listener,
+        clock: &clock,
+    };
+    let log = BufWriter::new(rt.alloc(), Vec::new(rt.alloc())).expect(&rt, "a log");
+    let mut watch = Watch::new(rt.alloc(), &clock, log);
+    let mut echo = Echo::over(None);
+    serve_on(
+        &mut watch,
+        &mut echo,
+        &late,
+        &mut || Some(clock.shows()),
+        Some(2),
+        &mut || Err(()),
+    )
+    .expect(&rt, "connections");
+    let came = taken(&rt, watch.log.into_inner());
+    assert_eq!(rt; came.as_str(), "1000 200 0 ms\n2000 200 0 ms\n");
+    assert!(rt; are_answered(&rt, streams.as_slice(), TWO));
+}
+
+/// What a log has of two connections, one of whose writes was refused, and how many refusals were counted.
+fn leaked(
+    rt: &(impl Abort + AllocGlobal + Net<Listener = TcpListener, Stream = TcpStream>),
+    fails_at: u64,
+) -> (String, u64) {
+    let listener = listen(rt);
+    let _streams = told_each(rt, &listener, TWO);
+    let clock = Ticking::by(0);
+    let log = Leaky {
+        taken: Vec::new(rt.alloc()),
+        calls: 0,
+        fails_at,
+    };
+    let mut watch = Watch::new(rt.alloc(), &clock, log);
+    let mut echo = Echo::over(None);
+    serve_on(
+        &mut watch,
+        &mut echo,
+        &listener,
+        &mut || Some(7),
+        Some(2),
+        &mut || Err(()),
+    )
+    .expect(rt, "connections");
+    let refusals = watch.log.failures();
+    let text = String::from_utf8(watch.log.into_inner().taken).expect(rt, "a text");
+    (text, refusals)
+}
+
+/// A line of which a write was refused is left as it is, and the next one is written.
+#[test]
+fn what_the_log_refuses_is_left_out(rt: HostRuntime) {
+    let (text, refusals) = leaked(&rt, u64::MAX);
+    assert_eq!(rt; text.as_str(), "7 200 0 ms\n7 200 0 ms\n");
+    assert_eq!(rt; refusals, 0);
+    let (text, refusals) = leaked(&rt, 0);
+    assert_eq!(rt; text.as_str(), "7 200 0 ms\n");
+    assert_eq!(rt; refusals, 1);
+    let (text, refusals) = leaked(&rt, 2);
+    assert_eq!(rt; text.as_str(), "7 7 200 0 ms\n");
+    assert_eq!(rt; refusals, 1);
 }
 
 /// A client that sends nothing and one that takes nothing, by the system's own clock.
