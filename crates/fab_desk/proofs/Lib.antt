@@ -1,3 +1,5 @@
 pub mod Tied
 pub mod HostPaths
 pub mod AnsweredByDesk
+pub mod Changing
+pub mod InTurn

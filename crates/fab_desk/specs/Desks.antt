@@ -1,6 +1,8 @@
 -- What a desk over a store does with a request.
-use Rattle.std.specs.Prelude.{ℕ, ◌≡◌, ◌⊎◌, List, [], ◌∷◌, Contains, None, Some, Option}
+use Rattle.std.specs.Prelude.{ℕ, ◌≡◌, ◌≢◌, ◌↔◌, ◌⊎◌, Bool, true, false, cond, List, [], ◌∷◌, filter, slice_get, None, Some, Option}
 use Rattle.fab_desk_base.specs.Answers.{IsNobodys, IsStep, Request}
+use Rattle.fab_desk_base.specs.declared.command.Command.TheVariants as command
+use Rattle.fab_desk_base.specs.declared.command.Query.{Query}
 use Rattle.fab_desk_base.specs.declared.fault.DeskFault.TheVariants as fault
 use Rattle.fab_desk_base.specs.declared.reply.Reply.{Reply}
 use Rattle.fab_desk_base.specs.declared.reply.Reply.TheVariants.{Refused}
@@ -15,6 +17,10 @@ use Rattle.fab_world.specs.Worlds.{WorldRows}
 
 -- ---- one request
 
+-- the request is a read
+abbrev pub IsRead : {A : Type 0} → Request A → Type 0
+IsRead q = (query : Query) × (q.command ≡ command.Show query)
+
 -- there was no memory, or the store refused
 abbrev pub IsUndone : {A : Type 0} → Reply A → Type 0
 IsUndone r = (r ≡ Refused fault.Memory) ⊎ (r ≡ Refused fault.Store)
@@ -27,13 +33,35 @@ IsHandled p w q r v = (IsUndone r × (v ≡ w)) ⊎ IsStep p w q r v
 abbrev pub IsAfter : {A : Type 0} → PolicyRows → WorldRows → Request A → WorldRows → Type 0
 IsAfter {A} p w q v = (r : Reply A) × IsStep p w q r v
 
--- the tables have just the rows of the world after one of the requests
-abbrev pub IsOneMore : {A : Type 0} → PolicyRows → List (Request A) → WorldRows → Tables → Type 0
-IsOneMore {A} p asked w left = (q : Request A) × Contains asked q × (v : WorldRows) × IsAfter p w q v × HoldsWorld left v
-
 -- what a halted desk answers: nobody has the token, or the desk is halted
 abbrev pub IsTurnedAway : {A : Type 0} → PolicyRows → List ℕ → Reply A → Type 0
 IsTurnedAway p token r = (IsNobodys p token × (r ≡ Refused fault.NoCaller)) ⊎ (((id : ℕ) × HasToken p token id) × (r ≡ Refused fault.Halted))
+
+-- ---- a list of requests
+
+-- whether the reply tells that the request was done: there was memory, the store did not refuse, and
+-- the desk was not halted
+abbrev pub is_done : {A : Type 0} → Reply A → Bool
+is_done (Refused fault.Memory) = false
+is_done (Refused fault.Store) = false
+is_done (Refused fault.Halted) = false
+is_done _ = true
+
+-- the requests that were done, and their replies
+abbrev pub done_requests : {A : Type 0} → List (Request A) → List (Reply A) → List (Request A)
+done_requests (q ∷ qs) (r ∷ rs) = cond (is_done r) (q ∷ done_requests qs rs) (done_requests qs rs)
+done_requests _ _ = []
+
+abbrev pub done_replies : {A : Type 0} → List (Reply A) → List (Reply A)
+done_replies rs = filter is_done rs
+
+-- the store refused this change, which halted the desk, and no other one
+pub record IsHaltedBy {A : Type 0} (asked : List (Request A)) (replies : List (Reply A)) (q : Request A) : Type 0 where
+  pub place : ℕ
+  pub at : slice_get asked place ≡ Some q
+  pub refused : slice_get replies place ≡ Some (Refused fault.Store)
+  pub change : ¬ IsRead q
+  pub only : (i : ℕ) (x : Request A) → slice_get asked i ≡ Some x → slice_get replies i ≡ Some (Refused fault.Store) → (¬ IsRead x) → i ≡ place
 
 -- ---- the tables
 
@@ -60,7 +88,11 @@ module _ {A S : Type 0} (g : store.Ghosts S A) where
     pub answers : g.is_clean after → IsTied s w → IsHandled p w q r v
     pub tied : g.is_clean after → IsTied s w → serving ≡ Some after → IsTied after v
     pub doubt : g.is_clean after → IsTied s w → IsInDoubt p w q after
+    -- what the store refused halts the desk just where it was no read
+    pub halts : r ≡ Refused fault.Store → (serving ≡ None) ↔ ¬ IsRead q
+    -- the count rises just where the store refused
     pub counted : r ≡ Refused fault.Store → Rises (g.refused s) (g.refused after)
+    pub uncounted : r ≢ Refused fault.Store → g.refused after ≡ g.refused s
     pub untouched : r ≡ Refused fault.Memory → after ≡ s
 
   -- what opening leaves of a store: nothing is changed
@@ -75,6 +107,7 @@ module _ {A S : Type 0} (g : store.Ghosts S A) where
     pub serves : serving ≡ Some after
     pub found : IsFound before after
     pub tied : g.is_clean after → g.is_open after × IsTied after w
+    pub uncounted : g.refused after ≡ g.refused before
 
   -- why there is none, and the store, which is as it was
   pub record IsUnopened (before : S) (fault : OpenFault) (after : S) : Type 0 where
@@ -95,21 +128,14 @@ module _ {A S : Type 0} (g : store.Ghosts S A) where
   IsTiedDesk (Some s) w = IsTied s w
   IsTiedDesk None w = Unit {0}
 
-  -- whatever moment a stop comes at, it leaves the rows of the world, and nothing else; where the
-  -- store refused one of the requests, which halted the desk, they may be those of the world after it
-  abbrev pub IsLeftByStop : PolicyRows → List (Request A) → Option S → Option S → WorldRows → Type 0
-  IsLeftByStop p asked (Some s) aside w = (left : Tables) → g.may_leave s left → HoldsWorld left w
-  IsLeftByStop p asked None (Some s) w = (left : Tables) → g.may_leave s left → HoldsWorld left w ⊎ IsOneMore p asked w left
-  IsLeftByStop p asked None None w = Unit {0}
+  -- Whatever moment a stop comes at: while the desk serves, it leaves the rows of the world, and
+  -- nothing else. Where the store refused a change, which halted the desk, it leaves those, or the rows
+  -- of the world after that one change.
+  abbrev pub IsLeftByStop : PolicyRows → List (Request A) → List (Reply A) → Option S → Option S → WorldRows → Type 0
+  IsLeftByStop p asked replies serving aside w =
+      ((s : S) × (serving ≡ Some s) × ((left : Tables) → g.may_leave s left → HoldsWorld left w))
+      ⊎ ((s : S) × (q : Request A) × (serving ≡ None) × (aside ≡ Some s) × IsHaltedBy asked replies q × IsInDoubt p w q s)
 
 -- the request is handled, or the desk is halted
 abbrev pub IsAnsweredByDesk : {A : Type 0} → PolicyRows → WorldRows → Request A → Reply A → WorldRows → Type 0
 IsAnsweredByDesk p w q r v = ((r ≡ Refused fault.Halted) × (v ≡ w)) ⊎ IsHandled p w q r v
-
--- the requests, in their order, are answered so, and lead from one world to the other; those that are
--- not done count as not made
-abbrev pub AreAnsweredByDesk : {A : Type 0} → PolicyRows → WorldRows → List (Request A) → List (Reply A) → WorldRows → Type 0
-AreAnsweredByDesk p w [] [] v = v ≡ w
-AreAnsweredByDesk p w [] (r ∷ rs) v = ⊥
-AreAnsweredByDesk p w (q ∷ qs) [] v = ⊥
-AreAnsweredByDesk p w (q ∷ qs) (r ∷ rs) v = (next : WorldRows) × IsAnsweredByDesk p w q r next × AreAnsweredByDesk p next qs rs v

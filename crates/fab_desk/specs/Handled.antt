@@ -1,5 +1,5 @@
 -- What handling one request does to a desk.
-use Rattle.std.specs.Prelude.{◌≡◌, Option, None, Some}
+use Rattle.std.specs.Prelude.{◌≡◌, Option, None, Some, List, [], ◌∷◌}
 use Rattle.fab_desk_base.specs.Answers.{Request}
 use Rattle.fab_desk_base.specs.declared.reply.Reply.{Reply}
 use Rattle.fab_policy_base.specs.Policies.{PolicyRows}
@@ -30,3 +30,11 @@ pub record Handles {A S B R : Type 0} (g : store.Ghosts S A) (d : Desk A S B R) 
   pub policy : policy_of e ≡ policy_of d
   pub halted : serving_of d ≡ None → IsTurnedAway (policy_of d) q.token r × (e ≡ d)
   pub served : (s : S) → serving_of d ≡ Some s → IsServed g (policy_of d) (world_of d) q r s (serving_of e) (aside_of e) (world_of e)
+
+module _ {A S B R : Type 0} (g : store.Ghosts S A) where
+  -- the requests, in their order, are handled so, and lead from one desk to the other
+  abbrev pub AreHandled : Desk A S B R → List (Request A) → List (Reply A) → Desk A S B R → Type 0
+  AreHandled d [] [] e = e ≡ d
+  AreHandled d [] (r ∷ rs) e = ⊥
+  AreHandled d (q ∷ qs) [] e = ⊥
+  AreHandled d (q ∷ qs) (r ∷ rs) e = (next : Desk A S B R) × Handles g d q r next × AreHandled next qs rs e

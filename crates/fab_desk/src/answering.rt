@@ -1,5 +1,5 @@
 //! Requests answered over a store.
-ghost use Rattle.std.specs.Prelude.{◌≡◌, ◌≢◌, ◌⊎◌, ℕ, List, MatchOption, true, false};
+ghost use Rattle.std.specs.Prelude.{◌≡◌, ◌≢◌, ◌↔◌, ◌⊎◌, ℕ, List, MatchOption, true, false};
 ghost use Rattle.fab_desk_base.specs.declared.command.Command.TheVariants as command;
 ghost use Rattle.fab_desk_base.specs.declared.command.Query.TheVariants as query;
 ghost use Rattle.fab_desk_base.specs.declared.fault.DeskFault.TheVariants as faults;
@@ -8,7 +8,7 @@ ghost use Rattle.fab_machine.specs.Proposals.{request_of};
 ghost use Rattle.fab_stores.specs.Calls.{Rises};
 ghost use Rattle.fab_world.specs.Soundness.{IsSound};
 ghost use Rattle.fab_world.specs.Worlds.{records_of};
-ghost use Rattle.fab_desk.specs.Desks.{IsHandled, IsInDoubt, IsTied};
+ghost use Rattle.fab_desk.specs.Desks.{IsHandled, IsInDoubt, IsTied, IsRead};
 
 use crate::carrying::{Served, carry_out};
 use crate::ledger::Ledger;
@@ -47,6 +47,7 @@ fn read_paths<A: Allocator + Copy, S: Store<A>>(
     ensures tied { S.is_clean store.new → IsTied S.Store store.old world.now → IsTied S.Store store.new world.now }
     ensures answers { S.is_clean store.new → IsTied S.Store store.old world.now → IsHandled policy.now world.now (request_of {A = A} token.now moment (command.Show (query.Paths host.now))) result world.now }
     ensures counted { result ≡ replies.Refused faults.Store → Rises (S.refused store.old) (S.refused store.new) }
+    ensures uncounted { result ≢ replies.Refused faults.Store → S.refused store.new ≡ S.refused store.old }
     ensures memory { result ≢ replies.Refused faults.Memory }
 {
     match sender_of(policy, token, moment) {
@@ -75,7 +76,10 @@ fn act<A: Allocator + Copy, S: Store<A>, B: PathBook<A>>(
     ensures clean { S.is_clean store.new → S.is_clean store.old }
     ensures tied { S.is_clean store.new → IsTied S.Store store.old world.old → result.is_shut ≡ false → IsTied S.Store store.new world.new }
     ensures doubt { S.is_clean store.new → IsTied S.Store store.old world.old → IsInDoubt S.Store policy.now world.old (request_of token.now moment asked) store.new }
+    ensures halts { result.reply ≡ replies.Refused faults.Store → result.is_shut ≡ true }
+    ensures change { result.reply ≡ replies.Refused faults.Store → ¬ IsRead (request_of {A = A} token.now moment asked) }
     ensures counted { result.reply ≡ replies.Refused faults.Store → Rises (S.refused store.old) (S.refused store.new) }
+    ensures uncounted { result.reply ≢ replies.Refused faults.Store → S.refused store.new ≡ S.refused store.old }
     ensures untouched { result.reply ≡ replies.Refused faults.Memory → store.new ≡ store.old }
 {
     holders_are_kept(alloc);
@@ -104,14 +108,19 @@ pub fn serve<A: Allocator + Copy, S: Store<A>, B: PathBook<A>>(
     ensures clean { S.is_clean store.new → S.is_clean store.old }
     ensures tied { S.is_clean store.new → IsTied S.Store store.old ledger.old → result.is_shut ≡ false → IsTied S.Store store.new ledger.new }
     ensures doubt { S.is_clean store.new → IsTied S.Store store.old ledger.old → IsInDoubt S.Store policy.now ledger.old (request_of token.now moment asked) store.new }
+    ensures halts { result.reply ≡ replies.Refused faults.Store → (result.is_shut ≡ true) ↔ ¬ IsRead (request_of {A = A} token.now moment asked) }
     ensures counted { result.reply ≡ replies.Refused faults.Store → Rises (S.refused store.old) (S.refused store.new) }
+    ensures uncounted { result.reply ≢ replies.Refused faults.Store → S.refused store.new ≡ S.refused store.old }
     ensures untouched { result.reply ≡ replies.Refused faults.Memory → store.new ≡ store.old }
 {
     match host_asked(&asked) {
-        Some(host) => Served {
-            reply: read_paths(alloc, &ledger.world, policy, store, token, moment, &host),
-            is_shut: false,
-        },
+        Some(host) => {
+            let told = read_paths(alloc, &ledger.world, policy, store, token, moment, &host);
+            Served {
+                reply: told,
+                is_shut: false,
+            }
+        }
         None => act(
             alloc,
             &mut ledger.world,

@@ -102,7 +102,9 @@ pub fn carry_out<A: Allocator + Copy, S: Store<A>, B: PathBook<A>>(
     ensures clean { S.is_clean store.new → S.is_clean store.old }
     ensures tied { S.is_clean store.new → IsTied S.Store store.old world.old → result.is_shut ≡ false → IsTied S.Store store.new world.new }
     ensures doubt { S.is_clean store.new → IsTied S.Store store.old world.old → (left : Tables) → S.may_leave store.new left → HoldsWorld left world.old ⊎ (HoldsWorld left (next_world world.old change.next) × ((d : Delta A) × IsMove world.old (next_world world.old change.next) d)) }
-    ensures counted { result.reply ≡ replies.Refused faults.Store → result.is_shut ≡ true → Rises (S.refused store.old) (S.refused store.new) }
+    ensures refused { result.is_shut ≡ true → (d : Delta A) × IsMove world.old (next_world world.old change.next) d }
+    ensures counted { result.is_shut ≡ true → Rises (S.refused store.old) (S.refused store.new) }
+    ensures uncounted { result.is_shut ≡ false → S.refused store.new ≡ S.refused store.old }
 {
     let lines = match make_ready(alloc, world, book, &change) {
         Ok(lines) => lines,

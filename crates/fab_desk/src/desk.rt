@@ -140,8 +140,9 @@ impl<A: Allocator + Copy, S: Store<A>, B: PathBook<A>> Desk<A, S, B> {
     ///
     /// What is answered is a step of the desk, and what it changes is in the store before it is
     /// answered. `Memory` where there was none, before anything is changed; `Store` where a call of
-    /// the store was refused: then a read changes nothing, and a change halts the desk, and is in the
-    /// tables whole or not at all. A halted desk answers `NoCaller` or `Halted`, and changes nothing.
+    /// the store was refused, which is counted, and nothing else is: a read then changes nothing, and
+    /// the desk serves on; a change halts the desk, and is in the tables whole or not at all. A halted
+    /// desk answers `NoCaller` or `Halted`, and changes nothing.
     pub fn handle(&mut self, token: &str, moment: u64, asked: Command<A>) -> Reply<A>
         ensures policy { self.new.policy ≡ self.old.policy }
         ensures halted { self.old.store ≡ None → IsTurnedAway self.old.policy token.now result × (self.new ≡ self.old) }

@@ -1,5 +1,5 @@
 //! A world with a book of its paths, from a store.
-ghost use Rattle.std.specs.Prelude.{◌≡◌, IfOk, IfErr};
+ghost use Rattle.std.specs.Prelude.{◌≡◌, IfOk, IfErr, OnOk};
 ghost use Rattle.fab_stores.specs.declared.faults.OpenFault.TheVariants as faults;
 ghost use Rattle.fab_stores.specs.Calls.{IsCounted, OpensNot};
 ghost use Rattle.fab_tables.specs.Tables.{Tables};
@@ -55,6 +55,7 @@ pub fn opened<A: Allocator + Copy, S: Store<A>, B: PathBook<A>>(
     ensures same { S.is_clean store.new → S.is_open store.new → S.is_open store.old × (S.tables store.new ≡ S.tables store.old) }
     ensures fault { S.is_clean store.new → IfErr result (OpensNot (S.tables store.old)) }
     ensures counted { IfErr result (IsCounted (S.refused store.old) (S.refused store.new)) }
+    ensures uncounted { OnOk result (S.refused store.new ≡ S.refused store.old) }
     ensures stop { S.is_clean store.new → (left : Tables) → S.may_leave store.new left → S.may_leave store.old left }
 {
     match store.load(alloc) {

@@ -33,6 +33,7 @@ pub fn show_paths<A: Allocator + Copy, S: Store<A>>(
         ((result ≡ replies.Refused faults.Store) ⊎ IsAnswerTo policy.now world.now sender.now.id sender.now.name sender.now.moment (command.Show (query.Paths host.now)) result world.now) }
     ensures memory { result ≢ replies.Refused faults.Memory }
     ensures counted { result ≡ replies.Refused faults.Store → Rises (S.refused store.old) (S.refused store.new) }
+    ensures uncounted { result ≢ replies.Refused faults.Store → S.refused store.new ≡ S.refused store.old }
 {
     if !is_open_to(policy, world, sender.id, &Query::Paths { host: *host }) {
         return Reply::Refused(DeskFault::NotFound);

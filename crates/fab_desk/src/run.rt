@@ -1,7 +1,9 @@
 //! Requests answered one after the other.
-ghost use Rattle.std.specs.Prelude.{◌≡◌, IfOk, OnErr, OnOk, [], map};
+ghost use Rattle.std.specs.Prelude.{◌≡◌, IfOk, OnErr, None, Some, map};
+ghost use Rattle.fab_desk_base.specs.Answers.{IsRun};
 ghost use Rattle.fab_machine.specs.Proposals.{asked_of};
-ghost use Rattle.fab_desk.specs.Desks.{AreAnsweredByDesk, IsCleanDesk, IsLeftByStop, IsTiedDesk};
+ghost use Rattle.fab_desk.specs.Desks.{IsCleanDesk, IsLeftByStop, IsTied, IsTiedDesk, done_replies, done_requests};
+ghost use Rattle.fab_desk.specs.Handled.{AreHandled, Handles};
 
 use crate::Desk;
 use fab_desk_base::Reply;
@@ -11,11 +13,16 @@ use fab_reach::PathBook;
 use fab_stores::Store;
 use std::alloc::{AllocError, Allocator};
 
-/// Answers requests, one after the other, each on the world that the one before left. Room for all
-/// replies is taken first.
+/// Answers requests, one after the other, each handled by the desk that the one before left. Room for
+/// all replies is taken first.
 ///
-/// Whatever moment a stop comes at, it leaves the tables of the requests that were answered; where
-/// the store refused one, those, or the tables with that one besides.
+/// The world that the desk comes to is that of the requests which are done, in their order: those that
+/// are answered that there was no memory, that the store refused, or that the desk is halted, count as
+/// not made. Where the store refuses a change, those before it are done, it halts the desk, and those
+/// behind it are turned away.
+///
+/// Whatever moment a stop comes at, it leaves the tables of that world; where the store refused a
+/// change, those, or the tables with that one besides.
 ///
 /// # Errors
 /// `AllocError` where there is no memory for the replies: then none was answered, and the desk is as
@@ -25,19 +32,31 @@ pub fn handle_all<'a, A: Allocator + Copy, S: Store<A>, B: PathBook<A>>(
     desk: &mut Desk<A, S, B>,
     requests: Vec<Asked<'a, A>, A>,
 ) -> Result<Vec<Reply<A>, A>, AllocError>
+    ensures handled { IfOk result (λ replies. AreHandled S.Store desk.old (map asked_of requests.entry.items) replies.items desk.new) }
     ensures policy { desk.new.policy ≡ desk.old.policy }
+    ensures halted { desk.old.store ≡ None → desk.new ≡ desk.old }
     ensures clean { IsCleanDesk S.Store desk.new.store desk.new.aside → IsCleanDesk S.Store desk.old.store desk.old.aside }
-    ensures answers { IsCleanDesk S.Store desk.new.store desk.new.aside → IsTiedDesk S.Store desk.old.store desk.old.ledger →
-        IfOk result (λ replies. AreAnsweredByDesk desk.old.policy desk.old.ledger (map asked_of requests.entry.items) replies.items desk.new.ledger) }
+    ensures run { IsCleanDesk S.Store desk.new.store desk.new.aside → IsTiedDesk S.Store desk.old.store desk.old.ledger →
+        IfOk result (λ replies. IsRun desk.old.policy desk.old.ledger (done_requests (map asked_of requests.entry.items) replies.items) (done_replies replies.items) desk.new.ledger) }
     ensures tied { IsCleanDesk S.Store desk.new.store desk.new.aside → IsTiedDesk S.Store desk.old.store desk.old.ledger → IsTiedDesk S.Store desk.new.store desk.new.ledger }
-    ensures stop { IsCleanDesk S.Store desk.new.store desk.new.aside → IsTiedDesk S.Store desk.old.store desk.old.ledger → IsLeftByStop S.Store desk.old.policy [] desk.old.store desk.old.aside desk.old.ledger →
-        OnOk result (IsLeftByStop S.Store desk.old.policy (map asked_of requests.entry.items) desk.new.store desk.new.aside desk.new.ledger) }
+    ensures stop { IsCleanDesk S.Store desk.new.store desk.new.aside → (s : S) → desk.old.store ≡ Some s → IsTied S.Store s desk.old.ledger →
+        IfOk result (λ replies. IsLeftByStop S.Store desk.old.policy (map asked_of requests.entry.items) replies.items desk.new.store desk.new.aside desk.new.ledger) }
     ensures kept { OnErr result (desk.new ≡ desk.old) }
 {
     steps_are_done(alloc);
     let mut replies = Vec::with_capacity(alloc, requests.len())?;
     for asked in requests {
-        replies.push_reserved(desk.handle(asked.token, asked.moment, asked.command));
+        replies.push_reserved(handle_asked(desk, asked));
     }
     Ok(replies)
+}
+
+/// Answers one of them.
+fn handle_asked<'a, A: Allocator + Copy, S: Store<A>, B: PathBook<A>>(
+    desk: &mut Desk<A, S, B>,
+    asked: Asked<'a, A>,
+) -> Reply<A>
+    ensures { Handles S.Store desk.old (asked_of asked.entry) result desk.new }
+{
+    desk.handle(asked.token, asked.moment, asked.command)
 }

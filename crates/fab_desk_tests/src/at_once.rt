@@ -12,7 +12,7 @@ use std::alloc::Global;
 use std::process::Abort;
 
 /// Whether the desk answers the list of the turns as they say.
-fn answers<S: Store<Global>>(
+pub fn answers<S: Store<Global>>(
     rt: &(impl Abort + AllocGlobal),
     desk: &mut DeskOver<S>,
     turns: &[Turn],

@@ -3,3 +3,4 @@ pub mod Told
 pub mod Written
 pub mod PathsTold
 pub mod Names
+pub mod Newer

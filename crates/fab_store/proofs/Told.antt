@@ -82,7 +82,10 @@ module _ (a b : Tables) (same : HaveSame a b) where
   holds_here w holds t r = (λ there. (holds t r).0 ((same t r).1 there), λ stands. (same t r).0 ((holds t r).1 stands))
 
   pub opens_there : (f : OpenFault) → OpensNot b f → OpensNot a f
-  opens_there (Damaged t) none = λ w is rows holds. none w is rows (holds_here w holds)
+  opens_there (Damaged t) not = (
+    λ n told. not.0 n (told.0, (same table.Meta told.0).0 told.1, told.2),
+    λ w is rows holds. not.1 w is rows (holds_here w holds),
+  )
   opens_there (NewerSchema n) told = ((told.0.0, (same table.Meta told.0.0).1 told.0.1, told.0.2), told.1)
   opens_there Store h = tt
   opens_there Memory h = tt

@@ -1,5 +1,5 @@
 -- Worlds whose rows are written in lines.
-use Rattle.std.proofs.Common.{ℕ, zero, suc, ◌≡◌, List, [], ◌∷◌, slice_get, Some, Contains, refl, ap}
+use Rattle.std.proofs.Common.{ℕ, zero, suc, ◌≡◌, ◌<◌, ◌≤◌, List, [], ◌∷◌, slice_get, Some, Contains, refl, sym, ap, ◌∙◌, subst, arith}
 use Rattle.std.proofs.lemmas.Option.{slice_get_within, get_or_from_slice_get}
 use Rattle.fab_changes.specs.Standing.{HaveRows}
 use Rattle.fab_lines.specs.MetaLines.{MetaColumns, ShowsMeta}
@@ -7,7 +7,8 @@ use Rattle.fab_lines.specs.declared.meta_lines.MetaRow.{MetaRow}
 use Rattle.fab_lines.specs.declared.meta_lines.MetaRow.TheVariants as meta
 use Rattle.fab_load.specs.declared.fault.Table.{Table}
 use Rattle.fab_load.specs.declared.fault.Table.TheVariants as table
-use Rattle.fab_row_lines.proofs.Distinct.{map_in}
+use Rattle.fab_row_lines.proofs.Columns.{one_meta}
+use Rattle.fab_row_lines.proofs.Distinct.{in_map, map_in}
 use Rattle.fab_row_lines.specs.Opened.{tables_of, HasLines, HasNoWorld}
 use Rattle.fab_row_lines.specs.Standing.{StandsRow}
 use Rattle.fab_row_lines_base.specs.Listing.{AreDistinct}
@@ -15,14 +16,16 @@ use Rattle.fab_row_lines_base.specs.Rows.{AnyRow, count, port, holder, volume, c
 use Rattle.fab_row_lines_base.specs.declared.lines.TableLines.{TableLines}
 use Rattle.fab_rows.specs.declared.config_row.ConfigRow.TheVariants as config
 use Rattle.fab_rows.specs.declared.table_rows.CountRow.TheVariants.{Schema, Revision}
-use Rattle.fab_stores.specs.Calls.{OpensNot}
+use Rattle.fab_rows.specs.declared.table_rows.TheConstants.{SCHEMA}
+use Rattle.fab_stores.specs.Calls.{OpensNot, TellsNoNewer}
 use Rattle.fab_stores.specs.Worlds.{IsMetaRow, IsWritten}
 use Rattle.fab_stores.specs.declared.faults.OpenFault.TheVariants.{Damaged, NewerSchema}
 use Rattle.fab_tables.specs.Columns.{meta_row}
 use Rattle.fab_tables.specs.declared.line.TableLine.{TableLine}
 use Rattle.fab_tables.specs.declared.line.TableLine.TheVariants as line
 use Rattle.fab_world.specs.Worlds.{WorldRows}
-use Rattle.fab_store.specs.Loading.{TellNewer}
+use Rattle.fab_store.specs.Loading.{HaveNamesOnce, TellNewer}
+use Rattle.fab_store.proofs.Names.{lines_once}
 
 module _ (A : Type 0) (w : WorldRows) where
   module _ (has : HasLines A w) where
@@ -77,9 +80,26 @@ one_place (y ∷ ys) d zero (suc j) x h k = let same : y ≡ x = cc in absurd (d
 one_place (y ∷ ys) d (suc i) zero x h k = let same : y ≡ x = cc in absurd (d.0 (rw same (found_in ys i x h)))
 one_place (y ∷ ys) d (suc i) (suc j) x h k = ap suc (one_place ys d.1 i j x h k)
 
--- where no plan stands twice, no written world has the rows
-pub damaged : (A : Type 0) (found : TableLines) (t : Table) → AreDistinct found.plans.items → HasNoWorld A found → OpensNot (tables_of found) (Damaged t)
-damaged A found t once none = λ w is rows holds. none (λ i j l. one_place found.plans.items once i j l) w (lined A w is rows) holds
+-- no setting tells a newer schema, where no line does
+no_newer : (found : TableLines) → ((n : ℕ) → ¬ TellNewer found.meta.items n) → TellsNoNewer (tables_of found)
+no_newer found none n (columns, there, shown) = not_above n SCHEMA (λ newer. none n (
+  line.0,
+  line.1,
+  record { shows = subst (ShowsMeta line.0) shown.stands (subst (λ l. ShowsMeta l shown.shown) same shown.shows); newer = newer },
+))
+  where
+    not_above : (a b : ℕ) → ¬ (b < a) → a ≤ b
+    not_above a b not = omega (arith, not)
+
+    line : (l : MetaColumns) × Contains found.meta.items l × (meta_row l ≡ columns)
+    line = in_map meta_row found.meta.items columns there
+
+    same : shown.line ≡ line.0
+    same = one_meta shown.line line.0 (sym shown.is ∙ sym line.2)
+
+-- where no newer schema is told, and no name of a plan stands twice, no written world has the rows
+pub damaged : (A : Type 0) (found : TableLines) (t : Table) → ((n : ℕ) → ¬ TellNewer found.meta.items n) → HaveNamesOnce found.plans.items → HasNoWorld A found → OpensNot (tables_of found) (Damaged t)
+damaged A found t old once none = (no_newer found old, λ w is rows holds. none (λ i j l. one_place found.plans.items (lines_once found.plans.items once) i j l) w (lined A w is rows) holds)
 
 -- a setting tells a newer schema
 pub newer : (found : TableLines) (n : ℕ) → TellNewer found.meta.items n → OpensNot (tables_of found) (NewerSchema n)

@@ -1,7 +1,9 @@
--- What settings tell of a newer schema.
-use Rattle.std.specs.Prelude.{ℕ, ◌<◌, List, Contains}
+-- What settings tell of a newer schema, and whether a plan has two lines.
+use Rattle.std.specs.Prelude.{ℕ, ◌<◌, List, Contains, map}
 use Rattle.fab_lines.specs.MetaLines.{MetaColumns, ShowsMeta}
+use Rattle.fab_lines.specs.PlanLines.{PlanColumns}
 use Rattle.fab_lines.specs.declared.meta_lines.MetaRow.TheVariants as meta
+use Rattle.fab_row_lines_base.specs.Listing.{AreDistinct}
 use Rattle.fab_rows.specs.declared.table_rows.TheConstants.{SCHEMA}
 
 -- the line tells this schema, which is newer
@@ -12,3 +14,7 @@ pub record TellsNewer (l : MetaColumns) (n : ℕ) : Type 0 where
 -- one of the lines does
 abbrev pub TellNewer : List MetaColumns → ℕ → Type 0
 TellNewer lines n = (l : MetaColumns) × Contains lines l × TellsNewer l n
+
+-- no two lines of plans have one name
+abbrev pub HaveNamesOnce : List PlanColumns → Type 0
+HaveNamesOnce lines = AreDistinct (map (λ (l : PlanColumns). l.name) lines)

@@ -1,15 +1,16 @@
 //! The world that the tables of a database have.
-ghost use Rattle.std.specs.Prelude.{IfOk, IfErr, IfSome, OnOk, IsTrue};
+ghost use Rattle.std.specs.Prelude.{◌≡◌, ◌↔◌, ◌<◌, ◌≤◌, ℕ, Err, IfOk, IfErr, MatchOption, OnOk, IsTrue};
 ghost use Rattle.sqlite.specs.Held.{state};
 ghost use Rattle.sqlite.specs.State.{HasCleanDisk};
 ghost use Rattle.fab_row_lines.specs.Opened as opened;
-ghost use Rattle.fab_row_lines_base.specs.Listing.{AreDistinct};
+ghost use Rattle.fab_rows.specs.declared.table_rows.TheConstants.{SCHEMA};
 ghost use Rattle.fab_sql.specs.States.{IsDesk};
 ghost use Rattle.fab_sql.specs.Trees.{tables_of};
 ghost use Rattle.fab_stores.specs.Calls.{OpensNot};
 ghost use Rattle.fab_stores.specs.Worlds.{HoldsWorld, IsWritten};
+ghost use Rattle.fab_stores.specs.declared.faults.OpenFault.TheVariants as faults;
 ghost use Rattle.fab_world.specs.Soundness.{IsSound};
-ghost use Rattle.fab_store.specs.Loading.{TellsNewer, TellNewer};
+ghost use Rattle.fab_store.specs.Loading.{HaveNamesOnce, TellsNewer, TellNewer};
 ghost use Rattle.fab_store.specs.Reads.{OnlyReads, SeesSame, AreTablesOf};
 
 use crate::reading::read_tables;
@@ -24,19 +25,26 @@ use sqlite::{Alter, Connection};
 use std::alloc::{AllocError, Allocator, Global};
 use std::collections::BTreeSet;
 
+/// The schema, if it is newer.
+fn newer(schema: u64) -> Option<u64>
+    ensures { MatchOption result (schema ≤ SCHEMA) (λ n. (n ≡ schema) × (SCHEMA < n)) }
+{
+    (schema > SCHEMA).then_some(schema)
+}
+
 /// The schema that a setting tells, if it is newer.
 fn newer_in(line: &MetaLine<Global>) -> Option<u64>
-    ensures { IfSome result (TellsNewer line.now) }
+    ensures { MatchOption result ((n : ℕ) → ¬ TellsNewer line.now n) (TellsNewer line.now) }
 {
     match line.read() {
-        Some(MetaRow::Schema(schema)) if schema > SCHEMA => Some(schema),
-        _ => None,
+        Some(MetaRow::Schema(schema)) => newer(schema),
+        Some(MetaRow::Revision(_)) | Some(MetaRow::Setting(_)) | None => None,
     }
 }
 
 /// The newer schema that one of the settings tells.
 fn newer_schema(lines: &[MetaLine<Global>]) -> Option<u64>
-    ensures { IfSome result (TellNewer lines.now) }
+    ensures { MatchOption result ((n : ℕ) → ¬ TellNewer lines.now n) (TellNewer lines.now) }
 {
     for line in lines {
         if let Some(schema) = newer_in(line) {
@@ -48,7 +56,7 @@ fn newer_schema(lines: &[MetaLine<Global>]) -> Option<u64>
 
 /// Whether no two lines have one name.
 fn are_once(alloc: Global, lines: &[PlanLine<Global>]) -> Result<bool, AllocError>
-    ensures { IfOk result (λ once. IsTrue once → AreDistinct lines.now) }
+    ensures { IfOk result (λ once. IsTrue once ↔ HaveNamesOnce lines.now) }
 {
     let mut names = BTreeSet::new(alloc);
     for line in lines {
@@ -62,7 +70,8 @@ fn are_once(alloc: Global, lines: &[PlanLine<Global>]) -> Result<bool, AllocErro
 /// The world that the lines show.
 ///
 /// # Errors
-/// As for a store's `load`. `Store` where nothing sound has the rows, and a plan stands twice.
+/// As for a store's `load`. `Store` where nothing sound has the rows, and a plan stands twice: no
+/// table with its key has it so.
 fn open_lines<A: Allocator + Copy>(
     alloc: A,
     heap: Global,
@@ -71,6 +80,7 @@ fn open_lines<A: Allocator + Copy>(
     ensures world { IfOk result (λ w. IsSound w × IsWritten w) }
     ensures rows { IfOk result (HoldsWorld (opened.tables_of lines.now)) }
     ensures fault { IfErr result (OpensNot (opened.tables_of lines.now)) }
+    ensures twice { result ≡ Err faults.Store → ¬ HaveNamesOnce lines.now.plans.items }
 {
     if let Some(schema) = newer_schema(lines.meta.as_slice()) {
         return Err(OpenFault::NewerSchema(schema));

@@ -1,11 +1,11 @@
 //! The tables of a desk in a SQLite database.
-ghost use Rattle.std.specs.Prelude.{◌≡◌, ◌⊎◌, false, OnOk, OnErr, IsTrue};
+ghost use Rattle.std.specs.Prelude.{◌≡◌, ◌≢◌, ◌↔◌, ◌⊎◌, [], false, OnOk, OnErr, IsTrue};
 ghost use Rattle.sqlite.specs.Held.{state};
 ghost use Rattle.sqlite.specs.State.{HasCleanDisk};
 ghost use Rattle.fab_sql.specs.NewDesk.{IsNewDesk};
 ghost use Rattle.fab_sql.specs.States.{IsReady};
 ghost use Rattle.fab_sql.specs.Trees.{tables_of};
-ghost use Rattle.fab_stores.specs.Calls.{Rises};
+ghost use Rattle.fab_stores.specs.Calls.{IsCounted, Rises};
 ghost use Rattle.fab_tables.specs.Tables.{Tables};
 ghost use Rattle.fab_store.specs.Laws.{Leaves};
 
@@ -29,11 +29,28 @@ pub struct SqlStore<S: Alter> {
     ghost outside: { conn.in_transaction ≡ false },
 }
 
+/// Whether the database has no table.
+fn has_no_table<S: Alter>(conn: &Connection<S>) -> bool
+    ensures { IsTrue result ↔ ((state S.Store conn.now).now.schema.tables ≡ []) }
+{
+    conn.schema().tables.is_empty()
+}
+
 /// The count of refused calls, with one more. At its greatest value it stays.
 fn raised(refusals: u64) -> u64
     ensures { Rises refusals result }
 {
     refusals.saturating_add(1)
+}
+
+/// The count of refused calls after a `load` that gave this fault.
+fn counted(refusals: u64, fault: OpenFault) -> u64
+    ensures { IsCounted refusals result fault }
+{
+    match fault {
+        OpenFault::Store => raised(refusals),
+        OpenFault::Damaged(_) | OpenFault::NewerSchema(_) | OpenFault::Memory => refusals,
+    }
 }
 
 // It is written out, so that a caller does not prove again how each part is dropped.
@@ -73,19 +90,26 @@ impl<S: Alter> SqlStore<S> {
         inner
     }
 
-    /// Makes the tables of a new desk, all or none.
+    /// Makes the tables of a new desk, all or none, in a database that has no table.
     ///
     /// # Errors
-    /// `StoreFault` where there is a table already, or the store refused: the tables are those before, if
-    /// it is still open.
+    /// `StoreFault` where there is a table already, and then the database is not touched; or where the
+    /// store refused: the tables are those before, if it is still open. Both are counted.
     pub fn init(&mut self) -> Result<(), StoreFault>
         ensures clean { HasCleanDisk (state S.Store self.new.conn) → HasCleanDisk (state S.Store self.old.conn) }
         ensures done { HasCleanDisk (state S.Store self.new.conn) → OnOk result (IsTrue (state S.Store self.new.conn).is_open × IsReady (state S.Store self.new.conn) × IsNewDesk (tables_of (state S.Store self.new.conn).now.trees)) }
         ensures failed { HasCleanDisk (state S.Store self.new.conn) → OnErr result (IsTrue (state S.Store self.new.conn).is_open → IsTrue (state S.Store self.old.conn).is_open × ((state S.Store self.new.conn).now ≡ (state S.Store self.old.conn).now)) }
+        ensures fresh { OnOk result ((state S.Store self.old.conn).now.schema.tables ≡ []) }
+        ensures filled { (state S.Store self.old.conn).now.schema.tables ≢ [] → self.new.conn ≡ self.old.conn }
         ensures counted { OnErr result (Rises self.old.refusals self.new.refusals) }
+        ensures uncounted { OnOk result (self.new.refusals ≡ self.old.refusals) }
         ensures stop { HasCleanDisk (state S.Store self.new.conn) → (left : Tables) → Leaves (state S.Store self.new.conn).may_leave left → Leaves (state S.Store self.old.conn).may_leave left ⊎ IsNewDesk left }
     {
         let _outside = self.conn.is_autocommit();
+        if !has_no_table(&self.conn) {
+            self.refusals = raised(self.refusals);
+            return Err(StoreFault);
+        }
         match init(&mut self.conn, self.heap) {
             Ok(()) => Ok(()),
             Err(_) => {
@@ -121,11 +145,10 @@ impl<A: Allocator + Copy, S: Alter + Drop> Store<A> for SqlStore<S> {
         let _outside = self.conn.is_autocommit();
         match load_world(alloc, self.heap, &mut self.conn) {
             Ok(world) => Ok(world),
-            Err(OpenFault::Store) => {
-                self.refusals = raised(self.refusals);
-                Err(OpenFault::Store)
+            Err(fault) => {
+                self.refusals = counted(self.refusals, fault);
+                Err(fault)
             }
-            Err(fault) => Err(fault),
         }
     }
 

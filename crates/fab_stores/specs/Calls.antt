@@ -1,5 +1,5 @@
 -- What a call of a store tells where it gives nothing.
-use Rattle.std.specs.Prelude.{◌≡◌, ◌⊎◌, ◌<◌, ◌^◌, ◌-◌, ℕ}
+use Rattle.std.specs.Prelude.{◌≡◌, ◌<◌, ◌≤◌, ◌+◌, ◌^◌, ◌-◌, min, ℕ}
 use Rattle.fab_changes.specs.Standing.{HaveRows}
 use Rattle.fab_rows.specs.declared.table_rows.TheConstants.{SCHEMA}
 use Rattle.fab_tables.specs.Tables.{Tables}
@@ -9,18 +9,23 @@ use Rattle.fab_stores.specs.declared.faults.OpenFault.{OpenFault}
 use Rattle.fab_stores.specs.declared.faults.OpenFault.TheVariants.{Damaged, NewerSchema, Store, Memory}
 use Rattle.fab_stores.specs.Worlds.{HoldsWorld, TellsSchema, IsWritten}
 
--- the count of refused calls rose, or stands at its greatest value
+-- the count of refused calls rises by one; at its greatest value it stays
 abbrev pub Rises : ℕ → ℕ → Type 0
-Rises old new = (old < new) ⊎ (new ≡ 2 ^ 64 - 1)
+Rises old new = new ≡ min (old + 1) (2 ^ 64 - 1)
 
--- a refused call is counted
+-- a refused call is counted, and nothing else is
 abbrev pub IsCounted : ℕ → ℕ → OpenFault → Type 0
 IsCounted old new Store = Rises old new
-IsCounted old new _ = Unit {0}
+IsCounted old new _ = new ≡ old
 
--- no sound world whose rows are all written in lines has the rows; a newer schema is told
+-- no setting tells a newer schema
+abbrev pub TellsNoNewer : Tables → Type 0
+TellsNoNewer t = (n : ℕ) → TellsSchema t n → n ≤ SCHEMA
+
+-- no newer schema is told, and no sound world whose rows are all written in lines has the rows; or a
+-- newer schema is told
 abbrev pub OpensNot : Tables → OpenFault → Type 0
-OpensNot t (Damaged table) = (w : WorldRows) → IsWritten w → HaveRows w → HoldsWorld t w → ¬ IsSound w
+OpensNot t (Damaged table) = TellsNoNewer t × ((w : WorldRows) → IsWritten w → HaveRows w → HoldsWorld t w → ¬ IsSound w)
 OpensNot t (NewerSchema n) = TellsSchema t n × (SCHEMA < n)
 OpensNot t Store = Unit {0}
 OpensNot t Memory = Unit {0}

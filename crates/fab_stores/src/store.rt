@@ -1,5 +1,5 @@
 //! Where the tables are kept.
-ghost use Rattle.std.specs.Prelude.{◌≡◌, ◌⊎◌, ℕ, IfOk, IfErr, OnOk, OnErr};
+ghost use Rattle.std.specs.Prelude.{◌≡◌, ◌⊎◌, ℕ, false, Ok, IfOk, IfErr, OnOk, OnErr};
 ghost use Rattle.fab_tables.specs.Tables.{Tables, CanChange, AreChanged};
 ghost use Rattle.fab_world.specs.Soundness.{IsSound};
 ghost use Rattle.fab_stores.specs.Worlds.{HoldsWorld, IsWritten, ArePathsIn};
@@ -12,8 +12,9 @@ use fab_tables::LineChanges;
 use fab_world::World;
 use std::alloc::Allocator;
 
-/// The tables of a desk. A commit changes them whole or not at all; a refused call is counted, and a
-/// store that a fault has shut refuses every call.
+/// The tables of a desk. A commit changes them whole or not at all. The count of refused calls rises by
+/// one with each call that is refused, and with no other; a store that a fault has shut refuses every
+/// call.
 pub trait Store<A: Allocator + Copy>: Sized + Drop {
     // No wrong answer of the disk has been taken as true so far.
     ghost is_clean: { Self → Type 0 };
@@ -39,9 +40,9 @@ pub trait Store<A: Allocator + Copy>: Sized + Drop {
     /// The world that the tables have. Nothing is changed.
     ///
     /// # Errors
-    /// `Damaged` where the rows are not those of a sound world; `NewerSchema` where a newer schema
-    /// stands in the settings; `Store` where a call was refused, also because the tables are not
-    /// those of the schema; `Memory`.
+    /// `NewerSchema` where a newer schema stands in the settings; `Damaged` where none does, and the
+    /// rows are not those of a sound world; `Store` where a call was refused, also because the tables
+    /// are not those of the schema; `Memory`.
     fn load(&mut self, alloc: A) -> Result<World<A>, OpenFault>
         ensures clean { is_clean self.new → is_clean self.old }
         ensures ready { is_clean self.new → OnOk result (is_open self.new × is_ready self.new) }
@@ -50,15 +51,14 @@ pub trait Store<A: Allocator + Copy>: Sized + Drop {
         ensures same { is_clean self.new → is_open self.new → is_open self.old × (tables self.new ≡ tables self.old) }
         ensures fault { is_clean self.new → IfErr result (OpensNot (tables self.old)) }
         ensures counted { IfErr result (IsCounted (refused self.old) (refused self.new)) }
+        ensures uncounted { OnOk result (refused self.new ≡ refused self.old) }
         ensures stop { is_clean self.new → (left : Tables) → may_leave self.new left → may_leave self.old left };
 
-    /// Brings the tables to the present schema, and tells whether it changed them. Tables of schema 1
-    /// are of the present schema.
-    ///
-    /// # Errors
-    /// As for `load`, and then the tables are as they were.
+    /// Brings the tables to the present schema, and tells whether it changed them. There is one schema,
+    /// so it tells that it changed none: no call is made, and none is counted.
     fn migrate(&mut self) -> Result<bool, OpenFault>
-        ensures { self.new ≡ self.old };
+        ensures told { result ≡ Ok false }
+        ensures kept { self.new ≡ self.old };
 
     /// Makes the changes, all or none.
     ///
@@ -71,6 +71,7 @@ pub trait Store<A: Allocator + Copy>: Sized + Drop {
         ensures done { is_clean self.new → is_ready self.old → (is_open self.old → CanChange changes.now (tables self.old)) → OnOk result (is_open self.old × is_open self.new × AreChanged changes.now (tables self.old) (tables self.new)) }
         ensures failed { is_clean self.new → is_ready self.old → OnErr result (is_open self.new → is_open self.old × (tables self.new ≡ tables self.old)) }
         ensures counted { OnErr result (Rises (refused self.old) (refused self.new)) }
+        ensures uncounted { OnOk result (refused self.new ≡ refused self.old) }
         ensures stop { is_clean self.new → is_ready self.old → (is_open self.old → CanChange changes.now (tables self.old)) → (left : Tables) → may_leave self.new left
             → may_leave self.old left ⊎ (is_open self.old × AreChanged changes.now (tables self.old) left) };
 
@@ -84,6 +85,7 @@ pub trait Store<A: Allocator + Copy>: Sized + Drop {
         ensures rows { is_clean self.new → is_ready self.old → IfOk result (λ paths. is_open self.new × ArePathsIn (tables self.old) host.now paths.items) }
         ensures same { is_clean self.new → is_ready self.old → is_open self.new → is_open self.old × (tables self.new ≡ tables self.old) }
         ensures counted { OnErr result (Rises (refused self.old) (refused self.new)) }
+        ensures uncounted { OnOk result (refused self.new ≡ refused self.old) }
         ensures stop { is_clean self.new → (left : Tables) → may_leave self.new left → may_leave self.old left };
 
     // While it is open and nothing is pending, a stop leaves the tables as they are.

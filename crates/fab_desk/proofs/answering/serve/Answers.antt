@@ -1,4 +1,5 @@
 use Rattle.std.proofs.Common.{sym, subst}
+use Rattle.fab_desk_base.specs.declared.command.Query.TheVariants.{Paths}
 use Rattle.fab_machine.specs.Proposals.{request_of}
 use Rattle.fab_desk.specs.Desks.{IsHandled, IsInDoubt, IsTied}
 use Rattle.fab_desk.proofs.answering.serve.Goals as goal
@@ -6,13 +7,19 @@ use Rattle.fab_desk.proofs.answering.serve.Goals as goal
 pub returns-in-Some-clause-answers : goal.returns-in-Some-clause-answers
 returns-in-Some-clause-answers g c clean tied =
     let q = request_of c.args.token.now c.args.moment in
-    let told = c.read_paths.ensures.answers clean (subst (IsTied g.S.Store c.args.store.now) (sym c.ledger.view_is) tied) in
-    let asked = subst (λ k. IsHandled c.args.policy.now c.ledger.inside.world (q k) c.read_paths.result c.ledger.inside.world) (sym c.in-Some.ensures) told in
-    subst (λ w. IsHandled c.args.policy.now w (q c.args.asked) c.read_paths.result w) c.ledger.view_is asked
+    let told = c.read_paths-told.ensures.answers clean (subst (IsTied g.S.Store c.args.store.now) (sym c.ledger.view_is) tied) in
+    let asked = subst (λ k. IsHandled c.args.policy.now c.ledger.inside.world (q k) c.read_paths-told.result c.ledger.inside.world) (sym c.in-Some.ensures) told in
+    subst (λ w. IsHandled c.args.policy.now w (q c.args.asked) c.read_paths-told.result w) c.ledger.view_is asked
 
 pub returns-in-None-clause-answers : goal.returns-in-None-clause-answers
 returns-in-None-clause-answers g c clean tied =
     subst (λ w. IsHandled c.args.policy.now w (request_of c.args.token.now c.args.moment c.args.asked) c.act.result.reply c.act.new.world) c.ledger.view_is c.act.ensures.answers
+
+pub returns-in-Some-clause-halts : goal.returns-in-Some-clause-halts
+returns-in-Some-clause-halts g c is = (λ shut. absurd cc, λ no. absurd (no (Paths c.in-Some.host, c.in-Some.ensures)))
+
+pub returns-in-None-clause-halts : goal.returns-in-None-clause-halts
+returns-in-None-clause-halts g c is = (λ shut. c.act.ensures.change is, λ no. c.act.ensures.halts is)
 
 pub returns-in-None-clause-doubt : goal.returns-in-None-clause-doubt
 returns-in-None-clause-doubt g c clean tied =
@@ -21,3 +28,6 @@ returns-in-None-clause-doubt g c clean tied =
 
 pub returns-in-None-clause-counted : goal.returns-in-None-clause-counted
 returns-in-None-clause-counted g c = c.act.ensures.counted
+
+pub returns-in-None-clause-uncounted : goal.returns-in-None-clause-uncounted
+returns-in-None-clause-uncounted g c = c.act.ensures.uncounted

@@ -1,8 +1,8 @@
 use Rattle.std.proofs.Common.{ℕ, ◌≡◌, List, Bor, sym, ◌∙◌, subst, arith}
-use Rattle.std.proofs.lemmas.Bool.{not-true}
+use Rattle.std.proofs.lemmas.Bool.{not-true, not-false}
 use Rattle.std.specs.Cmp.Lexicographic.{slice_cmp}
 use Rattle.std.specs.Ordering.{nat_cmp}
-use Rattle.fab_store.proofs.Names.{AreNamed, named_next, equal_text}
+use Rattle.fab_store.proofs.Names.{AreNamed, named_next, named_last, named_twice, equal_text, text_equal}
 use Rattle.fab_store.proofs.opening.are_once.Goals as goal
 
 pub loop-line-preserved : goal.loop-line-preserved
@@ -15,3 +15,9 @@ loop-line-preserved c =
     let new = not-true _ (sym c.in_ok-insert.ensures.added ∙ c.if-not-branch.false) in
     subst (AreNamed name_of _) (sym c.in_ok-insert.ensures.keys)
     (named_next cmp name_of equal_text c.args.lines.now c.loop-line.line-index c.line-item.result c.loop-line.names.keys c.as_str.result (omega arith) c.line-item.is named new c.loop-line.invariant)
+
+pub returns-then-branch : goal.returns-then-branch
+returns-then-branch c = ?
+
+pub returns : goal.returns
+returns c = ?

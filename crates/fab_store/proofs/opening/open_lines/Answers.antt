@@ -1,6 +1,5 @@
 use Rattle.std.proofs.Common.{subst}
-use Rattle.fab_row_lines_base.specs.Listing.{AreDistinct}
-use Rattle.fab_store.specs.Loading.{TellNewer}
+use Rattle.fab_store.specs.Loading.{HaveNamesOnce, TellNewer}
 use Rattle.fab_store.proofs.Written.{written, damaged, newer}
 use Rattle.fab_store.proofs.opening.open_lines.Goals as goal
 
@@ -12,4 +11,8 @@ returns-in-Ok-clause-world g c = (c.in-Ok.ensures.sound, written g.row.A.Denot c
 
 pub returns-in-Ok-true-clause-fault : goal.returns-in-Ok-true-clause-fault
 returns-in-Ok-true-clause-fault g c =
-    damaged g.row.A.Denot c.args.lines.now c.in-Err-Damaged.table (subst AreDistinct c.as_slice-in-Err-Damaged.ensures.value (c.in-Ok-true.ensures c.in-Ok-true.field-0-test)) (rw c.in-Err-Damaged.field-0-is at c.in-Err-Damaged.ensures.err)
+    damaged g.row.A.Denot c.args.lines.now c.in-Err-Damaged.table (λ n. subst (λ lines. ¬ TellNewer lines n) c.as_slice.ensures.value (c.in_default.ensures n))
+    (subst HaveNamesOnce c.as_slice-in-Err-Damaged.ensures.value (c.in-Ok-true.ensures.0 c.in-Ok-true.field-0-test)) (rw c.in-Err-Damaged.field-0-is at c.in-Err-Damaged.ensures.err)
+
+pub returns-in-Ok-false-clause-twice : goal.returns-in-Ok-false-clause-twice
+returns-in-Ok-false-clause-twice g c is once = ?
