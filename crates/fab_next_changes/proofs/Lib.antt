@@ -1,5 +1,5 @@
 pub mod WorldPlans
-pub mod Counts
+pub mod CountRows
 pub mod Listed
 pub mod Sorted
 pub mod OnePlan

@@ -1,7 +1,7 @@
 use Rattle.std.proofs.Common.{ap}
 use Rattle.fab_world.specs.Worlds.{WorldRows}
 use Rattle.fab_next.specs.Nexts.{next_world}
-use Rattle.fab_next_changes.proofs.Counts.{new_counted}
+use Rattle.fab_next_changes.proofs.CountRows.{new_counted}
 use Rattle.fab_next_changes.proofs.counts.counts_moved.Goals as goal
 
 pub returns : goal.returns
