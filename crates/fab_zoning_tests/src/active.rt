@@ -30,9 +30,6 @@ const LISTS: &[(Fabric, &[Record])] = &[
     (Fabric::B, &[(TARGET_IN_B, "5000000000000000", "1,2")]),
 ];
 
-/// The rows: both ports are in the zone, the one by its name and the other by its place.
-const ROWS: &[(&str, &str)] = &[("z1", "wwpn=1000000000000001"), ("z1", "dp=1,2")];
-
 /// Two ports, and the zone that joins them, if one does.
 const PAIRS: &[(&str, &str, Option<&str>)] = &[
     (INITIATOR, TARGET, Some("z1")),
@@ -80,16 +77,18 @@ fn imported(rt: &(impl Abort + AllocGlobal)) -> Inventory<Global> {
     inventory
 }
 
-/// A zoning of fabric A, whose active rows these are.
+/// A zoning of fabric A, in whose active zone both ports are, the one by its name and the other by its
+/// place.
 fn zoned(rt: &(impl Abort + AllocGlobal)) -> Zoning<Global> {
-    let mut rows = Vec::new(rt.alloc());
-    for &(zone, member) in ROWS {
-        let member = Member::read(member).expect(rt, "a member");
-        rows.push((named(rt, zone), member)).expect(rt, "memory");
-    }
+    let zone = named(rt, "z1");
+    let place = Place::read("1,2").expect(rt, "a place");
+    let rows = [
+        (zone, Member::Port(wwn(rt, INITIATOR))),
+        (zone, Member::Place(place)),
+    ];
     let mut zoning = Zoning::new(rt.alloc(), Fabric::A);
     zoning
-        .set_active(named(rt, "s1"), rows.as_slice())
+        .set_active(named(rt, "s1"), &rows)
         .expect(rt, "memory");
     zoning
 }

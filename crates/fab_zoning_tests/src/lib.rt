@@ -4,8 +4,6 @@
 #[cfg(test)]
 mod active;
 #[cfg(test)]
-mod copies;
-#[cfg(test)]
 mod inventory;
 #[cfg(test)]
 mod large;
