@@ -89,13 +89,25 @@ fn log_of<C: Clock>(
     listener: &TcpListener,
     stores: &[Option<bool>],
 ) -> String {
+    let held = Cell::new(false);
+    log_while(rt, clock, most_milliseconds, listener, stores, &held)
+}
+
+/// The same, where this says whether an echo has what it was opened over.
+fn log_while<'h, C: Clock>(
+    rt: &(impl Abort + AllocGlobal),
+    clock: &C,
+    most_milliseconds: u64,
+    listener: &TcpListener,
+    stores: &[Option<bool>],
+    held: &'h Cell<bool>,
+) -> String {
     let log = BufWriter::new(rt.alloc(), Vec::new(rt.alloc())).expect(rt, "a log");
     let mut watch = Watch::new(rt.alloc(), clock, log);
     watch.most = Duration::from_millis(most_milliseconds);
     let mut moment = 999u64;
     let mut opened = stores.iter();
-    let held = Cell::new(false);
-    let mut echo = Echo::over(Held::take(&held, true).ok());
+    let mut echo = Echo::over(Held::take(held, true).ok());
     serve_on(
         &mut watch,
         &mut echo,
@@ -105,10 +117,10 @@ fn log_of<C: Clock>(
             Some(moment)
         },
         Some(stores.len() as u64),
-        &mut || {
+        &mut move || {
             clock.monotonic().map_err(|_| ())?;
             match opened.next() {
-                Some(Some(opens)) => Held::take(&held, *opens),
+                Some(Some(opens)) => Held::take(held, *opens),
                 _ => Err(()),
             }
         },
