@@ -6,7 +6,11 @@
 #[cfg(test)]
 mod answers;
 #[cfg(test)]
+mod clocks;
+#[cfg(test)]
 mod desks;
+#[cfg(test)]
+mod fabrics;
 #[cfg(test)]
 mod faults;
 #[cfg(test)]
@@ -17,3 +21,7 @@ mod runs;
 mod statements;
 #[cfg(test)]
 mod tables;
+#[cfg(test)]
+mod unsound;
+#[cfg(test)]
+mod wrong_words;
