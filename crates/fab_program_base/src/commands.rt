@@ -70,7 +70,7 @@ pub fn import<O: Files + Databases, W: Write + Drop>(
     moment: Result<u64, Fault>,
     writer: W,
 ) -> Result<(W, End), Fault>
-    ensures { ImportComes O.Files O.File.remaining O.Databases O.Tables.Store W.contents outside.now asked.now moment writer result }
+    ensures { ImportComes O.Files O.File.remaining O.Databases O.Tables.Store W.contents outside.now asked.entry.now moment writer result }
 {
     match policy_of(alloc, outside, asked.access.policy) {
         Ok(policy) => import_under(alloc, outside, asked, policy, moment, writer),
@@ -87,7 +87,7 @@ fn import_under<O: Files + Databases, W: Write + Drop>(
     moment: Result<u64, Fault>,
     writer: W,
 ) -> Result<(W, End), Fault>
-    ensures { ImportComesIn O.Files O.File.remaining O.Databases O.Tables.Store W.contents outside.now asked.now policy moment writer result }
+    ensures { ImportComesIn O.Files O.File.remaining O.Databases O.Tables.Store W.contents outside.now asked.entry.now policy moment writer result }
 {
     match bytes_of(alloc, outside, asked.file) {
         Ok(bytes) => {
@@ -124,7 +124,7 @@ pub fn dry_run<O: Files + Databases, W: Write + Drop>(
     moment: Result<u64, Fault>,
     writer: W,
 ) -> Result<(W, End), Fault>
-    ensures { DryRunComes O.Files O.File.remaining O.Databases O.Tables.Store W.contents outside.now asked.now moment writer result }
+    ensures { DryRunComes O.Files O.File.remaining O.Databases O.Tables.Store W.contents outside.now asked.entry.now moment writer result }
 {
     let task = Task::DryRun { plan: asked.plan };
     do_by(alloc, outside, &asked.access, moment, &task, writer)

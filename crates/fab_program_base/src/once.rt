@@ -29,7 +29,7 @@ pub fn once<O: Files + Databases, R: Read + Drop, W: Write + Drop>(
     reader: R,
     writer: W,
 ) -> Result<(W, End), Fault>
-    ensures { ComesOnce O.Files O.File.remaining O.Databases O.Tables.Store O.Memory.Store R.remaining W.contents outside.now asked.now.over moment reader writer result }
+    ensures { ComesOnce O.Files O.File.remaining O.Databases O.Tables.Store O.Memory.Store R.remaining W.contents outside.now asked.entry.now.over moment reader writer result }
 {
     match &asked.over {
         Over::Trial => {
