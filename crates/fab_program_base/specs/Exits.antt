@@ -1,15 +1,15 @@
 -- How the program ends.
-use Rattle.std.specs.Prelude.{ℕ, ◌≡◌, ◌⊎◌, Result, Ok, Err}
+use Rattle.std.specs.Prelude.{ℕ, ◌≡◌, ◌⊎◌, List, Result, Ok, Err}
 use Rattle.fab_printing.specs.declared.printing.End.{End}
 use Rattle.fab_printing.specs.declared.printing.End.TheVariants.{Done, Refused}
+use Rattle.fab_program_outside.specs.declared.faults.Fault.{Fault}
+use Rattle.fab_program_outside.specs.declared.faults.Fault.TheVariants.{Stream, Listen, Clock}
+use Rattle.fab_serving.specs.declared.serving.ServeFault.{ServeFault}
+use Rattle.fab_serving.specs.declared.serving.ServeFault.TheVariants as serving
 use Rattle.fab_wire.specs.declared.outcome.Outcome.{Outcome}
 use Rattle.fab_wire.specs.declared.outcome.Outcome.TheVariants as outcome
 use Rattle.fab_words.specs.declared.reading.WordsFault.{WordsFault}
 use Rattle.fab_words.specs.declared.reading.WordsFault.TheVariants as words
-use Rattle.fab_program_base.specs.declared.args.ArgsFault.{ArgsFault}
-use Rattle.fab_program_base.specs.declared.args.ArgsFault.TheVariants as args
-use Rattle.fab_program_base.specs.declared.faults.Fault.{Fault}
-use Rattle.fab_program_base.specs.declared.faults.Fault.TheVariants.{Stream}
 
 -- a request is done where its answer was written, or there was none; else a stream failed
 abbrev pub ended : Outcome → Result End Fault
@@ -17,6 +17,22 @@ ended (outcome.Answered status) = Ok Done
 ended outcome.Empty = Ok Done
 ended outcome.Unsent = Err Stream
 ended outcome.ReadFailed = Err Stream
+
+-- serving is done where as many connections were served as were asked for; else accepting one, or a clock, failed
+abbrev pub served : {V : Type 0} → Result V ServeFault → Result End Fault
+served (Ok none) = Ok Done
+served (Err (serving.Listener error)) = Err Listen
+served (Err serving.NoClock) = Err Clock
+
+-- making a database is done, where it was made
+abbrev pub end_of_making : Result (Unit {0}) Fault → Result End Fault
+end_of_making (Ok none) = Ok Done
+end_of_making (Err fault) = Err fault
+
+-- how a command ended, apart from its writer
+abbrev pub end_only : {W : Type 0} → Result (W × End) Fault → Result End Fault
+end_only (Ok done) = Ok done.1
+end_only (Err fault) = Err fault
 
 -- 0 for what was done, 1 for what was refused, 3 for a fault
 abbrev pub status_of : Result End Fault → ℕ
@@ -29,11 +45,6 @@ abbrev pub words_status : WordsFault → ℕ
 words_status (words.Refused error) = 2
 words_status words.BadText = 2
 words_status words.Memory = 3
-
--- 2 where a word is no text, and 3 where there was no memory
-abbrev pub args_status : ArgsFault → ℕ
-args_status args.NotText = 2
-args_status args.Memory = 3
 
 -- done, refused, wrong words, or failed
 abbrev pub IsExitStatus : ℕ → Type 0

@@ -1,2 +1,11 @@
+pub mod Commands
+pub mod Databases
+pub mod Desks
 pub mod Exits
 pub mod Fronts
+pub mod Once
+pub mod Prints
+pub mod Runs
+pub mod Servings
+pub mod Tasks
+pub mod Tables

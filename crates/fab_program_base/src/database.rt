@@ -1,116 +1,69 @@
 //! Databases: files with the tables of a desk, and tables in memory.
-ghost use Rattle.std.specs.Prelude.{◌≡◌, false, IfOk};
+ghost use Rattle.std.specs.Prelude.{◌≡◌, ℕ, List, Result};
+ghost use Rattle.fab_program_outside.specs.declared.faults.Fault.{Fault};
+ghost use Rattle.fab_program_base.specs.Databases.{IsAgain, IsDeskOver, IsMade, fault_of_opening};
 
-use crate::faults::Fault;
 use fab_policy_base::Policy;
 use fab_port_book::PortBook;
-use fab_store::{OpenFault, SqlStore, Store};
+use fab_program_outside::{Fault, Files, is_free};
+use fab_store::{OpenFault, Store};
 use fab_wire::Desk;
-use sqlite::{Alter, Connection, Error, ErrorCode, File as DatabaseFile, FileStore, MemStore};
 use std::alloc::Global;
-use std::fs::File;
-use std::io::ErrorKind;
-
-/// The tables in a file.
-pub type FileTables = SqlStore<FileStore<DatabaseFile>>;
-
-/// The tables of a desk in memory.
-pub type MemoryTables = SqlStore<MemStore>;
 
 /// The desk of the program over a store.
 pub type ProgramDesk<S> = Desk<Global, S, PortBook<Global>>;
 
-/// Where the tables of desks are found by a path.
+/// Where the tables of desks are found and made.
 pub trait Databases {
-    /// The tables of a desk.
+    /// The tables of a desk in a file.
     type Tables: Store<Global>;
 
-    /// The tables at a path, which have to be there.
+    /// The tables of a desk in memory.
+    type Memory: Store<Global>;
+
+    // What came of opening the tables at a path, where they have to be.
+    ghost finds: { Self → List ℕ → Result Self.Tables Fault → Type 0 };
+
+    // What came of making the tables of a new desk at a path.
+    ghost makes: { Self → List ℕ → Result Self.Tables Fault → Type 0 };
+
+    // What came of making the tables of a new desk in memory.
+    ghost makes_in_memory: { Self → Result Self.Memory Fault → Type 0 };
+
+    /// The tables at a path, where they have to be.
     ///
     /// # Errors
     /// `File` where nothing is there, or it cannot be opened; `Store` where it is no database, or
     /// another process has it open; `Memory`.
-    fn tables_in(&self, rt: &HostRuntime, path: &str) -> Result<Self::Tables, Fault>;
+    fn tables_in(&self, path: &str) -> Result<Self::Tables, Fault>
+        ensures { finds self.now path.now result };
 
-    /// New tables at a path, where nothing is there but an empty file at most: they are made.
+    /// The tables of a new desk at a path, where nothing is but an empty file at most.
     ///
     /// # Errors
     /// As for `tables_in`, and `Store` where they could not be made: there is none of them then.
-    fn new_tables_in(&self, rt: &HostRuntime, path: &str) -> Result<Self::Tables, Fault>;
-}
+    fn new_tables_in(&self, path: &str) -> Result<Self::Tables, Fault>
+        ensures { makes self.now path.now result };
 
-/// The files of this machine.
-#[derive(Clone, Copy)]
-pub struct Files;
-
-impl Databases for Files {
-    type Tables = FileTables;
-
-    fn tables_in(&self, rt: &HostRuntime, path: &str) -> Result<FileTables, Fault> {
-        match File::open(rt, path) {
-            Ok(file) => drop(file),
-            Err(_) => return Err(Fault::File),
-        }
-        connected(rt, path, false)
-    }
-
-    fn new_tables_in(&self, rt: &HostRuntime, path: &str) -> Result<FileTables, Fault> {
-        connected(rt, path, true)
-    }
+    /// The tables of a new desk in memory.
+    ///
+    /// # Errors
+    /// `Memory`; `Store` where they could not be made.
+    fn new_tables(&self) -> Result<Self::Memory, Fault>
+        ensures { makes_in_memory self.now result };
 }
 
 /// The tables at a path, for a desk that is opened again.
 ///
 /// # Errors
 /// `Memory` where there was none, and else `Store`.
-pub fn tables_again<D: Databases>(
-    rt: &HostRuntime,
-    databases: &D,
-    path: &str,
-) -> Result<D::Tables, OpenFault> {
-    match databases.tables_in(rt, path) {
+pub fn tables_again<O: Databases>(outside: &O, path: &str) -> Result<O::Tables, OpenFault>
+    ensures { IsAgain (O.finds outside.now path.now) result }
+{
+    match outside.tables_in(path) {
         Ok(tables) => Ok(tables),
         Err(Fault::Memory) => Err(OpenFault::Memory),
         Err(_) => Err(OpenFault::Store),
-    }
-}
-
-/// The tables over a connection, if there is one; new ones are made first.
-///
-/// # Errors
-/// `Store` where new tables could not be made: there is none of them then.
-fn tables_over<S: Alter + Drop>(
-    alloc: Global,
-    opened: Result<Connection<S>, Fault>,
-    are_new: bool,
-) -> Result<SqlStore<S>, Fault>
-    requires { IfOk opened (λ conn. conn.in_transaction ≡ false) }
-{
-    let mut tables = SqlStore::new(opened?, alloc);
-    if are_new && tables.init().is_err() {
-        return Err(Fault::Store);
-    }
-    Ok(tables)
-}
-
-/// The tables in a file; new ones are made first.
-///
-/// # Errors
-/// As for `Databases::new_tables_in`.
-fn connected(rt: &HostRuntime, path: &str, are_new: bool) -> Result<FileTables, Fault> {
-    let opened = match Connection::open(rt, path) {
-        Ok(conn) => Ok(conn),
-        Err(error) => Err(fault_of(&error)),
-    };
-    tables_over(rt.alloc(), opened, are_new)
-}
-
-/// Why a file was not opened as a database.
-fn fault_of(error: &Error) -> Fault {
-    match error {
-        Error::SqliteFailure(ErrorCode::CannotOpen) => Fault::File,
-        Error::SqliteFailure(ErrorCode::OutOfMemory) => Fault::Memory,
-        _ => Fault::Store,
     }
 }
 
@@ -119,37 +72,28 @@ fn fault_of(error: &Error) -> Fault {
 /// # Errors
 /// `File` where the file is there and not empty, or it cannot be made; `Store` where the store
 /// refused; `Memory`. No table was made then.
-pub fn make<D: Databases>(rt: &HostRuntime, databases: &D, path: &str) -> Result<(), Fault> {
-    if !is_free(rt, path) {
+pub fn make<O: Files + Databases>(outside: &O, path: &str) -> Result<(), Fault>
+    ensures { IsMade (O.measures outside.now path.now) (O.makes outside.now path.now) result }
+{
+    if !is_free(outside, path) {
         return Err(Fault::File);
     }
-    match databases.new_tables_in(rt, path) {
+    match outside.new_tables_in(path) {
         Ok(_) => Ok(()),
         Err(fault) => Err(fault),
     }
 }
 
-/// Whether a file is not there, or is empty.
-fn is_free(rt: &HostRuntime, path: &str) -> bool {
-    match File::open(rt, path) {
-        Ok(file) => match file.metadata() {
-            Ok(metadata) => metadata.len() == 0,
-            Err(_) => false,
-        },
-        Err(error) => error.kind() == ErrorKind::NotFound,
+/// The fault of a store over which no desk is opened.
+fn of_opening(fault: OpenFault) -> Fault
+    ensures { result ≡ fault_of_opening fault }
+{
+    match fault {
+        OpenFault::Damaged(table) => Fault::Damaged(table),
+        OpenFault::NewerSchema(schema) => Fault::NewerSchema(schema),
+        OpenFault::Store => Fault::Store,
+        OpenFault::Memory => Fault::Memory,
     }
-}
-
-/// The tables of a new desk, in memory.
-///
-/// # Errors
-/// `Memory`; `Store` where the store refused.
-pub fn new_tables(alloc: Global) -> Result<MemoryTables, Fault> {
-    let opened = match Connection::open_in_memory(alloc) {
-        Ok(conn) => Ok(conn),
-        Err(_) => Err(Fault::Memory),
-    };
-    tables_over(alloc, opened, true)
 }
 
 /// A desk over a store, with a policy.
@@ -160,9 +104,11 @@ pub fn desk_over<S: Store<Global>>(
     alloc: Global,
     store: S,
     policy: Policy,
-) -> Result<ProgramDesk<S>, Fault> {
+) -> Result<ProgramDesk<S>, Fault>
+    ensures { IsDeskOver S.Store store policy result }
+{
     match Desk::open(alloc, store, policy) {
         Ok(desk) => Ok(desk),
-        Err((fault, _)) => Err(Fault::of_opening(fault)),
+        Err((fault, _)) => Err(of_opening(fault)),
     }
 }

@@ -2,16 +2,19 @@
 //! status. What starts it is `fab_program`.
 #![tactic(auto)]
 
-mod args;
+mod addresses;
 mod commands;
-mod contents;
 mod database;
-mod faults;
 pub mod front;
+mod machine;
 mod once;
 mod running;
 mod serving;
+mod starting;
 mod tasks;
 
-pub use args::{ArgsFault, seconds, words_of};
-pub use running::{refuse_args, run};
+pub use addresses::Addresses;
+pub use database::Databases;
+pub use fab_program_outside::{Fault, Files, Machine, Size};
+pub use running::{run, run_over};
+pub use starting::start;

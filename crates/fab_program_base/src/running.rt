@@ -1,16 +1,19 @@
 //! What the words of the command line ask for, and the exit status.
 ghost use Rattle.std.specs.Prelude.{◌≡◌, ◌<◌, map, string_bytes};
+ghost use Rattle.fab_json.specs.Sinks.{Wrote, WroteSome};
 ghost use Rattle.fab_words.specs.Asking.{Asks};
 ghost use Rattle.fab_words.specs.declared.words.Words.{Words};
-ghost use Rattle.fab_program_base.specs.Exits.{IsExitStatus, args_status, status_of, words_status};
+ghost use Rattle.fab_program_base.specs.Exits.{IsExitStatus, end_of_making, end_only, status_of, words_status};
+ghost use Rattle.fab_program_base.specs.Runs.{Comes, IsToldOf, IsToldOfWords};
 
-use crate::args::ArgsFault;
+use crate::addresses::Addresses;
 use crate::commands::{dry_run, export, import, paths, report};
-use crate::database::{Databases, Files, make};
-use crate::faults::Fault;
+use crate::database::{Databases, make};
 use crate::once::once;
 use crate::serving::serve;
+use fab_json::counted::Counted;
 use fab_printing::End;
+use fab_program_outside::{Fault, Files, Machine, fail, moment_of, refuse_text};
 use fab_words::{Words, WordsFault, read_words};
 use std::io::{Read, Write};
 
@@ -23,12 +26,9 @@ const REFUSED: u8 = 1;
 /// The exit status of a command line that is wrong, or asks for help.
 const WRONG_WORDS: u8 = 2;
 
-/// The exit status of what could not be done; the standard error has a line that says why.
-const FAILED: u8 = 3;
-
-/// Runs the program: reads the words (the first is the program's name), does what they ask for, and
-/// gives the exit status. `now` gives the moment in Unix seconds, if it can. What goes wrong is told
-/// to `errors`.
+/// Runs the program on this machine: reads the words (the first is the program's name), does what they
+/// ask for, and gives the exit status. `now` gives the moment in Unix seconds, if it can. What goes
+/// wrong is told to `errors`.
 ///
 /// The status is 0, where all is done, or 1, where a command is refused, only if the words ask for
 /// something, and 2 only if they ask for nothing.
@@ -45,70 +45,108 @@ pub fn run<N: FnMut() -> Option<u64>, R: Read + Drop, W: Write + Drop, E: Write>
     ensures asked { result < 2 → (w : Words) × Asks (map string_bytes words.now) w }
     ensures wrong { result ≡ 2 → (w : Words) → ¬ Asks (map string_bytes words.now) w }
 {
+    let mut errors = Counted::new(errors);
+    run_over(rt, &Machine { rt }, words, now, reader, writer, &mut errors)
+}
+
+/// Runs the program over any files, databases and addresses.
+///
+/// What the words ask for is done, with the moment that they give, or else the clock's; what came of
+/// it is the status, and a fault has its line.
+pub fn run_over<
+    O: Files + Databases + Addresses,
+    N: FnMut() -> Option<u64>,
+    R: Read + Drop,
+    W: Write + Drop,
+    E: Write,
+>(
+    rt: &HostRuntime,
+    outside: &O,
+    words: &[String],
+    now: N,
+    reader: R,
+    writer: W,
+    errors: &mut Counted<E>,
+) -> u8
+    requires { (state : N) → N.pre state }
+    ensures status { IsExitStatus result }
+    ensures asked { result < 2 → (w : Words) × Asks (map string_bytes words.now) w }
+    ensures wrong { result ≡ 2 → (w : Words) → ¬ Asks (map string_bytes words.now) w }
+{
     match read_words(rt.alloc(), words) {
         Ok(asked) => {
             let mut now = now;
-            exit_of(
-                errors,
-                carry_out(rt, &Files, &asked, &mut now, reader, writer),
-            )
+            let came = carry_out(rt, outside, &asked, &mut now, reader, writer);
+            exit_of(errors, came)
         }
         Err(fault) => refuse_words(errors, fault),
     }
 }
 
-/// Does what the words ask for.
-fn carry_out<D: Databases, N: FnMut() -> Option<u64>, R: Read + Drop, W: Write + Drop>(
+/// Does what the words ask for: `import`, `dryrun` and `once` at the moment that they give, or else the
+/// clock's, and the others with no moment.
+fn carry_out<
+    O: Files + Databases + Addresses,
+    N: FnMut() -> Option<u64>,
+    R: Read + Drop,
+    W: Write + Drop,
+>(
     rt: &HostRuntime,
-    databases: &D,
+    outside: &O,
     asked: &Words<'_>,
     now: &mut N,
     reader: R,
     writer: W,
 ) -> Result<End, Fault>
     requires { (state : N) → N.pre state }
+    ensures { Comes O.Files O.File.remaining O.Databases O.Addresses O.Tables.Store O.Memory.Store R.remaining W.contents (λ told. N.step now.old told now.new) outside.now asked.now reader writer result }
 {
+    let alloc = rt.alloc();
     match asked {
-        Words::Init(asked) => match make(rt, databases, asked.db) {
-            Ok(()) => Ok(End::Done),
-            Err(fault) => Err(fault),
-        },
-        Words::Serve(asked) => serve(rt, databases, asked, now, writer),
-        Words::Once(asked) => once(
-            rt,
-            databases,
-            asked,
-            moment_of(asked.now, now),
-            reader,
-            writer,
-        ),
-        Words::Import(asked) => import(rt, databases, asked, moment_of(asked.now, now), writer),
-        Words::Paths(asked) => paths(rt, databases, asked, writer),
-        Words::Report(asked) => report(rt, databases, asked, writer),
-        Words::Export(asked) => export(rt, databases, asked, writer),
-        Words::DryRun(asked) => dry_run(rt, databases, asked, moment_of(asked.now, now), writer),
+        Words::Init(asked) => made(make(outside, asked.db)),
+        Words::Serve(asked) => serve(rt, outside, asked, now, writer),
+        Words::Once(asked) => {
+            let moment = moment_of(asked.now, now);
+            without_writer(once(alloc, outside, asked, moment, reader, writer))
+        }
+        Words::Import(asked) => {
+            let moment = moment_of(asked.now, now);
+            without_writer(import(alloc, outside, asked, moment, writer))
+        }
+        Words::Paths(asked) => without_writer(paths(alloc, outside, asked, writer)),
+        Words::Report(asked) => without_writer(report(alloc, outside, asked, writer)),
+        Words::Export(asked) => without_writer(export(alloc, outside, asked, writer)),
+        Words::DryRun(asked) => {
+            let moment = moment_of(asked.now, now);
+            without_writer(dry_run(alloc, outside, asked, moment, writer))
+        }
     }
 }
 
-/// The moment that was given, or else the clock's as the command starts, in Unix seconds.
-///
-/// # Errors
-/// `Clock` where none was given and the clock tells none.
-fn moment_of<N: FnMut() -> Option<u64>>(given: Option<u64>, now: &mut N) -> Result<u64, Fault>
-    requires { (state : N) → N.pre state }
+/// How making a database ended.
+fn made(came: Result<(), Fault>) -> Result<End, Fault>
+    ensures { result ≡ end_of_making came }
 {
-    if let Some(moment) = given {
-        return Ok(moment);
+    match came {
+        Ok(()) => Ok(End::Done),
+        Err(fault) => Err(fault),
     }
-    match now() {
-        Some(moment) => Ok(moment),
-        None => Err(Fault::Clock),
+}
+
+/// How a command ended, whose writer is let go of.
+fn without_writer<W: Drop>(came: Result<(W, End), Fault>) -> Result<End, Fault>
+    ensures { result ≡ end_only came }
+{
+    match came {
+        Ok((_writer, end)) => Ok(end),
+        Err(fault) => Err(fault),
     }
 }
 
 /// The exit status of what came of it; a fault is told.
-fn exit_of<E: Write>(errors: &mut E, came: Result<End, Fault>) -> u8
-    ensures { result ≡ status_of came }
+fn exit_of<E: Write>(errors: &mut Counted<E>, came: Result<End, Fault>) -> u8
+    ensures status { result ≡ status_of came }
+    ensures told { IsToldOf (Wrote E.contents) (WroteSome E.contents) errors.old came errors.new }
 {
     match came {
         Ok(End::Done) => DONE,
@@ -117,40 +155,18 @@ fn exit_of<E: Write>(errors: &mut E, came: Result<End, Fault>) -> u8
     }
 }
 
-/// Tells in one line what failed, and gives the exit status.
-fn fail<E: Write>(errors: &mut E, fault: Fault) -> u8
-    ensures { result ≡ 3 }
-{
-    let _ = writeln!(errors, "sandesk: {fault}");
-    FAILED
-}
-
-/// Tells what is wrong with the words, and gives the exit status.
-fn refuse_words<E: Write>(errors: &mut E, fault: WordsFault) -> u8
-    ensures { result ≡ words_status fault }
+/// Tells what is wrong with the words, and gives the exit status. The words themselves are told by
+/// `clap` alone, as far as it names them.
+fn refuse_words<E: Write>(errors: &mut Counted<E>, fault: WordsFault) -> u8
+    ensures status { result ≡ words_status fault }
+    ensures told { IsToldOfWords (Wrote E.contents) (WroteSome E.contents) errors.old fault errors.new }
 {
     match fault {
         WordsFault::Refused(error) => {
             let _ = write!(errors, "{error}");
             WRONG_WORDS
         }
-        WordsFault::BadText => {
-            let _ = writeln!(errors, "sandesk: words");
-            WRONG_WORDS
-        }
+        WordsFault::BadText => refuse_text(errors),
         WordsFault::Memory => fail(errors, Fault::Memory),
-    }
-}
-
-/// Tells why there are no words, and gives the exit status.
-pub fn refuse_args<E: Write>(errors: &mut E, fault: ArgsFault) -> u8
-    ensures { result ≡ args_status fault }
-{
-    match fault {
-        ArgsFault::NotText => {
-            let _ = writeln!(errors, "sandesk: words");
-            WRONG_WORDS
-        }
-        ArgsFault::Memory => fail(errors, Fault::Memory),
     }
 }

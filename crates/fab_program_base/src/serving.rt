@@ -1,39 +1,43 @@
 //! Connections served over a database.
+ghost use Rattle.std.specs.Prelude.{◌≡◌};
+ghost use Rattle.fab_program_outside.specs.Coming.{After};
+ghost use Rattle.fab_program_base.specs.Exits.{served};
+ghost use Rattle.fab_program_base.specs.Servings.{ComesServing, IsServedAt, IsServedBy, IsServedOver};
 
-use crate::contents::policy_of;
+use crate::addresses::Addresses;
 use crate::database::{Databases, ProgramDesk, desk_over, tables_again};
-use crate::faults::Fault;
 use crate::front::Front;
 use fab_policy_base::Policy;
 use fab_printing::End;
+use fab_program_outside::{Fault, Files, policy_of};
 use fab_serving::{ServeFault, Watch, serve_on};
 use fab_store::{OpenFault, Store};
 use fab_wire_base::routes::Routes;
 use fab_words::Serve;
 use std::alloc::Global;
 use std::io::Write;
-use std::net::TcpListener;
 
 /// Serves connections: as many as are asked for, or until accepting one fails. Each has its line in
 /// the log.
 ///
 /// # Errors
 /// As for the policy, the database, the listener and the clock, in this order.
-pub fn serve<D: Databases, N: FnMut() -> Option<u64>, W: Write + Drop>(
+pub fn serve<O: Files + Databases + Addresses, N: FnMut() -> Option<u64>, W: Write + Drop>(
     rt: &HostRuntime,
-    databases: &D,
+    outside: &O,
     asked: &Serve<'_>,
     now: &mut N,
     log: W,
 ) -> Result<End, Fault>
     requires { (state : N) → N.pre state }
+    ensures { ComesServing O.Files O.File.remaining O.Databases O.Addresses O.Tables.Store outside.now asked.now result }
 {
     let db = asked.db;
-    match policy_of(rt, asked.policy) {
+    match policy_of(rt.alloc(), outside, asked.policy) {
         Ok(policy) => {
-            let mut again = || tables_again(rt, databases, db);
-            let store = databases.tables_in(rt, db);
-            serve_over(rt, asked, store, policy, now, log, &mut again)
+            let mut again = || tables_again(outside, db);
+            let store = outside.tables_in(db);
+            serve_over(rt, outside, asked, store, policy, now, log, &mut again)
         }
         Err(fault) => Err(fault),
     }
@@ -41,99 +45,104 @@ pub fn serve<D: Databases, N: FnMut() -> Option<u64>, W: Write + Drop>(
 
 /// Serves connections over a desk over a store, if there is one. `again` opens the store anew.
 fn serve_over<
+    O: Addresses,
     S: Store<Global>,
     N: FnMut() -> Option<u64>,
     W: Write + Drop,
-    O: FnMut() -> Result<S, OpenFault>,
+    F: FnMut() -> Result<S, OpenFault>,
 >(
     rt: &HostRuntime,
+    outside: &O,
     asked: &Serve<'_>,
     store: Result<S, Fault>,
     policy: Policy,
     now: &mut N,
     log: W,
-    again: &mut O,
+    again: &mut F,
 ) -> Result<End, Fault>
     requires now { (state : N) → N.pre state }
-    requires again { (state : O) → O.pre state }
+    requires again { (state : F) → F.pre state }
+    ensures { After store (λ s. IsServedOver (O.listens outside.now asked.now.listen.now) S.Store s policy) result }
 {
     match store {
         Ok(store) => {
-            let front = front_of(rt.alloc(), desk_over(rt.alloc(), store, policy));
-            serve_by(rt, asked, front, now, log, again)
+            let desk = desk_over(rt.alloc(), store, policy);
+            serve_by(rt, outside, asked, desk, now, log, again)
         }
         Err(fault) => Err(fault),
     }
 }
 
-/// A desk as what serves connections, if there is one and the routes have memory.
-fn front_of<S: Store<Global>>(
-    alloc: Global,
-    desk: Result<ProgramDesk<S>, Fault>,
-) -> Result<Front<S>, Fault> {
-    let desk = desk?;
-    match Routes::new(alloc) {
-        Ok(routes) => Ok(Front {
-            alloc,
-            routes,
-            desk,
-        }),
-        Err(_) => Err(Fault::Memory),
-    }
-}
-
-/// Serves connections over a desk, if there is one and the address can be listened at.
+/// Serves connections over a desk, if there is one and the routes have memory.
 fn serve_by<
+    O: Addresses,
     S: Store<Global>,
     N: FnMut() -> Option<u64>,
     W: Write + Drop,
-    O: FnMut() -> Result<S, OpenFault>,
+    F: FnMut() -> Result<S, OpenFault>,
 >(
     rt: &HostRuntime,
+    outside: &O,
     asked: &Serve<'_>,
-    front: Result<Front<S>, Fault>,
+    desk: Result<ProgramDesk<S>, Fault>,
     now: &mut N,
     log: W,
-    again: &mut O,
+    again: &mut F,
 ) -> Result<End, Fault>
     requires now { (state : N) → N.pre state }
-    requires again { (state : O) → O.pre state }
+    requires again { (state : F) → F.pre state }
+    ensures { After desk (λ d. IsServedBy (O.listens outside.now asked.now.listen.now)) result }
 {
-    match front {
-        Ok(mut front) => serve_at(rt, asked, &mut front, now, log, again),
+    match desk {
+        Ok(desk) => match Routes::new(rt.alloc()) {
+            Ok(routes) => {
+                let mut front = Front {
+                    alloc: rt.alloc(),
+                    routes,
+                    desk,
+                };
+                serve_at(rt, outside, asked, &mut front, now, log, again)
+            }
+            Err(_) => Err(Fault::Memory),
+        },
         Err(fault) => Err(fault),
     }
 }
 
 /// Serves connections at an address, if it can be listened at.
 fn serve_at<
+    O: Addresses,
     S: Store<Global>,
     N: FnMut() -> Option<u64>,
     W: Write + Drop,
-    O: FnMut() -> Result<S, OpenFault>,
+    F: FnMut() -> Result<S, OpenFault>,
 >(
     rt: &HostRuntime,
+    outside: &O,
     asked: &Serve<'_>,
     front: &mut Front<S>,
     now: &mut N,
     log: W,
-    again: &mut O,
+    again: &mut F,
 ) -> Result<End, Fault>
     requires now { (state : N) → N.pre state }
-    requires again { (state : O) → O.pre state }
+    requires again { (state : F) → F.pre state }
+    ensures { IsServedAt (O.listens outside.now asked.now.listen.now) result }
 {
-    match TcpListener::bind(rt, asked.listen) {
-        Ok(listener) => {
+    match outside.listen(asked.listen) {
+        Some(listener) => {
             let mut watch = Watch::new(rt.alloc(), rt, log);
             let came = serve_on(&mut watch, front, &listener, now, asked.count, again);
             end_of(came)
         }
-        Err(_) => Err(Fault::Listen),
+        None => Err(Fault::Listen),
     }
 }
 
-/// How serving ended.
-fn end_of(came: Result<(), ServeFault>) -> Result<End, Fault> {
+/// How serving ended: it is done only where as many connections were served as were asked for.
+fn end_of(came: Result<(), ServeFault>) -> Result<End, Fault>
+    ensures { result ≡ served came }
+{
     match came {
         Ok(()) => Ok(End::Done),
         Err(ServeFault::Listener(_)) => Err(Fault::Listen),

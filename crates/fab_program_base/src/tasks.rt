@@ -1,14 +1,19 @@
 //! What is done once at a desk, over any store.
+ghost use Rattle.std.specs.Prelude.{◌≡◌};
+ghost use Rattle.fab_program_outside.specs.Coming.{After, Then};
+ghost use Rattle.fab_program_base.specs.Databases.{IsDeskOver};
+ghost use Rattle.fab_program_base.specs.Prints.{IsPrintedTo, fault_of_printing};
+ghost use Rattle.fab_program_base.specs.Tasks.{AnswersTask, ImportsAt, ImportsKnown, ComesOver, IsDone};
+ghost use Rattle.fab_program_base.specs.Tasks as tasks;
 
-use crate::contents::is_too_large;
 use crate::database::{ProgramDesk, desk_over};
-use crate::faults::Fault;
 use fab_answers::answers::Answer;
 use fab_desk_base::{Command, DeskFault, Query, Reply};
 use fab_files_base::port_list::{FileFault, read_ports};
 use fab_names::{Fabric, Name};
 use fab_policy_base::Policy;
-use fab_printing::{End, Form, print};
+use fab_printing::{End, Form, PrintFault, print};
+use fab_program_outside::{Fault, is_too_large};
 use fab_store::Store;
 use fab_wire_base::requests::Refusal;
 use std::alloc::Global;
@@ -34,7 +39,8 @@ pub struct Call<'t> {
     pub moment: Result<u64, Fault>,
 }
 
-/// Does a task at a desk over a store, if there is one, and prints the reply.
+/// Does a task at a desk over a store, if there is one, and prints the reply. The writer is handed
+/// back, and has just that text.
 ///
 /// # Errors
 /// As for the store, `desk_over`, the moment and the stream, in this order.
@@ -45,7 +51,9 @@ pub fn do_over<S: Store<Global>, W: Write + Drop>(
     call: &Call<'_>,
     task: &Task<'_>,
     writer: W,
-) -> Result<End, Fault> {
+) -> Result<(W, End), Fault>
+    ensures { After store (λ s. ComesOver S.Store (λ d m a e. AnswersTask S.Store d call.now.token.now m task.now a e) W.contents (tasks.form_of task.now) s policy call.now.moment writer) result }
+{
     match store {
         Ok(store) => do_by(alloc, desk_over(alloc, store, policy), call, task, writer),
         Err(fault) => Err(fault),
@@ -59,7 +67,9 @@ fn do_by<S: Store<Global>, W: Write + Drop>(
     call: &Call<'_>,
     task: &Task<'_>,
     writer: W,
-) -> Result<End, Fault> {
+) -> Result<(W, End), Fault>
+    ensures { After desk (λ d. After call.now.moment (λ m. IsDone (λ d m a e. AnswersTask S.Store d call.now.token.now m task.now a e) W.contents (tasks.form_of task.now) d m writer)) result }
+{
     match desk {
         Ok(mut desk) => do_at(alloc, &mut desk, call, task, writer),
         Err(fault) => Err(fault),
@@ -73,21 +83,47 @@ fn do_at<S: Store<Global>, W: Write + Drop>(
     call: &Call<'_>,
     task: &Task<'_>,
     writer: W,
-) -> Result<End, Fault> {
+) -> Result<(W, End), Fault>
+    ensures { After call.now.moment (λ m. IsDone (λ d m a e. AnswersTask S.Store d call.now.token.now m task.now a e) W.contents (tasks.form_of task.now) desk.old m writer) result }
+{
     match call.moment {
         Ok(moment) => {
             let answer = answer_to(alloc, desk, call.token, moment, task);
-            match print(alloc, writer, form_of(task), &answer) {
-                Ok((_writer, end)) => Ok(end),
-                Err(fault) => Err(Fault::of_printing(fault)),
-            }
+            print_answer(alloc, writer, form_of(task), &answer)
         }
         Err(fault) => Err(fault),
     }
 }
 
+/// Prints an answer in a form.
+fn print_answer<W: Write + Drop>(
+    alloc: Global,
+    writer: W,
+    form: Form,
+    answer: &Answer<Global>,
+) -> Result<(W, End), Fault>
+    ensures { IsPrintedTo W.contents form answer.now writer result }
+{
+    match print(alloc, writer, form, answer) {
+        Ok(printed) => Ok(printed),
+        Err(fault) => Err(of_printing(fault)),
+    }
+}
+
+/// The fault of an answer that is not printed.
+fn of_printing(fault: PrintFault) -> Fault
+    ensures { result ≡ fault_of_printing fault }
+{
+    match fault {
+        PrintFault::Memory => Fault::Memory,
+        PrintFault::Stream => Fault::Stream,
+    }
+}
+
 /// In which form the reply to a task is printed.
-fn form_of(task: &Task<'_>) -> Form {
+fn form_of(task: &Task<'_>) -> Form
+    ensures { result ≡ tasks.form_of task.now }
+{
     match task {
         Task::Show { form, .. } => *form,
         _ => Form::Json,
@@ -101,7 +137,9 @@ fn answer_to<S: Store<Global>>(
     token: &str,
     moment: u64,
     task: &Task<'_>,
-) -> Answer<Global> {
+) -> Answer<Global>
+    ensures { AnswersTask S.Store desk.old token.now moment task.now result desk.new }
+{
     match task {
         Task::Import { fabric, bytes } => import_over(alloc, desk, token, moment, *fabric, bytes),
         Task::DryRun { plan } => {
@@ -122,10 +160,26 @@ fn import_over<S: Store<Global>>(
     moment: u64,
     fabric: Fabric,
     bytes: &[u8],
-) -> Answer<Global> {
+) -> Answer<Global>
+    ensures { ImportsAt S.Store desk.old token.now moment fabric bytes.now result desk.new }
+{
     if !desk.knows(token) {
         return Answer::Replied(Reply::Refused(DeskFault::NoCaller));
     }
+    import_known(alloc, desk, token, moment, fabric, bytes)
+}
+
+/// Imports the bytes of a port list of a caller.
+fn import_known<S: Store<Global>>(
+    alloc: Global,
+    desk: &mut ProgramDesk<S>,
+    token: &str,
+    moment: u64,
+    fabric: Fabric,
+    bytes: &[u8],
+) -> Answer<Global>
+    ensures { ImportsKnown S.Store desk.old token.now moment fabric bytes.now result desk.new }
+{
     if is_too_large(bytes) {
         return Answer::Refused(Refusal::TooLarge);
     }

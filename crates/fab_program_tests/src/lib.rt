@@ -7,15 +7,17 @@
 #[cfg(test)]
 mod answers;
 #[cfg(test)]
+mod clocks;
+#[cfg(test)]
 mod connections;
 #[cfg(test)]
 mod desks;
 #[cfg(test)]
+mod fabrics;
+#[cfg(test)]
 mod faults;
 #[cfg(test)]
 mod growth;
-#[cfg(test)]
-mod moments;
 #[cfg(test)]
 mod quiet;
 #[cfg(test)]
@@ -24,3 +26,7 @@ mod runs;
 mod statements;
 #[cfg(test)]
 mod tables;
+#[cfg(test)]
+mod unsound;
+#[cfg(test)]
+mod wrong_words;

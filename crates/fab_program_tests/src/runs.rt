@@ -39,7 +39,7 @@ pub const QUIET: Run<'static> = Run {
 };
 
 /// The words of a command line, parted by spaces, of which the first is the program's name.
-fn words_from(rt: &(impl Abort + AllocGlobal), text: &str) -> Vec<String> {
+pub fn words_from(rt: &(impl Abort + AllocGlobal), text: &str) -> Vec<String> {
     let mut words = Vec::new(rt.alloc());
     for word in text.split(' ') {
         let word = String::from_str(rt.alloc(), word).expect(rt, "memory");

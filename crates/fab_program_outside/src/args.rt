@@ -1,10 +1,9 @@
-//! What the system hands over: the words of the command line, and the moment.
+//! The words of the command line.
 
 use std::alloc::AllocGlobal;
 use std::env;
 use std::env::Env;
 use std::io::ErrorKind;
-use std::time::{Clock, SystemTime};
 
 /// Why there are no words.
 #[derive(Clone, Copy, Debug, PartialEq, Eq)]
@@ -30,16 +29,5 @@ pub fn words_of<R: Env + AllocGlobal>(rt: &R) -> Result<Vec<String>, ArgsFault> 
         } else {
             ArgsFault::Memory
         }),
-    }
-}
-
-/// The seconds since 1970-01-01T00:00:00Z, if the clock tells them.
-pub fn seconds<C: Clock>(clock: &C) -> Option<u64> {
-    let Ok(now) = SystemTime::now(clock) else {
-        return None;
-    };
-    match now.duration_since(SystemTime::UNIX_EPOCH) {
-        Ok(time) => Some(time.as_secs()),
-        Err(_) => None,
     }
 }

@@ -1,11 +1,10 @@
 //! Why the program could not do what was asked.
+ghost use Rattle.std.specs.Prelude.{◌≡◌};
+ghost use Rattle.fab_program_outside.specs.Faults as faults;
 
-use fab_printing::PrintFault;
-use fab_store::{OpenFault, Table};
-use std::fmt;
-use std::fmt::Display;
+use fab_load::Table;
 
-/// Why the program ends with status 3. Its text is what the standard error shows behind `sandesk: `.
+/// Why the program ends with status 3.
 #[derive(Clone, Copy, Debug, PartialEq, Eq, Drop)]
 pub enum Fault {
     /// A file is not there, or it cannot be opened or read.
@@ -29,26 +28,10 @@ pub enum Fault {
 }
 
 impl Fault {
-    /// The fault of a store that is not opened.
-    pub fn of_opening(fault: OpenFault) -> Self {
-        match fault {
-            OpenFault::Damaged(table) => Fault::Damaged(table),
-            OpenFault::NewerSchema(schema) => Fault::NewerSchema(schema),
-            OpenFault::Store => Fault::Store,
-            OpenFault::Memory => Fault::Memory,
-        }
-    }
-
-    /// The fault of an answer that is not printed.
-    pub fn of_printing(fault: PrintFault) -> Self {
-        match fault {
-            PrintFault::Memory => Fault::Memory,
-            PrintFault::Stream => Fault::Stream,
-        }
-    }
-
-    /// The first word of its text.
-    fn word(&self) -> &'static str {
+    /// The word by which the standard error names it.
+    pub fn word(self) -> &'static str
+        ensures { result.now ≡ faults.word_of self }
+    {
         match self {
             Fault::File => "file",
             Fault::Policy => "policy",
@@ -63,19 +46,10 @@ impl Fault {
     }
 }
 
-impl Display for Fault {
-    fn fmt<W: fmt::Write>(&self, f: &mut fmt::Formatter<W>) -> fmt::Result {
-        let word = self.word();
-        match self {
-            Fault::Damaged(table) => write!(f, "{word} {}", table_name(*table)),
-            Fault::NewerSchema(schema) => write!(f, "{word} {schema}"),
-            _ => write!(f, "{word}"),
-        }
-    }
-}
-
 /// The name of a table.
-fn table_name(table: Table) -> &'static str {
+pub(crate) fn table_name(table: Table) -> &'static str
+    ensures { result.now ≡ faults.table_name table }
+{
     match table {
         Table::Meta => "meta",
         Table::Ports => "ports",

@@ -1,0 +1,136 @@
+//! What this machine has: SQLite databases, and sockets.
+ghost use Rattle.std.specs.Prelude.{◌≡◌, ◌⊎◌, false, IfOk, MatchResult};
+ghost use Rattle.sqlite.specs.Files.{file_state, IsOpened};
+ghost use Rattle.sqlite.specs.Held.{state};
+ghost use Rattle.sqlite.specs.State.{HasCleanDisk};
+ghost use Rattle.fab_sql.specs.NewDesk.{IsNewDesk};
+ghost use Rattle.fab_sql.specs.Trees.{tables_of};
+ghost use Rattle.fab_program_base.specs.Tables.{opened_fault};
+
+use crate::addresses::Addresses;
+use crate::database::Databases;
+use fab_program_outside::{Fault, Machine};
+use fab_store::SqlStore;
+use sqlite::{Alter, Connection, Error, ErrorCode, File as DatabaseFile, FileStore, MemStore};
+use std::alloc::Global;
+use std::fs::File;
+use std::net::TcpListener;
+
+/// The tables in a file.
+type FileTables = SqlStore<FileStore<DatabaseFile>>;
+
+/// The tables in memory.
+type MemoryTables = SqlStore<MemStore>;
+
+/// The tables of a new desk over a connection, if there is one.
+///
+/// # Errors
+/// `Store` where they could not be made: there is none of them then.
+fn new_over<S: Alter + Drop>(
+    alloc: Global,
+    opened: Result<Connection<S>, Fault>,
+) -> Result<SqlStore<S>, Fault>
+    requires { IfOk opened (λ conn. conn.in_transaction ≡ false) }
+    ensures made { MatchResult result (λ tables. HasCleanDisk (state S.Store tables.conn) → IsNewDesk (tables_of (state S.Store tables.conn).now.trees)) (λ fault. (opened ≡ Err fault) ⊎ (fault ≡ Fault.Store)) }
+{
+    match opened {
+        Ok(conn) => {
+            let mut tables = SqlStore::new(conn, alloc);
+            match tables.init() {
+                Ok(()) => Ok(tables),
+                Err(_) => Err(Fault::Store),
+            }
+        }
+        Err(fault) => Err(fault),
+    }
+}
+
+/// The tables over a connection, if there is one, as they are.
+fn over<S: Alter + Drop>(
+    alloc: Global,
+    opened: Result<Connection<S>, Fault>,
+) -> Result<SqlStore<S>, Fault>
+    requires { IfOk opened (λ conn. conn.in_transaction ≡ false) }
+    ensures over { MatchResult result (λ tables. opened ≡ Ok tables.conn) (λ fault. opened ≡ Err fault) }
+{
+    match opened {
+        Ok(conn) => Ok(SqlStore::new(conn, alloc)),
+        Err(fault) => Err(fault),
+    }
+}
+
+/// A connection to the database in a file.
+///
+/// # Errors
+/// `File` where it cannot be opened; `Store` where it is no database, or another process has it open;
+/// `Memory`.
+fn connected(rt: &HostRuntime, path: &str) -> Result<Connection<FileStore<DatabaseFile>>, Fault>
+    ensures outside { IfOk result (λ conn. conn.in_transaction ≡ false) }
+    ensures opened { IfOk result (λ conn. HasCleanDisk (file_state conn) → IsOpened conn) }
+{
+    match Connection::open(rt, path) {
+        Ok(conn) => Ok(conn),
+        Err(error) => Err(fault_of(&error)),
+    }
+}
+
+/// Why a file was not opened as a database.
+fn fault_of(error: &Error) -> Fault
+    ensures { result ≡ opened_fault error.now }
+{
+    match error {
+        Error::SqliteFailure(ErrorCode::CannotOpen) => Fault::File,
+        Error::SqliteFailure(ErrorCode::OutOfMemory) => Fault::Memory,
+        _ => Fault::Store,
+    }
+}
+
+impl<'r> Databases for Machine<'r> {
+    ghost use Rattle.std.specs.Prelude.{IfOk};
+    ghost use Rattle.sqlite.specs.Files.{file_state, IsOpened};
+    ghost use Rattle.sqlite.specs.Held.{state};
+    ghost use Rattle.sqlite.specs.State.{HasCleanDisk};
+    ghost use Rattle.sqlite.specs.Steps.{over_memory};
+    ghost use Rattle.fab_sql.specs.NewDesk.{IsNewDesk};
+    ghost use Rattle.fab_sql.specs.Trees.{tables_of};
+
+    type Tables = FileTables;
+
+    type Memory = MemoryTables;
+
+    ghost finds = { λ machine path came. IfOk came (λ tables. HasCleanDisk (file_state tables.conn) → IsOpened tables.conn) };
+
+    ghost makes = { λ machine path came. IfOk came (λ tables. HasCleanDisk (file_state tables.conn) → IsNewDesk (tables_of (file_state tables.conn).now.trees)) };
+
+    ghost makes_in_memory = { λ machine came. IfOk came (λ tables. HasCleanDisk (state over_memory tables.conn) → IsNewDesk (tables_of (state over_memory tables.conn).now.trees)) };
+
+    fn tables_in(&self, path: &str) -> Result<FileTables, Fault> {
+        match File::open(self.rt, path) {
+            Ok(file) => drop(file),
+            Err(_) => return Err(Fault::File),
+        }
+        over(self.rt.alloc(), connected(self.rt, path))
+    }
+
+    fn new_tables_in(&self, path: &str) -> Result<FileTables, Fault> {
+        new_over(self.rt.alloc(), connected(self.rt, path))
+    }
+
+    fn new_tables(&self) -> Result<MemoryTables, Fault> {
+        let opened = match Connection::open_in_memory(self.rt.alloc()) {
+            Ok(conn) => Ok(conn),
+            Err(_) => Err(Fault::Memory),
+        };
+        new_over(self.rt.alloc(), opened)
+    }
+}
+
+impl<'r> Addresses for Machine<'r> {
+    ghost use Rattle.std.specs.Prelude.{⊤};
+
+    ghost listens = { λ machine address listener. ⊤ };
+
+    fn listen(&self, address: &str) -> Option<TcpListener> {
+        TcpListener::bind(self.rt, address).ok()
+    }
+}

@@ -1,0 +1,51 @@
+-- The lines on standard error that tell why the program could not do what was asked.
+use Rattle.std.specs.Prelude.{ℕ, List, [], ◌∷◌, codes, decimal}
+use Rattle.std.specs.List.{flat_map}
+use Rattle.fab_load.specs.declared.fault.Table.{Table}
+use Rattle.fab_load.specs.declared.fault.Table.TheVariants as table
+use Rattle.fab_program_outside.specs.declared.faults.Fault.{Fault}
+use Rattle.fab_program_outside.specs.declared.faults.Fault.TheVariants.{File, Policy, Store, Memory, Listen, Stream, Clock, Damaged, NewerSchema}
+
+-- the word that names the fault
+abbrev pub word_of : Fault → List ℕ
+word_of File = codes "file"
+word_of Policy = codes "policy"
+word_of Store = codes "store"
+word_of Memory = codes "memory"
+word_of Listen = codes "listen"
+word_of Stream = codes "stream"
+word_of Clock = codes "clock"
+word_of (Damaged t) = codes "damaged"
+word_of (NewerSchema n) = codes "newer-schema"
+
+abbrev pub table_name : Table → List ℕ
+table_name table.Meta = codes "meta"
+table_name table.Ports = codes "ports"
+table_name table.Holders = codes "holders"
+table_name table.Volumes = codes "volumes"
+table_name table.Zoning = codes "zoning"
+table_name table.Active = codes "active"
+table_name table.Groups = codes "groups"
+table_name table.GroupParts = codes "group_parts"
+table_name table.Plans = codes "plans"
+table_name table.Approvals = codes "approvals"
+table_name table.Undo = codes "undo"
+table_name table.Paths = codes "paths"
+
+-- a line of one word
+unfoldable pub word_line : List ℕ → List ℕ
+word_line word = flat_map (λ piece. piece) (codes "sandesk: " ∷ word ∷ codes "\n" ∷ [])
+
+-- a line of a word and what it is about
+unfoldable pub detail_line : List ℕ → List ℕ → List ℕ
+detail_line word detail = flat_map (λ piece. piece) (codes "sandesk: " ∷ word ∷ codes " " ∷ detail ∷ codes "\n" ∷ [])
+
+-- the line of a fault: its word, and behind it the damaged table or the newer schema
+abbrev pub line_of : Fault → List ℕ
+line_of (Damaged t) = detail_line (word_of (Damaged t)) (table_name t)
+line_of (NewerSchema n) = detail_line (word_of (NewerSchema n)) (decimal n)
+line_of other = word_line (word_of other)
+
+-- the line of words that have not their text form
+abbrev pub words_line : List ℕ
+words_line = word_line (codes "words")

@@ -1,0 +1,5 @@
+pub mod Coming
+pub mod Contents
+pub mod Faults
+pub mod Moments
+pub mod Telling

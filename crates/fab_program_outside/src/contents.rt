@@ -1,0 +1,101 @@
+//! What files contain.
+ghost use Rattle.std.specs.Prelude.{◌≡◌, ◌<◌, ◌↔◌, ◌^◌, IsTrue, length, MatchResult};
+ghost use Rattle.fab_program_outside.specs.Contents.{HasContent, HasFirst, IsReadFault, IsUnread, IsPolicyAt, IsPolicyFrom, IsPolicyOf, fault_of_policy};
+
+use crate::faults::Fault;
+use crate::files::Files;
+use fab_policy_base::{Policy, PolicyFault};
+use std::alloc::Global;
+use std::io::{ErrorKind, Read};
+use std::str;
+
+/// The greatest length of a policy's file, and of a port list's, in bytes.
+const MOST_FILE: u64 = 1_048_576;
+
+/// The bytes of a file, of which there is one more than a file may have where it has more.
+///
+/// # Errors
+/// `File` where it is not there, or cannot be opened or read; `Memory`.
+pub fn bytes_of<F: Files>(alloc: Global, files: &F, path: &str) -> Result<Vec<u8>, Fault>
+    ensures { MatchResult result (λ bytes. HasContent F.File.remaining (F.opens files.now path.now) bytes.items) (IsUnread (F.opens files.now path.now)) }
+{
+    match files.open(path) {
+        Some(file) => read_all(alloc, file),
+        None => Err(Fault::File),
+    }
+}
+
+/// What a reader gives, up to one byte more than a file may have.
+///
+/// # Errors
+/// `File` where a read fails; `Memory`.
+fn read_all<R: Read + Drop>(alloc: Global, reader: R) -> Result<Vec<u8>, Fault>
+    ensures { MatchResult result (λ bytes. HasFirst (R.remaining reader) bytes.items) IsReadFault }
+{
+    let mut bytes = Vec::new(alloc);
+    match reader.take(MOST_FILE + 1).read_to_end(&mut bytes) {
+        Ok(_) => Ok(bytes),
+        Err(error) if error.kind() == ErrorKind::OutOfMemory => Err(Fault::Memory),
+        Err(_) => Err(Fault::File),
+    }
+}
+
+/// Whether these are more bytes than a file may have.
+pub fn is_too_large(bytes: &[u8]) -> bool
+    ensures { IsTrue result ↔ (2 ^ 20 < length bytes.now) }
+{
+    bytes.len() as u64 > MOST_FILE
+}
+
+/// The policy that a file spells.
+///
+/// # Errors
+/// `File` where the file is not there, or cannot be opened or read; `Policy` where it has more than
+/// 1048576 bytes, or spells no policy; `Memory`.
+pub fn policy_of<F: Files>(alloc: Global, files: &F, path: &str) -> Result<Policy, Fault>
+    ensures { IsPolicyAt F.File.remaining (F.opens files.now path.now) result }
+{
+    match bytes_of(alloc, files, path) {
+        Ok(bytes) => policy_in(alloc, bytes.as_slice()),
+        Err(fault) => Err(fault),
+    }
+}
+
+/// The policy that the bytes of a file spell.
+///
+/// # Errors
+/// `Policy` where there are more than 1048576 of them, or they spell none; `Memory`.
+fn policy_in(alloc: Global, bytes: &[u8]) -> Result<Policy, Fault>
+    ensures { IsPolicyOf bytes.now result }
+{
+    if is_too_large(bytes) {
+        return Err(Fault::Policy);
+    }
+    match str::from_utf8(bytes) {
+        Ok(text) => policy_from(alloc, text),
+        Err(_no_text) => Err(Fault::Policy),
+    }
+}
+
+/// The policy that a text spells.
+///
+/// # Errors
+/// `Policy` where it spells none; `Memory`.
+pub fn policy_from(alloc: Global, text: &str) -> Result<Policy, Fault>
+    ensures { IsPolicyFrom text.now result }
+{
+    match Policy::read(alloc, text) {
+        Ok(policy) => Ok(policy),
+        Err(fault) => Err(of_policy(fault)),
+    }
+}
+
+/// The fault of a text from which no policy was read.
+fn of_policy(fault: PolicyFault) -> Fault
+    ensures { result ≡ fault_of_policy fault }
+{
+    match fault {
+        PolicyFault::Memory => Fault::Memory,
+        _ => Fault::Policy,
+    }
+}
