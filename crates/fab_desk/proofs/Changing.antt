@@ -1,5 +1,5 @@
 -- A request whose change is carried out is no read.
-use Rattle.std.proofs.Common.{◌≡◌, List, inl, inr, subst}
+use Rattle.std.proofs.Common.{◌≡◌, inl, inr, subst}
 use Rattle.fab_reach.specs.declared.book.Delta.{Delta}
 use Rattle.fab_policy_base.specs.Policies.{PolicyRows}
 use Rattle.fab_world.specs.Worlds.{WorldRows}

@@ -41,7 +41,7 @@ module _ {A : Type 0} (p : PolicyRows) (w next v : WorldRows) (q : Request A) (r
   RunsWith first = IsRun p w (cond first (q ∷ done_requests qs rs) (done_requests qs rs)) (cond first (r ∷ done_replies rs) (done_replies rs)) v
 
   not_done : is_done r ≡ false → next ≡ w → RunsWith (is_done r)
-  not_done no same = subst RunsWith (sym no) (subst (λ u. IsRun p u (done_requests qs rs) (done_replies rs) v) same rest)
+  not_done undone same = subst RunsWith (sym undone) (subst (λ u. IsRun p u (done_requests qs rs) (done_replies rs) v) same rest)
 
   run_more : (IsStep p w q r next → IsOfStep r) → IsAnsweredByDesk p w q r next → RunsWith (is_done r)
   run_more done (inl halted) = not_done (ap is_done halted.0) halted.1
@@ -71,6 +71,13 @@ module _ {A : Type 0} (q : Request A) (r : Reply A) (qs : List (Request A)) (rs 
 turned_away : {A : Type 0} (p : PolicyRows) (token : List ℕ) (r : Reply A) → IsTurnedAway p token r → r ≡ Refused fault.Store → ⊥
 turned_away p token r (inl nobody) is = let e = sym nobody.1 ∙ is in absurd cc
 turned_away p token r (inr halted) is = let e = sym halted.1 ∙ is in absurd cc
+
+module _ {A S : Type 0} (g : store.Ghosts S A) where
+  -- what a stop leaves, where the store refused a later one, or none
+  left_later : (p p' : PolicyRows) (w : WorldRows) (q : Request A) (r : Reply A) (qs : List (Request A)) (rs : List (Reply A)) (serving aside : Option S) → p' ≡ p → (r ≡ Refused fault.Store → (¬ IsRead q) → ⊥)
+      → IsLeftByStop g p' qs rs serving aside w → IsLeftByStop g p (q ∷ qs) (r ∷ rs) serving aside w
+  left_later p p' w q r qs rs serving aside same not (inl on) = inl on
+  left_later p p' w q r qs rs serving aside same not (inr (s, x, none, is, halted, doubt)) = inr (s, x, none, is, halted_later q r qs rs x not halted, subst (λ u. IsInDoubt g u w x s) same doubt)
 
 -- ---- a list of requests
 
@@ -143,12 +150,6 @@ module _ {A S B R : Type 0} (g : store.Ghosts S A) (done : (p : PolicyRows) (w :
         subst (λ w. IsInDoubt g p w q h.after) (sym kept) (h.doubt clean tied),
       )
 
-  -- and where it did not
-  left_later : (p p' : PolicyRows) (w : WorldRows) (q : Request A) (r : Reply A) (qs : List (Request A)) (rs : List (Reply A)) (serving aside : Option S) → p' ≡ p → (r ≡ Refused fault.Store → (¬ IsRead q) → ⊥)
-      → IsLeftByStop g p' qs rs serving aside w → IsLeftByStop g p (q ∷ qs) (r ∷ rs) serving aside w
-  left_later p p' w q r qs rs serving aside same not (inl on) = inl on
-  left_later p p' w q r qs rs serving aside same not (inr (s, x, none, is, halted, doubt)) = inr (s, x, none, is, halted_later q r qs rs x not halted, subst (λ u. IsInDoubt g u w x s) same doubt)
-
   pub left : (d e : Desk A S B R) (qs : List (Request A)) (rs : List (Reply A)) → AreHandled g d qs rs e → IsClean e → (s : S) → serving_of d ≡ Some s → IsTied g s (world_of d)
       → IsLeftByStop g (policy_of d) qs rs (serving_of e) (aside_of e) (world_of e)
   left d e [] [] h clean s is tied = inl (s, ap serving_of h ∙ is, subst (λ w. (t : Tables) → g.may_leave s t → HoldsWorld t w) (sym (ap world_of h)) tied.leaves)
@@ -159,7 +160,7 @@ module _ {A S B R : Type 0} (g : store.Ghosts S A) (done : (p : PolicyRows) (w :
       let served = h.1.served s is in
       let after = clean_after g (policy_of d) (world_of d) (world_of n) q r s (serving_of n) (aside_of n) served ((run n e qs rs h.2).clean clean) in
       elim served.kept [
-        | inl on ↦ left_later (policy_of d) (policy_of n) (world_of e) q r qs rs (serving_of e) (aside_of e) h.1.policy
+        | inl on ↦ left_later g (policy_of d) (policy_of n) (world_of e) q r qs rs (serving_of e) (aside_of e) h.1.policy
             (λ refused change. let none = sym on ∙ (served.halts refused).1 change in absurd cc)
             (left n e qs rs h.2 clean served.after on (served.tied after tied on))
         | inr off ↦ left_here d n e q r qs rs s served h.2 after tied off

@@ -38,7 +38,9 @@ fn newer_in(line: &MetaLine<Global>) -> Option<u64>
 {
     match line.read() {
         Some(MetaRow::Schema(schema)) => newer(schema),
-        Some(MetaRow::Revision(_)) | Some(MetaRow::Setting(_)) | None => None,
+        Some(MetaRow::Revision(_)) => None,
+        Some(MetaRow::Setting(_)) => None,
+        None => None,
     }
 }
 

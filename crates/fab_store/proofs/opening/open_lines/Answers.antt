@@ -1,4 +1,5 @@
-use Rattle.std.proofs.Common.{subst}
+use Rattle.std.proofs.Common.{sym, subst}
+use Rattle.std.proofs.lemmas.Bool.{both_ways}
 use Rattle.fab_store.specs.Loading.{HaveNamesOnce, TellNewer}
 use Rattle.fab_store.proofs.Written.{written, damaged, newer}
 use Rattle.fab_store.proofs.opening.open_lines.Goals as goal
@@ -15,4 +16,5 @@ returns-in-Ok-true-clause-fault g c =
     (subst HaveNamesOnce c.as_slice-in-Err-Damaged.ensures.value (c.in-Ok-true.ensures.0 c.in-Ok-true.field-0-test)) (rw c.in-Err-Damaged.field-0-is at c.in-Err-Damaged.ensures.err)
 
 pub returns-in-Ok-false-clause-twice : goal.returns-in-Ok-false-clause-twice
-returns-in-Ok-false-clause-twice g c is once = ?
+returns-in-Ok-false-clause-twice g c is once =
+    both_ways c.in-Ok-false.field-0 c.in-Ok-false.field-0-test (c.in-Ok-false.ensures.1 (subst HaveNamesOnce (sym c.as_slice-in-Err-Damaged.ensures.value) once))
