@@ -1,5 +1,5 @@
 //! What this machine has: SQLite databases, and sockets.
-ghost use Rattle.std.specs.Prelude.{◌≡◌, ◌⊎◌, false, IfOk, MatchResult};
+ghost use Rattle.std.specs.Prelude.{◌≡◌, ◌⊎◌, false, IfOk, IfErr};
 ghost use Rattle.sqlite.specs.Files.{file_state, IsOpened};
 ghost use Rattle.sqlite.specs.Held.{state};
 ghost use Rattle.sqlite.specs.State.{HasCleanDisk};
@@ -31,7 +31,8 @@ fn new_over<S: Alter + Drop>(
     opened: Result<Connection<S>, Fault>,
 ) -> Result<SqlStore<S>, Fault>
     requires { IfOk opened (λ conn. conn.in_transaction ≡ false) }
-    ensures made { MatchResult result (λ tables. HasCleanDisk (state S.Store tables.conn) → IsNewDesk (tables_of (state S.Store tables.conn).now.trees)) (λ fault. (opened ≡ Err fault) ⊎ (fault ≡ Fault.Store)) }
+    ensures made { IfOk result (λ tables. HasCleanDisk (state S.Store tables.conn) → IsNewDesk (tables_of (state S.Store tables.conn).now.trees)) }
+    ensures fault { IfErr result (λ fault. (opened ≡ Err fault) ⊎ (fault ≡ Fault.Store)) }
 {
     match opened {
         Ok(conn) => {
@@ -41,20 +42,6 @@ fn new_over<S: Alter + Drop>(
                 Err(_) => Err(Fault::Store),
             }
         }
-        Err(fault) => Err(fault),
-    }
-}
-
-/// The tables over a connection, if there is one, as they are.
-fn over<S: Alter + Drop>(
-    alloc: Global,
-    opened: Result<Connection<S>, Fault>,
-) -> Result<SqlStore<S>, Fault>
-    requires { IfOk opened (λ conn. conn.in_transaction ≡ false) }
-    ensures over { MatchResult result (λ tables. opened ≡ Ok tables.conn) (λ fault. opened ≡ Err fault) }
-{
-    match opened {
-        Ok(conn) => Ok(SqlStore::new(conn, alloc)),
         Err(fault) => Err(fault),
     }
 }
@@ -85,6 +72,19 @@ fn fault_of(error: &Error) -> Fault
     }
 }
 
+/// The tables of the database in a file, as they are.
+///
+/// # Errors
+/// As for `connected`.
+fn found(rt: &HostRuntime, path: &str) -> Result<FileTables, Fault>
+    ensures { IfOk result (λ tables. HasCleanDisk (file_state tables.conn) → IsOpened tables.conn) }
+{
+    match connected(rt, path) {
+        Ok(conn) => Ok(SqlStore::new(conn, rt.alloc())),
+        Err(fault) => Err(fault),
+    }
+}
+
 impl<'r> Databases for Machine<'r> {
     ghost use Rattle.std.specs.Prelude.{IfOk};
     ghost use Rattle.sqlite.specs.Files.{file_state, IsOpened};
@@ -109,7 +109,7 @@ impl<'r> Databases for Machine<'r> {
             Ok(file) => drop(file),
             Err(_) => return Err(Fault::File),
         }
-        over(self.rt.alloc(), connected(self.rt, path))
+        found(self.rt, path)
     }
 
     fn new_tables_in(&self, path: &str) -> Result<FileTables, Fault> {
