@@ -67,7 +67,7 @@ fn is_answered(rt: &(impl Abort + AllocGlobal), stream: TcpStream, answer: &[u8]
     }
 }
 
-fn listen(rt: &(impl Abort + Net<Listener = TcpListener>)) -> TcpListener {
+fn listen(rt: &(impl Abort + Net<Listener = TcpListener, Stream = TcpStream>)) -> TcpListener {
     let address = SocketAddr::from((Ipv4Addr::LOCALHOST, 0));
     TcpListener::bind(rt, address).expect(rt, "a listener")
 }
