@@ -123,8 +123,10 @@ def show(page, stage, path):
     stage.begin()
     page.call("Emulation.setDeviceMetricsOverride", width=1000, height=740, deviceScaleFactor=1, mobile=False)
     cases.open_plan(page, stage, "t-bob", "CHG7", "Hosts that change: 1")
-    page.picture(path, "main table")
-    print(f"{path}: {path.stat().st_size} bytes")
+    page.picture(path, ".scroll.picture")
+    size = path.stat().st_size
+    print(f"{path}: {size} bytes")
+    browser.check(size < 120000, f"the picture has {size} bytes")
 
 
 def arguments():
