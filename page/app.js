@@ -38,7 +38,7 @@ function decoded(word) {
 }
 
 function show() {
-  last = Date.now();
+  busy();
   desk.leave();
   dismiss();
   if (!desk.isSignedIn()) return signIn();

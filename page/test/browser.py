@@ -96,7 +96,7 @@ class Browser:
 
     def call(self, method, **parameters):
         """A call and its result. A page that asks whether it may be left is answered with yes meanwhile."""
-        wanted, until = self.send(method, parameters), time.time() + 120
+        wanted, until = self.send(method, parameters), time.time() + max(120, 3 * self.seconds)
         while time.time() < until:
             for told in self.heard():
                 if told.get("id") == wanted:

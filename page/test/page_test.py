@@ -1,14 +1,15 @@
 #!/usr/bin/env python3
 """The page in a real Chromium, over nginx, before the built desk.
 
-    python3 page/test/page_test.py [--wrong] [--large] [--pictures FOLDER] [--readme FILE] [CASE ..]
+    python3 page/test/page_test.py [--wrong] [--large] [--seconds N] [--pictures FOLDER] [--readme FILE] [CASE ..]
 
 Each case begins with a desk of the small world (`world.py`), under the rules of `examples/policy.toml`. SANDESK names
 another program than the one that is built in the repository. It needs Debian's `chromium` and `nginx` (or `nginx-light`),
 and Python. Where one of these is not there it says so, and all cases are left out.
 
---wrong          each case once more, over the wrong page of `wrong.py` that it has to refuse
+--wrong          each case over the wrong page of `wrong.py` that it has to refuse, in place of the page itself
 --large          figures for 1,024, 16,384 and 65,536 paths, which have to be drawn within two seconds
+--seconds        how long a text is waited for, 20 if it is not said; with --wrong a quarter of it
 --pictures       writes pictures of the views, and of what failed
 --readme         writes the picture of the README
 CASE             only these cases
@@ -43,7 +44,7 @@ AXE = """axe.run(document, { resultTypes: ['violations', 'incomplete'] }).then(i
 class Page(browser.Browser):
     """A browser whose views are audited by axe-core, where it is there."""
 
-    def __init__(self, axe, seconds=20):
+    def __init__(self, axe, seconds):
         super().__init__(seconds)
         self.is_whole = True
         self.audits = []
@@ -98,10 +99,10 @@ def play_all(page, stage, chosen, pictures):
     return failed
 
 
-def play_wrong(page, stage, chosen):
+def play_wrong(page, stage, chosen, _pictures):
     """Plays each case over its wrong page, and gives how many passed there."""
     taken = 0
-    page.seconds, page.is_whole = 4, False
+    page.seconds, page.is_whole = page.seconds / 4, False
     for function in chosen:
         edit = wrong.PAGES[function.__name__]
         begun, events = time.time(), len(page.events)
@@ -122,8 +123,10 @@ def show(page, stage, path):
     stage.begin()
     page.call("Emulation.setDeviceMetricsOverride", width=1000, height=740, deviceScaleFactor=1, mobile=False)
     cases.open_plan(page, stage, "t-bob", "CHG7", "Hosts that change: 1")
-    page.picture(path, "main table")
-    print(f"{path}: {path.stat().st_size} bytes")
+    page.picture(path, ".scroll.picture")
+    size = path.stat().st_size
+    print(f"{path}: {size} bytes")
+    browser.check(size < 120000, f"the picture has {size} bytes")
 
 
 def arguments():
@@ -131,6 +134,7 @@ def arguments():
     told = argparse.ArgumentParser(description=__doc__, formatter_class=argparse.RawDescriptionHelpFormatter)
     told.add_argument("--wrong", action="store_true")
     told.add_argument("--large", action="store_true")
+    told.add_argument("--seconds", type=float, default=20)
     told.add_argument("--pictures", type=pathlib.Path)
     told.add_argument("--readme", type=pathlib.Path)
     told.add_argument("cases", nargs="*", metavar="CASE")
@@ -160,17 +164,14 @@ def main():
     print(f"axe-core {version}" if axe else "axe-core is not in this Chromium: its audits are left out", flush=True)
     stage, page = stages.Stage(), None
     try:
-        page = Page(axe)
-        failed = play_all(page, stage, chosen, told.pictures)
+        page = Page(axe, told.seconds)
+        failed = (play_wrong if told.wrong else play_all)(page, stage, chosen, told.pictures)
         played = len(chosen)
         if told.readme:
             show(page, stage, told.readme)
         if told.large:
             failed += figures.measure(page, stage, told.pictures)
             played += figures.NUMBER
-        if told.wrong:
-            failed += play_wrong(page, stage, chosen)
-            played += len(chosen)
     finally:
         if page:
             page.close()
