@@ -20,26 +20,26 @@ const EXAMPLE: &str =
 [[callers]]
 name = "ada"
 token = "replace-this-by-a-long-random-text-1"
-roles = ["operator"]
+roles = ["operator", "reviewer"]
 tenants = "*"
 
 [[callers]]
 name = "bob"
 token = "replace-this-by-a-long-random-text-2"
-roles = ["operator", "approver"]
+roles = ["operator", "approver", "reviewer"]
 tenants = "*"
 
 [[callers]]
 name = "dan"
 token = "replace-this-by-a-long-random-text-3"
-roles = ["approver"]
+roles = ["approver", "reviewer"]
 tenants = "*"
 
 # A tenant's own administrator: sees and touches what belongs to `blue`.
 [[callers]]
 name = "cyd"
 token = "replace-this-by-a-long-random-text-4"
-roles = ["operator"]
+roles = ["operator", "reviewer"]
 tenants = ["blue"]
 
 # The fabrics' collector, which imports port lists and changes nothing else.
@@ -89,7 +89,7 @@ scope = "own"
 # Hosts, arrays, volumes and plans are the operators' work.
 [[rules]]
 name = "operators"
-actions = ["inventory", "stage", "withdraw", "dryrun", "activate", "rollback"]
+actions = ["inventory", "stage", "withdraw", "activate", "rollback"]
 role = "operator"
 
 # Only approvers approve.
@@ -120,6 +120,12 @@ window = "weekday-nights"
 approvals = 2
 approver = "approver"
 fresh = true
+
+# Who writes a plan and who approves it may see what it does, of all tenants: both are reviewers.
+[[rules]]
+name = "reviewers"
+actions = ["dryrun"]
+role = "reviewer"
 "#;
 
 /// A name of the test.
@@ -130,7 +136,7 @@ fn name(rt: &impl Abort, text: &str) -> Name {
 #[test]
 fn example_is_read(rt: HostRuntime) {
     let p = policy(&rt, EXAMPLE);
-    assert!(rt; (p.callers().len(), p.windows().len(), p.rules().len()) == (5, 1, 6));
+    assert!(rt; (p.callers().len(), p.windows().len(), p.rules().len()) == (5, 1, 7));
     let cyd = p
         .caller("replace-this-by-a-long-random-text-4")
         .expect(&rt, "cyd");
