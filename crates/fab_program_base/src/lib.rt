@@ -14,7 +14,8 @@ mod starting;
 mod tasks;
 
 pub use addresses::Addresses;
-pub use database::Databases;
+pub use database::{Databases, Memories};
 pub use fab_program_outside::{Fault, Files, Machine, Size};
+pub use machine::Heap;
 pub use running::{run, run_over};
 pub use starting::start;

@@ -8,7 +8,7 @@ ghost use Rattle.fab_sql.specs.Trees.{tables_of};
 ghost use Rattle.fab_program_base.specs.Tables.{opened_fault};
 
 use crate::addresses::Addresses;
-use crate::database::Databases;
+use crate::database::{Databases, Memories};
 use fab_program_outside::{Fault, Machine};
 use fab_store::SqlStore;
 use sqlite::{Alter, Connection, Error, ErrorCode, File as DatabaseFile, FileStore, MemStore};
@@ -88,21 +88,15 @@ fn found(rt: &HostRuntime, path: &str) -> Result<FileTables, Fault>
 impl<'r> Databases for Machine<'r> {
     ghost use Rattle.std.specs.Prelude.{IfOk};
     ghost use Rattle.sqlite.specs.Files.{file_state, IsOpened};
-    ghost use Rattle.sqlite.specs.Held.{state};
     ghost use Rattle.sqlite.specs.State.{HasCleanDisk};
-    ghost use Rattle.sqlite.specs.Steps.{over_memory};
     ghost use Rattle.fab_sql.specs.NewDesk.{IsNewDesk};
     ghost use Rattle.fab_sql.specs.Trees.{tables_of};
 
     type Tables = FileTables;
 
-    type Memory = MemoryTables;
-
     ghost finds = { λ machine path came. IfOk came (λ tables. HasCleanDisk (file_state tables.conn) → IsOpened tables.conn) };
 
     ghost makes = { λ machine path came. IfOk came (λ tables. HasCleanDisk (file_state tables.conn) → IsNewDesk (tables_of (file_state tables.conn).now.trees)) };
-
-    ghost makes_in_memory = { λ machine came. IfOk came (λ tables. HasCleanDisk (state over_memory tables.conn) → IsNewDesk (tables_of (state over_memory tables.conn).now.trees)) };
 
     fn tables_in(&self, path: &str) -> Result<FileTables, Fault> {
         match File::open(self.rt, path) {
@@ -115,13 +109,30 @@ impl<'r> Databases for Machine<'r> {
     fn new_tables_in(&self, path: &str) -> Result<FileTables, Fault> {
         new_over(self.rt.alloc(), connected(self.rt, path))
     }
+}
 
-    fn new_tables(&self) -> Result<MemoryTables, Fault> {
-        let opened = match Connection::open_in_memory(self.rt.alloc()) {
+/// The memory of this machine.
+#[derive(Clone, Copy)]
+pub struct Heap;
+
+impl Memories for Heap {
+    ghost use Rattle.std.specs.Prelude.{IfOk};
+    ghost use Rattle.sqlite.specs.Held.{state};
+    ghost use Rattle.sqlite.specs.State.{HasCleanDisk};
+    ghost use Rattle.sqlite.specs.Steps.{over_memory};
+    ghost use Rattle.fab_sql.specs.NewDesk.{IsNewDesk};
+    ghost use Rattle.fab_sql.specs.Trees.{tables_of};
+
+    type Memory = MemoryTables;
+
+    ghost makes_in_memory = { λ heap came. IfOk came (λ tables. HasCleanDisk (state over_memory tables.conn) → IsNewDesk (tables_of (state over_memory tables.conn).now.trees)) };
+
+    fn new_tables(&self, alloc: Global) -> Result<MemoryTables, Fault> {
+        let opened = match Connection::open_in_memory(alloc) {
             Ok(conn) => Ok(conn),
             Err(_) => Err(Fault::Memory),
         };
-        new_over(self.rt.alloc(), opened)
+        new_over(alloc, opened)
     }
 }
 
