@@ -111,11 +111,14 @@ impl<'r> Databases for Machine<'r> {
     }
 }
 
-/// The memory of this machine.
+/// The memory of this machine, from where it comes.
 #[derive(Clone, Copy)]
-pub struct Heap;
+pub struct Heap<A> {
+    /// Where it comes from.
+    pub alloc: A,
+}
 
-impl Memories for Heap {
+impl<A: Copy> Memories for Heap<A> {
     ghost use Rattle.std.specs.Prelude.{IfOk};
     ghost use Rattle.sqlite.specs.Held.{state};
     ghost use Rattle.sqlite.specs.State.{HasCleanDisk};

@@ -50,7 +50,7 @@ pub fn run<N: FnMut() -> Option<u64>, R: Read + Drop, W: Write + Drop, E: Write>
     run_over(
         rt,
         &Machine { rt },
-        &Heap,
+        &Heap { alloc: rt.alloc() },
         words,
         now,
         reader,
