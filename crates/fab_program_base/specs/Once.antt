@@ -18,7 +18,6 @@ use Rattle.fab_program_base.specs.Databases.{IsDeskOver}
 use Rattle.fab_program_base.specs.Desks.{ProgramDesk}
 use Rattle.fab_program_base.specs.Exits.{ended}
 use Rattle.fab_program_base.specs.declared.database.Databases as databases
-use Rattle.fab_program_base.specs.declared.database.Memories as memories
 
 -- it ends as the outcome says, and the writer that is handed back has what was sent
 abbrev pub EndsSo : {W : Type 0} → (W → Option (List ℕ)) → Side → Outcome → Result (W × End) Fault → Type 0
@@ -40,14 +39,14 @@ module _ {S Reader Writer : Type 0} (g : store.Ghosts S Global) (remaining : Rea
   abbrev pub IsServedOver : S → PolicyRows → Result ℕ Fault → Reader → Writer → Result (Writer × End) Fault → Type 0
   IsServedOver s policy moment reader writer came = Then (IsDeskOver g s policy) (λ d. IsServedAt d moment reader writer) came
 
-module _ {O H F T M Reader Writer : Type 0} (f : files.Ghosts O F) (known : F → Option (List ℕ)) (d : databases.Ghosts O T) (t : store.Ghosts T Global) (n : memories.Ghosts H M) (m : store.Ghosts M Global)
+module _ {O F T M Reader Writer : Type 0} (f : files.Ghosts O F) (known : F → Option (List ℕ)) (d : databases.Ghosts O T) (t : store.Ghosts T Global) (Makes : Result M Fault → Type 0) (m : store.Ghosts M Global)
     (remaining : Reader → Option (List ℕ)) (contents : Writer → Option (List ℕ)) where
   -- over a new desk in memory under the sample policy, or under the policy of a file, or over the desk of a database's file
   -- under the policy of a file
-  abbrev pub ComesOnce : O → H → Over → Result ℕ Fault → Reader → Writer → Result (Writer × End) Fault → Type 0
-  ComesOnce outside heap over.Trial moment reader writer came =
-      Then (IsPolicyFrom TRIAL_POLICY.now) (λ p. Then (n.makes_in_memory heap) (λ s. IsServedOver m remaining contents s p moment reader writer)) came
-  ComesOnce outside heap (over.Memory policy) moment reader writer came =
-      Then (IsPolicyAt known (f.opens outside policy.now)) (λ p. Then (n.makes_in_memory heap) (λ s. IsServedOver m remaining contents s p moment reader writer)) came
-  ComesOnce outside heap (over.Database policy db) moment reader writer came =
+  abbrev pub ComesOnce : O → Over → Result ℕ Fault → Reader → Writer → Result (Writer × End) Fault → Type 0
+  ComesOnce outside over.Trial moment reader writer came =
+      Then (IsPolicyFrom TRIAL_POLICY.now) (λ p. Then Makes (λ s. IsServedOver m remaining contents s p moment reader writer)) came
+  ComesOnce outside (over.Memory policy) moment reader writer came =
+      Then (IsPolicyAt known (f.opens outside policy.now)) (λ p. Then Makes (λ s. IsServedOver m remaining contents s p moment reader writer)) came
+  ComesOnce outside (over.Database policy db) moment reader writer came =
       Then (IsPolicyAt known (f.opens outside policy.now)) (λ p. Then (d.finds outside db.now) (λ s. IsServedOver t remaining contents s p moment reader writer)) came

@@ -40,22 +40,6 @@ pub trait Databases {
         ensures { makes self.now path.now result };
 }
 
-/// Where the tables of new desks are made in memory.
-pub trait Memories {
-    /// The tables of a desk in memory.
-    type Memory: Store<Global>;
-
-    // What came of making the tables of a new desk in memory.
-    ghost makes_in_memory: { Self → Result Self.Memory Fault → Type 0 };
-
-    /// The tables of a new desk in memory.
-    ///
-    /// # Errors
-    /// `Memory`; `Store` where they could not be made.
-    fn new_tables(&self, alloc: Global) -> Result<Self::Memory, Fault>
-        ensures { makes_in_memory self.now result };
-}
-
 /// The tables at a path, for a desk that is opened again.
 ///
 /// # Errors

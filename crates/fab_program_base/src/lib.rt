@@ -14,8 +14,7 @@ mod starting;
 mod tasks;
 
 pub use addresses::Addresses;
-pub use database::{Databases, Memories};
+pub use database::Databases;
 pub use fab_program_outside::{Fault, Files, Machine, Size};
-pub use machine::Heap;
 pub use running::{run, run_over};
 pub use starting::start;

@@ -1,5 +1,10 @@
 //! What the words of the command line ask for, and the exit status.
-ghost use Rattle.std.specs.Prelude.{◌≡◌, ◌<◌, map, string_bytes};
+ghost use Rattle.std.specs.Prelude.{◌≡◌, ◌<◌, IfOk, map, string_bytes};
+ghost use Rattle.sqlite.specs.Held.{state};
+ghost use Rattle.sqlite.specs.State.{HasCleanDisk};
+ghost use Rattle.sqlite.specs.Steps.{over_memory};
+ghost use Rattle.fab_sql.specs.NewDesk.{IsNewDesk};
+ghost use Rattle.fab_sql.specs.Trees.{tables_of};
 ghost use Rattle.fab_json.specs.Sinks.{Wrote, WroteSome};
 ghost use Rattle.fab_words.specs.Asking.{Asks};
 ghost use Rattle.fab_words.specs.declared.words.Words.{Words};
@@ -8,14 +13,16 @@ ghost use Rattle.fab_program_base.specs.Runs.{Comes, IsToldOf, IsToldOfWords};
 
 use crate::addresses::Addresses;
 use crate::commands::{dry_run, export, import, paths, report};
-use crate::database::{Databases, Memories, make};
-use crate::machine::Heap;
+use crate::database::{Databases, make};
 use crate::once::once;
 use crate::serving::serve;
 use fab_json::counted::Counted;
 use fab_printing::End;
 use fab_program_outside::{Fault, Files, Machine, fail, moment_of, refuse_text};
+use fab_store::{SqlStore, Store};
 use fab_words::{Words, WordsFault, read_words};
+use sqlite::MemStore;
+use std::alloc::Global;
 use std::io::{Read, Write};
 
 /// The exit status of what was done.
@@ -47,16 +54,7 @@ pub fn run<N: FnMut() -> Option<u64>, R: Read + Drop, W: Write + Drop, E: Write>
     ensures wrong { result ≡ 2 → (w : Words) → ¬ Asks (map string_bytes words.now) w }
 {
     let mut errors = Counted::new(errors);
-    run_over(
-        rt,
-        &Machine { rt },
-        &Heap { alloc: rt.alloc() },
-        words,
-        now,
-        reader,
-        writer,
-        &mut errors,
-    )
+    run_over(rt, &Machine { rt }, words, now, reader, writer, &mut errors)
 }
 
 /// Runs the program over any files, databases and addresses.
@@ -65,7 +63,6 @@ pub fn run<N: FnMut() -> Option<u64>, R: Read + Drop, W: Write + Drop, E: Write>
 /// it is the status, and a fault has its line.
 pub fn run_over<
     O: Files + Databases + Addresses,
-    H: Memories,
     N: FnMut() -> Option<u64>,
     R: Read + Drop,
     W: Write + Drop,
@@ -73,7 +70,6 @@ pub fn run_over<
 >(
     rt: &HostRuntime,
     outside: &O,
-    heap: &H,
     words: &[String],
     now: N,
     reader: R,
@@ -88,7 +84,7 @@ pub fn run_over<
     match read_words(rt.alloc(), words) {
         Ok(asked) => {
             let mut now = now;
-            let came = carry_out(rt, outside, heap, &asked, &mut now, reader, writer);
+            let came = carry_out(rt, outside, &asked, &mut now, reader, writer);
             exit_of(errors, came)
         }
         Err(fault) => refuse_words(errors, fault),
@@ -99,21 +95,19 @@ pub fn run_over<
 /// clock's, and the others with no moment.
 fn carry_out<
     O: Files + Databases + Addresses,
-    H: Memories,
     N: FnMut() -> Option<u64>,
     R: Read + Drop,
     W: Write + Drop,
 >(
     rt: &HostRuntime,
     outside: &O,
-    heap: &H,
     asked: &Words<'_>,
     now: &mut N,
     reader: R,
     writer: W,
 ) -> Result<End, Fault>
     requires { (state : N) → N.pre state }
-    ensures { Comes O.Files O.File.remaining O.Databases O.Addresses O.Tables.Store H.Memories H.Memory.Store R.remaining W.contents (λ told. N.step now.old told now.new) outside.now heap.now asked.now reader writer result }
+    ensures { Comes O.Files O.File.remaining O.Databases O.Addresses O.Tables.Store (λ made. IfOk made (λ tables. HasCleanDisk (state over_memory tables.conn) → IsNewDesk (tables_of (state over_memory tables.conn).now.trees))) ⟦<SqlStore<MemStore> as Store<Global>>⟧ R.remaining W.contents (λ told. N.step now.old told now.new) outside.now asked.now reader writer result }
 {
     let alloc = rt.alloc();
     match asked {
@@ -121,7 +115,7 @@ fn carry_out<
         Words::Serve(asked) => serve(rt, outside, asked, now, writer),
         Words::Once(asked) => {
             let moment = moment_of(asked.now, now);
-            without_writer(once(alloc, outside, heap, asked, moment, reader, writer))
+            without_writer(once(alloc, outside, asked, moment, reader, writer))
         }
         Words::Import(asked) => {
             let moment = moment_of(asked.now, now);
