@@ -6,6 +6,6 @@ pub begun : (P : Option (List ℕ) → ℕ → Option (List ℕ) → ℕ → Typ
     → read ≡ read' → failed ≡ failed' → sent ≡ sent' → unsent ≡ unsent' → P read failed sent unsent → P read' failed' sent' unsent'
 begun P read read' failed failed' sent sent' unsent unsent' a b c d h =
     subst (λ (x : Option (List ℕ)). P x failed' sent' unsent') a
-      (subst (λ (x : ℕ). P read x sent' unsent') b
-        (subst (λ (x : Option (List ℕ)). P read failed x unsent') c
-          (subst (λ (x : ℕ). P read failed sent x) d h)))
+    (subst (λ (x : ℕ). P read x sent' unsent') b
+    (subst (λ (x : Option (List ℕ)). P read failed x unsent') c
+    (subst (λ (x : ℕ). P read failed sent x) d h)))

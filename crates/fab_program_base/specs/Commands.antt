@@ -25,20 +25,20 @@ abbrev pub IsReadAt : {F : Type 0} → (F → Option (List ℕ)) → (Option F �
 IsReadAt known Opens (Ok bytes) = HasContent known Opens bytes
 IsReadAt known Opens (Err fault) = IsUnread Opens fault
 
-module _ {O T M W : Type 0} (d : databases.Ghosts O T M) (t : store.Ghosts T Global)
+module _ {O T W : Type 0} (d : databases.Ghosts O T) (t : store.Ghosts T Global)
     (Answers : ProgramDesk T → ℕ → Answer Global → ProgramDesk T → Type 0) (contents : W → Option (List ℕ)) (form : Form) where
   -- the tables at a path are opened, and then the desk over them answers
   abbrev pub ComesIn : O → List ℕ → PolicyRows → Result ℕ Fault → W → Result (W × End) Fault → Type 0
   ComesIn outside db policy moment writer came = Then (d.finds outside db) (λ s. ComesOver t Answers contents form s policy moment writer) came
 
-module _ {O F T M W : Type 0} (f : files.Ghosts O F) (known : F → Option (List ℕ)) (d : databases.Ghosts O T M) (t : store.Ghosts T Global)
+module _ {O F T W : Type 0} (f : files.Ghosts O F) (known : F → Option (List ℕ)) (d : databases.Ghosts O T) (t : store.Ghosts T Global)
     (Answers : ProgramDesk T → ℕ → Answer Global → ProgramDesk T → Type 0) (contents : W → Option (List ℕ)) (form : Form) where
   -- the policy of the caller's file is read, and then the desk of the database answers under it
   abbrev pub ComesBy : O → Access → Result ℕ Fault → W → Result (W × End) Fault → Type 0
   ComesBy outside access moment writer came =
       Then (IsPolicyAt known (f.opens outside access.policy.now)) (λ p. ComesIn d t Answers contents form outside access.db.now p moment writer) came
 
-module _ {O F T M W : Type 0} (f : files.Ghosts O F) (known : F → Option (List ℕ)) (d : databases.Ghosts O T M) (t : store.Ghosts T Global)
+module _ {O F T W : Type 0} (f : files.Ghosts O F) (known : F → Option (List ℕ)) (d : databases.Ghosts O T) (t : store.Ghosts T Global)
     (contents : W → Option (List ℕ)) where
   -- the plan that is asked for is tried at the moment, and the reply's JSON is printed
   abbrev pub DryRunComes : O → DryRun → Result ℕ Fault → W → Result (W × End) Fault → Type 0

@@ -39,14 +39,14 @@ module _ {S Reader Writer : Type 0} (g : store.Ghosts S Global) (remaining : Rea
   abbrev pub IsServedOver : S → PolicyRows → Result ℕ Fault → Reader → Writer → Result (Writer × End) Fault → Type 0
   IsServedOver s policy moment reader writer came = Then (IsDeskOver g s policy) (λ d. IsServedAt d moment reader writer) came
 
-module _ {O F T M Reader Writer : Type 0} (f : files.Ghosts O F) (known : F → Option (List ℕ)) (d : databases.Ghosts O T M) (t : store.Ghosts T Global) (m : store.Ghosts M Global)
+module _ {O F T M Reader Writer : Type 0} (f : files.Ghosts O F) (known : F → Option (List ℕ)) (d : databases.Ghosts O T) (t : store.Ghosts T Global) (Makes : Result M Fault → Type 0) (m : store.Ghosts M Global)
     (remaining : Reader → Option (List ℕ)) (contents : Writer → Option (List ℕ)) where
   -- over a new desk in memory under the sample policy, or under the policy of a file, or over the desk of a database's file
   -- under the policy of a file
   abbrev pub ComesOnce : O → Over → Result ℕ Fault → Reader → Writer → Result (Writer × End) Fault → Type 0
   ComesOnce outside over.Trial moment reader writer came =
-      Then (IsPolicyFrom TRIAL_POLICY.now) (λ p. Then (d.makes_in_memory outside) (λ s. IsServedOver m remaining contents s p moment reader writer)) came
+      Then (IsPolicyFrom TRIAL_POLICY.now) (λ p. Then Makes (λ s. IsServedOver m remaining contents s p moment reader writer)) came
   ComesOnce outside (over.Memory policy) moment reader writer came =
-      Then (IsPolicyAt known (f.opens outside policy.now)) (λ p. Then (d.makes_in_memory outside) (λ s. IsServedOver m remaining contents s p moment reader writer)) came
+      Then (IsPolicyAt known (f.opens outside policy.now)) (λ p. Then Makes (λ s. IsServedOver m remaining contents s p moment reader writer)) came
   ComesOnce outside (over.Database policy db) moment reader writer came =
       Then (IsPolicyAt known (f.opens outside policy.now)) (λ p. Then (d.finds outside db.now) (λ s. IsServedOver t remaining contents s p moment reader writer)) came

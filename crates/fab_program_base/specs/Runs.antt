@@ -42,15 +42,15 @@ EndsLike {W} Came ended = (done : Result (W × End) Fault) × Came done × (ende
 abbrev pub EndsAt : {W : Type 0} → Option ℕ → (Option ℕ → Type 0) → (Result ℕ Fault → Result (W × End) Fault → Type 0) → Result End Fault → Type 0
 EndsAt given Tells Came ended = (moment : Result ℕ Fault) × IsMoment given Tells moment × EndsLike (Came moment) ended
 
-module _ {O F T M Reader Writer : Type 0} (f : files.Ghosts O F) (known : F → Option (List ℕ)) (d : databases.Ghosts O T M) (a : addresses.Ghosts O)
-    (t : store.Ghosts T Global) (m : store.Ghosts M Global) (remaining : Reader → Option (List ℕ)) (contents : Writer → Option (List ℕ)) (Tells : Option ℕ → Type 0) where
+module _ {O F T M Reader Writer : Type 0} (f : files.Ghosts O F) (known : F → Option (List ℕ)) (d : databases.Ghosts O T) (a : addresses.Ghosts O)
+    (t : store.Ghosts T Global) (Makes : Result M Fault → Type 0) (m : store.Ghosts M Global) (remaining : Reader → Option (List ℕ)) (contents : Writer → Option (List ℕ)) (Tells : Option ℕ → Type 0) where
   -- what each subcommand comes to
   abbrev pub Comes : O → Words → Reader → Writer → Result End Fault → Type 0
   Comes outside (words.Init asked) reader writer ended =
       (made : Result (Unit {0}) Fault) × IsMade (f.measures outside asked.db.now) (d.makes outside asked.db.now) made × (ended ≡ end_of_making made)
   Comes outside (words.Serve asked) reader writer ended = ComesServing f known d a t outside asked ended
   Comes outside (words.Once asked) reader writer ended =
-      EndsAt asked.now Tells (λ moment. ComesOnce f known d t m remaining contents outside asked.over moment reader writer) ended
+      EndsAt asked.now Tells (λ moment. ComesOnce f known d t Makes m remaining contents outside asked.over moment reader writer) ended
   Comes outside (words.Import asked) reader writer ended = EndsAt asked.now Tells (λ moment. ImportComes f known d t contents outside asked moment writer) ended
   Comes outside (words.Paths asked) reader writer ended = EndsLike (ShowComes f known d t contents outside asked.access (query.Paths asked.host) form.Paths writer) ended
   Comes outside (words.Report asked) reader writer ended = EndsLike (ShowComes f known d t contents outside asked.access (query.Paths asked.host) form.Report writer) ended

@@ -36,7 +36,7 @@ module _ {S : Type 0} (Listens : Option TcpListener → Type 0) (g : store.Ghost
   abbrev pub IsServedOver : S → PolicyRows → Result End Fault → Type 0
   IsServedOver s policy came = Then (IsDeskOver g s policy) (λ d. IsServedBy Listens) came
 
-module _ {O F T M : Type 0} (f : files.Ghosts O F) (known : F → Option (List ℕ)) (d : databases.Ghosts O T M) (a : addresses.Ghosts O) (t : store.Ghosts T Global) where
+module _ {O F T : Type 0} (f : files.Ghosts O F) (known : F → Option (List ℕ)) (d : databases.Ghosts O T) (a : addresses.Ghosts O) (t : store.Ghosts T Global) where
   -- the policy is read; then the tables are opened, and a desk over them; then the address is listened at
   abbrev pub ComesServing : O → Serve → Result End Fault → Type 0
   ComesServing outside asked came =

@@ -18,17 +18,11 @@ pub trait Databases {
     /// The tables of a desk in a file.
     type Tables: Store<Global>;
 
-    /// The tables of a desk in memory.
-    type Memory: Store<Global>;
-
     // What came of opening the tables at a path, where they have to be.
     ghost finds: { Self → List ℕ → Result Self.Tables Fault → Type 0 };
 
     // What came of making the tables of a new desk at a path.
     ghost makes: { Self → List ℕ → Result Self.Tables Fault → Type 0 };
-
-    // What came of making the tables of a new desk in memory.
-    ghost makes_in_memory: { Self → Result Self.Memory Fault → Type 0 };
 
     /// The tables at a path, where they have to be.
     ///
@@ -44,13 +38,6 @@ pub trait Databases {
     /// As for `tables_in`, and `Store` where they could not be made: there is none of them then.
     fn new_tables_in(&self, path: &str) -> Result<Self::Tables, Fault>
         ensures { makes self.now path.now result };
-
-    /// The tables of a new desk in memory.
-    ///
-    /// # Errors
-    /// `Memory`; `Store` where they could not be made.
-    fn new_tables(&self) -> Result<Self::Memory, Fault>
-        ensures { makes_in_memory self.now result };
 }
 
 /// The tables at a path, for a desk that is opened again.

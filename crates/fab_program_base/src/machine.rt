@@ -3,6 +3,7 @@ ghost use Rattle.std.specs.Prelude.{◌≡◌, ◌⊎◌, false, IfOk, IfErr};
 ghost use Rattle.sqlite.specs.Files.{file_state, IsOpened};
 ghost use Rattle.sqlite.specs.Held.{state};
 ghost use Rattle.sqlite.specs.State.{HasCleanDisk};
+ghost use Rattle.sqlite.specs.Steps.{over_memory};
 ghost use Rattle.fab_sql.specs.NewDesk.{IsNewDesk};
 ghost use Rattle.fab_sql.specs.Trees.{tables_of};
 ghost use Rattle.fab_program_base.specs.Tables.{opened_fault};
@@ -20,7 +21,7 @@ use std::net::TcpListener;
 type FileTables = SqlStore<FileStore<DatabaseFile>>;
 
 /// The tables in memory.
-type MemoryTables = SqlStore<MemStore>;
+pub type MemoryTables = SqlStore<MemStore>;
 
 /// The tables of a new desk over a connection, if there is one.
 ///
@@ -72,6 +73,19 @@ fn fault_of(error: &Error) -> Fault
     }
 }
 
+/// The tables of a new desk in memory.
+///
+/// # Errors
+/// `Memory`; `Store` where they could not be made.
+pub fn new_tables(alloc: Global) -> Result<MemoryTables, Fault>
+    ensures { IfOk result (λ tables. HasCleanDisk (state over_memory tables.conn) → IsNewDesk (tables_of (state over_memory tables.conn).now.trees)) }
+{
+    match Connection::open_in_memory(alloc) {
+        Ok(conn) => new_over(alloc, Ok(conn)),
+        Err(_) => Err(Fault::Memory),
+    }
+}
+
 /// The tables of the database in a file, as they are.
 ///
 /// # Errors
@@ -88,21 +102,15 @@ fn found(rt: &HostRuntime, path: &str) -> Result<FileTables, Fault>
 impl<'r> Databases for Machine<'r> {
     ghost use Rattle.std.specs.Prelude.{IfOk};
     ghost use Rattle.sqlite.specs.Files.{file_state, IsOpened};
-    ghost use Rattle.sqlite.specs.Held.{state};
     ghost use Rattle.sqlite.specs.State.{HasCleanDisk};
-    ghost use Rattle.sqlite.specs.Steps.{over_memory};
     ghost use Rattle.fab_sql.specs.NewDesk.{IsNewDesk};
     ghost use Rattle.fab_sql.specs.Trees.{tables_of};
 
     type Tables = FileTables;
 
-    type Memory = MemoryTables;
-
     ghost finds = { λ machine path came. IfOk came (λ tables. HasCleanDisk (file_state tables.conn) → IsOpened tables.conn) };
 
     ghost makes = { λ machine path came. IfOk came (λ tables. HasCleanDisk (file_state tables.conn) → IsNewDesk (tables_of (file_state tables.conn).now.trees)) };
-
-    ghost makes_in_memory = { λ machine came. IfOk came (λ tables. HasCleanDisk (state over_memory tables.conn) → IsNewDesk (tables_of (state over_memory tables.conn).now.trees)) };
 
     fn tables_in(&self, path: &str) -> Result<FileTables, Fault> {
         match File::open(self.rt, path) {
@@ -114,14 +122,6 @@ impl<'r> Databases for Machine<'r> {
 
     fn new_tables_in(&self, path: &str) -> Result<FileTables, Fault> {
         new_over(self.rt.alloc(), connected(self.rt, path))
-    }
-
-    fn new_tables(&self) -> Result<MemoryTables, Fault> {
-        let opened = match Connection::open_in_memory(self.rt.alloc()) {
-            Ok(conn) => Ok(conn),
-            Err(_) => Err(Fault::Memory),
-        };
-        new_over(self.rt.alloc(), opened)
     }
 }
 

@@ -1,19 +1,26 @@
 //! One request from standard input, answered on standard output.
-ghost use Rattle.std.specs.Prelude.{◌≡◌};
+ghost use Rattle.std.specs.Prelude.{◌≡◌, IfOk};
+ghost use Rattle.sqlite.specs.Held.{state};
+ghost use Rattle.sqlite.specs.State.{HasCleanDisk};
+ghost use Rattle.sqlite.specs.Steps.{over_memory};
+ghost use Rattle.fab_sql.specs.NewDesk.{IsNewDesk};
+ghost use Rattle.fab_sql.specs.Trees.{tables_of};
 ghost use Rattle.fab_program_outside.specs.Coming.{After, Then};
 ghost use Rattle.fab_program_base.specs.Databases.{IsDeskOver};
 ghost use Rattle.fab_program_base.specs.Exits.{ended};
 ghost use Rattle.fab_program_base.specs.Once.{ComesOnce, IsServedAt, IsServedOver, ServesIt};
 
 use crate::database::{Databases, ProgramDesk, desk_over};
+use crate::machine::new_tables;
 use fab_json::counted::Counted;
 use fab_policy_base::{Policy, TRIAL_POLICY};
 use fab_printing::End;
 use fab_program_outside::{Fault, Files, policy_from, policy_of};
-use fab_store::Store;
+use fab_store::{SqlStore, Store};
 use fab_wire::{Outcome, serve_one};
 use fab_wire_base::routes::Routes;
 use fab_words::{Once, Over};
+use sqlite::MemStore;
 use std::alloc::Global;
 use std::io::{Read, Write};
 
@@ -29,16 +36,16 @@ pub fn once<O: Files + Databases, R: Read + Drop, W: Write + Drop>(
     reader: R,
     writer: W,
 ) -> Result<(W, End), Fault>
-    ensures { ComesOnce O.Files O.File.remaining O.Databases O.Tables.Store O.Memory.Store R.remaining W.contents outside.now asked.entry.now.over moment reader writer result }
+    ensures { ComesOnce O.Files O.File.remaining O.Databases O.Tables.Store (λ made. IfOk made (λ tables. HasCleanDisk (state over_memory tables.conn) → IsNewDesk (tables_of (state over_memory tables.conn).now.trees))) ⟦<SqlStore<MemStore> as Store<Global>>⟧ R.remaining W.contents outside.now asked.entry.now.over moment reader writer result }
 {
     match &asked.over {
         Over::Trial => {
             let policy = policy_from(alloc, TRIAL_POLICY);
-            once_in_memory(alloc, outside, policy, moment, reader, writer)
+            once_in_memory(alloc, policy, moment, reader, writer)
         }
         Over::Memory { policy } => {
             let policy = policy_of(alloc, outside, policy);
-            once_in_memory(alloc, outside, policy, moment, reader, writer)
+            once_in_memory(alloc, policy, moment, reader, writer)
         }
         Over::Database { policy, db } => {
             let policy = policy_of(alloc, outside, policy);
@@ -48,18 +55,17 @@ pub fn once<O: Files + Databases, R: Read + Drop, W: Write + Drop>(
 }
 
 /// Answers one request over a new desk in memory, if there is a policy.
-fn once_in_memory<O: Databases, R: Read + Drop, W: Write + Drop>(
+fn once_in_memory<R: Read + Drop, W: Write + Drop>(
     alloc: Global,
-    outside: &O,
     policy: Result<Policy, Fault>,
     moment: Result<u64, Fault>,
     reader: R,
     writer: W,
 ) -> Result<(W, End), Fault>
-    ensures { After policy (λ p. Then (O.makes_in_memory outside.now) (λ s. IsServedOver O.Memory.Store R.remaining W.contents s p moment reader writer)) result }
+    ensures { After policy (λ p. Then (λ made. IfOk made (λ tables. HasCleanDisk (state over_memory tables.conn) → IsNewDesk (tables_of (state over_memory tables.conn).now.trees))) (λ s. IsServedOver ⟦<SqlStore<MemStore> as Store<Global>>⟧ R.remaining W.contents s p moment reader writer)) result }
 {
     match policy {
-        Ok(policy) => once_over(alloc, outside.new_tables(), policy, moment, reader, writer),
+        Ok(policy) => once_over(alloc, new_tables(alloc), policy, moment, reader, writer),
         Err(fault) => Err(fault),
     }
 }

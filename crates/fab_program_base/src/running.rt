@@ -1,5 +1,10 @@
 //! What the words of the command line ask for, and the exit status.
-ghost use Rattle.std.specs.Prelude.{◌≡◌, ◌<◌, map, string_bytes};
+ghost use Rattle.std.specs.Prelude.{◌≡◌, ◌<◌, IfOk, map, string_bytes};
+ghost use Rattle.sqlite.specs.Held.{state};
+ghost use Rattle.sqlite.specs.State.{HasCleanDisk};
+ghost use Rattle.sqlite.specs.Steps.{over_memory};
+ghost use Rattle.fab_sql.specs.NewDesk.{IsNewDesk};
+ghost use Rattle.fab_sql.specs.Trees.{tables_of};
 ghost use Rattle.fab_json.specs.Sinks.{Wrote, WroteSome};
 ghost use Rattle.fab_words.specs.Asking.{Asks};
 ghost use Rattle.fab_words.specs.declared.words.Words.{Words};
@@ -14,7 +19,10 @@ use crate::serving::serve;
 use fab_json::counted::Counted;
 use fab_printing::End;
 use fab_program_outside::{Fault, Files, Machine, fail, moment_of, refuse_text};
+use fab_store::{SqlStore, Store};
 use fab_words::{Words, WordsFault, read_words};
+use sqlite::MemStore;
+use std::alloc::Global;
 use std::io::{Read, Write};
 
 /// The exit status of what was done.
@@ -99,7 +107,7 @@ fn carry_out<
     writer: W,
 ) -> Result<End, Fault>
     requires { (state : N) → N.pre state }
-    ensures { Comes O.Files O.File.remaining O.Databases O.Addresses O.Tables.Store O.Memory.Store R.remaining W.contents (λ told. N.step now.old told now.new) outside.now asked.now reader writer result }
+    ensures { Comes O.Files O.File.remaining O.Databases O.Addresses O.Tables.Store (λ made. IfOk made (λ tables. HasCleanDisk (state over_memory tables.conn) → IsNewDesk (tables_of (state over_memory tables.conn).now.trees))) ⟦<SqlStore<MemStore> as Store<Global>>⟧ R.remaining W.contents (λ told. N.step now.old told now.new) outside.now asked.now reader writer result }
 {
     let alloc = rt.alloc();
     match asked {

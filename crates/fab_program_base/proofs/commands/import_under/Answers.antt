@@ -10,7 +10,7 @@ returns-in-Ok g c =
       Ok c.in-Ok.bytes.items,
       c.in-Ok.ensures,
       subst (λ (xs : List ℕ). ComesIn g.O.Databases g.O.Tables.Store (λ desk m a e. ImportsAt g.O.Tables.Store desk asked.access.token.now m asked.fabric xs a e) g.W.Write.contents forms.Json c.args.outside.now asked.access.db.now c.args.policy c.args.moment c.args.writer c.do_in.result)
-        c.as_slice.ensures.value c.do_in.ensures,
+          c.as_slice.ensures.value c.do_in.ensures,
     )
 
 pub returns-in-Err : goal.returns-in-Err

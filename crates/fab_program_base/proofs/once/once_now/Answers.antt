@@ -16,7 +16,7 @@ returns-in-Ok g c =
       served.result,
       served.new.desk,
       begun (λ a b x y. Serves g.S.Store (side a b) input (side x y) sent c.args.desk.now c.args.moment served.result served.new.desk) _ _ _ _ _ _ _ _
-        (ap known c.new-reader.ensures.inner) c.new-reader.ensures.none (ap contents c.new-writer.ensures.inner) c.new-writer.ensures.none served.ensures,
+          (ap known c.new-reader.ensures.inner) c.new-reader.ensures.none (ap contents c.new-writer.ensures.inner) c.new-writer.ensures.none served.ensures,
       (sym c.end_of.ensures ∙ c.in-Ok.is, sym (ap contents c.into_inner.ensures)),
     )
 
@@ -32,6 +32,6 @@ returns g c =
       served.result,
       served.new.desk,
       begun (λ a b x y. Serves g.S.Store (side a b) input (side x y) sent c.args.desk.now c.args.moment served.result served.new.desk) _ _ _ _ _ _ _ _
-        (ap known c.new-reader.ensures.inner) c.new-reader.ensures.none (ap contents c.new-writer.ensures.inner) c.new-writer.ensures.none served.ensures,
+          (ap known c.new-reader.ensures.inner) c.new-reader.ensures.none (ap contents c.new-writer.ensures.inner) c.new-writer.ensures.none served.ensures,
       sym c.end_of.ensures ∙ c.in-Err.is,
     )
