@@ -5,7 +5,7 @@ use Rattle.fab_desk_base.specs.declared.fault.DeskFault.TheVariants as fault
 use Rattle.fab_desk_base.specs.declared.reply.Reply.{Reply}
 use Rattle.fab_desk_base.specs.declared.reply.Reply.TheVariants.{Refused}
 use Rattle.fab_policy_base.specs.Policies.{PolicyRows}
-use Rattle.fab_stores.specs.declared.store.Store as store
+use Rattle.fab_store_base.specs.declared.store.Store as store
 use Rattle.fab_world.specs.Worlds.{WorldRows}
 use Rattle.fab_desk.specs.Desks.{IsHandled, IsTurnedAway, IsTied, IsServed, IsCleanDesk, IsTiedDesk, IsAnsweredByDesk}
 

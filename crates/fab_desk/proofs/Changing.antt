@@ -1,6 +1,6 @@
 -- A request whose change is carried out is no read.
 use Rattle.std.proofs.Common.{◌≡◌, inl, inr, subst}
-use Rattle.fab_reach.specs.declared.book.Delta.{Delta}
+use Rattle.fab_reach_base.specs.declared.book.Delta.{Delta}
 use Rattle.fab_policy_base.specs.Policies.{PolicyRows}
 use Rattle.fab_world.specs.Worlds.{WorldRows}
 use Rattle.fab_desk_base.specs.Answers.{IsAnswerTo, IsStep, Request}
@@ -10,9 +10,9 @@ use Rattle.fab_desk_base.specs.declared.reply.Reply.{Reply}
 use Rattle.fab_desk_base.specs.declared.reply.Reply.TheVariants.{Refused}
 use Rattle.fab_desk_base.specs.declared.reply.Reply.TheVariants as reply
 use Rattle.fab_desk_base.specs.declared.reply.Shown.{Shown}
-use Rattle.fab_machine.specs.Reports.{reply_of}
-use Rattle.fab_machine.specs.declared.report.Report.{Report}
-use Rattle.fab_machine.specs.declared.report.Report.TheVariants.{Changed, Staged, Withdrawn, Approved, Reconfigured}
+use Rattle.fab_desk_machine.specs.Reports.{reply_of}
+use Rattle.fab_desk_machine.specs.declared.report.Report.{Report}
+use Rattle.fab_desk_machine.specs.declared.report.Report.TheVariants.{Changed, Staged, Withdrawn, Approved, Reconfigured}
 use Rattle.fab_desk.specs.Desks.{IsRead}
 
 module _ {A : Type 0} (d : Delta A) where

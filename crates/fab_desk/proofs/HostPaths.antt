@@ -1,16 +1,16 @@
 -- The paths of a host in tables that have the rows of a world.
 use Rattle.std.proofs.Common.{ℕ, ◌≡◌, List, refl, sym, subst, ◌∙◌}
-use Rattle.fab_lines.proofs.UniqueConfig.{one_path}
-use Rattle.fab_lines.specs.RecordLines.{ShowsPath}
-use Rattle.fab_load.specs.declared.fault.Table.TheVariants as table
-use Rattle.fab_reach.specs.Orders.{IsListOf}
-use Rattle.fab_reach.specs.Reach.{ReachesFrom}
-use Rattle.fab_reach.specs.declared.path.Path.{Path}
-use Rattle.fab_row_lines.proofs.Columns as columns
-use Rattle.fab_row_lists.specs.Paths.{IsPathRow}
-use Rattle.fab_rows.specs.declared.record_row.PathRow.{PathRow}
-use Rattle.fab_stores.specs.Worlds.{HoldsWorld, IsWritten, ArePathsIn, HasPathOf}
-use Rattle.fab_tables.specs.Tables.{Tables}
+use Rattle.fab_store_columns.proofs.UniqueConfig.{one_path}
+use Rattle.fab_store_columns.specs.RecordLines.{ShowsPath}
+use Rattle.fab_store_load.specs.declared.fault.Table.TheVariants as table
+use Rattle.fab_reach_base.specs.Orders.{IsListOf}
+use Rattle.fab_reach_base.specs.Reach.{ReachesFrom}
+use Rattle.fab_reach_base.specs.declared.path.Path.{Path}
+use Rattle.fab_store_moves.proofs.Columns as columns
+use Rattle.fab_store_lists.specs.Paths.{IsPathRow}
+use Rattle.fab_store_rows.specs.declared.record_row.PathRow.{PathRow}
+use Rattle.fab_store_base.specs.Worlds.{HoldsWorld, IsWritten, ArePathsIn, HasPathOf}
+use Rattle.fab_store_tables.specs.Tables.{Tables}
 use Rattle.fab_world.specs.Worlds.{WorldRows, records_of}
 
 module _ (t : Tables) (w : WorldRows) (host : List ℕ) (holds : HoldsWorld t w) where

@@ -1,10 +1,10 @@
 -- Tables that are tied to a world, and what a change makes of them.
 use Rattle.std.proofs.Common.{◌≡◌, ◌⊎◌, Result, Ok, Err, OnOk, IfOk, inl, inr, sym, subst}
-use Rattle.fab_stores.specs.Moves.{AreMoves}
-use Rattle.fab_stores.specs.Worlds.{HoldsWorld, IsWritten}
-use Rattle.fab_stores.specs.declared.store.Store as store
-use Rattle.fab_tables.specs.Tables.{Tables, HaveKeys, CanChange, AreChanged}
-use Rattle.fab_tables.specs.declared.changes.LineChanges.{LineChanges}
+use Rattle.fab_store_base.specs.Moves.{AreMoves}
+use Rattle.fab_store_base.specs.Worlds.{HoldsWorld, IsWritten}
+use Rattle.fab_store_base.specs.declared.store.Store as store
+use Rattle.fab_store_tables.specs.Tables.{Tables, HaveKeys, CanChange, AreChanged}
+use Rattle.fab_store_tables.specs.declared.changes.LineChanges.{LineChanges}
 use Rattle.fab_world.specs.Worlds.{WorldRows}
 use Rattle.fab_desk.specs.Desks.{IsTied}
 

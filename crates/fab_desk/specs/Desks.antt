@@ -8,11 +8,11 @@ use Rattle.fab_desk_base.specs.declared.reply.Reply.{Reply}
 use Rattle.fab_desk_base.specs.declared.reply.Reply.TheVariants.{Refused}
 use Rattle.fab_policy_base.specs.Callers.{HasToken}
 use Rattle.fab_policy_base.specs.Policies.{PolicyRows}
-use Rattle.fab_stores.specs.Calls.{IsCounted, OpensNot, Rises}
-use Rattle.fab_stores.specs.Worlds.{HoldsWorld, IsWritten}
-use Rattle.fab_stores.specs.declared.faults.OpenFault.{OpenFault}
-use Rattle.fab_stores.specs.declared.store.Store as store
-use Rattle.fab_tables.specs.Tables.{Tables}
+use Rattle.fab_store_base.specs.Calls.{IsCounted, OpensNot, Rises}
+use Rattle.fab_store_base.specs.Worlds.{HoldsWorld, IsWritten}
+use Rattle.fab_store_base.specs.declared.faults.OpenFault.{OpenFault}
+use Rattle.fab_store_base.specs.declared.store.Store as store
+use Rattle.fab_store_tables.specs.Tables.{Tables}
 use Rattle.fab_world.specs.Worlds.{WorldRows}
 
 -- ---- one request

@@ -4,8 +4,8 @@ ghost use Rattle.fab_desk_base.specs.declared.command.Command.TheVariants as com
 ghost use Rattle.fab_desk_base.specs.declared.command.Query.TheVariants as query;
 ghost use Rattle.fab_desk_base.specs.declared.fault.DeskFault.TheVariants as faults;
 ghost use Rattle.fab_desk_base.specs.declared.reply.Reply.TheVariants as replies;
-ghost use Rattle.fab_machine.specs.Proposals.{request_of};
-ghost use Rattle.fab_stores.specs.Calls.{Rises};
+ghost use Rattle.fab_desk_machine.specs.Proposals.{request_of};
+ghost use Rattle.fab_store_base.specs.Calls.{Rises};
 ghost use Rattle.fab_world.specs.Soundness.{IsSound};
 ghost use Rattle.fab_world.specs.Worlds.{records_of};
 ghost use Rattle.fab_desk.specs.Desks.{IsHandled, IsInDoubt, IsTied, IsRead};
@@ -15,11 +15,11 @@ use crate::ledger::Ledger;
 use crate::reading::show_paths;
 use fab_desk_base::{Command, DeskFault, Query, Reply};
 use fab_desk_laws::{holders_are_kept, steps_are_done};
-use fab_machine::{Proposal, propose, sender_of};
+use fab_desk_machine::{Proposal, propose, sender_of};
 use fab_names::Name;
 use fab_policy_base::Policy;
-use fab_reach::PathBook;
-use fab_stores::Store;
+use fab_reach_base::PathBook;
+use fab_store_base::Store;
 use fab_world::World;
 use std::alloc::Allocator;
 

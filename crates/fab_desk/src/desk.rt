@@ -1,7 +1,7 @@
 //! The desk.
 ghost use Rattle.std.specs.Prelude.{◌≡◌, ◌↔◌, ℕ, Some, None, IsSome, IsTrue, IfOk, IfErr, OnOk, OnErr};
 ghost use Rattle.std.specs.Option.{option_or};
-ghost use Rattle.fab_machine.specs.Proposals.{request_of};
+ghost use Rattle.fab_desk_machine.specs.Proposals.{request_of};
 ghost use Rattle.fab_policy_base.specs.Callers.{HasToken};
 ghost use Rattle.fab_policy_base.specs.Sound.{IsSound};
 ghost use Rattle.fab_desk.specs.Desks.{IsOpened, IsServed, IsTurnedAway, IsUnopened};
@@ -12,8 +12,8 @@ use crate::opening::opened;
 use fab_desk_base::{Command, DeskFault, Reply};
 use fab_policy_base::Policy;
 use fab_policy_base::laws::policy_is_sound;
-use fab_reach::PathBook;
-use fab_stores::{OpenFault, Store};
+use fab_reach_base::PathBook;
+use fab_store_base::{OpenFault, Store};
 use std::alloc::Allocator;
 
 /// A desk over a store, with a policy, a sound world and a book of its paths.

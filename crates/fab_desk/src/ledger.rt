@@ -1,6 +1,6 @@
 //! A sound world, with a book of its paths.
 
-use fab_reach::PathBook;
+use fab_reach_base::PathBook;
 use fab_world::World;
 use std::alloc::Allocator;
 use std::marker::Model;

@@ -1,15 +1,15 @@
 //! A world with a book of its paths, from a store.
 ghost use Rattle.std.specs.Prelude.{◌≡◌, IfOk, IfErr, OnOk};
-ghost use Rattle.fab_stores.specs.declared.faults.OpenFault.TheVariants as faults;
-ghost use Rattle.fab_stores.specs.Calls.{IsCounted, OpensNot};
-ghost use Rattle.fab_tables.specs.Tables.{Tables};
+ghost use Rattle.fab_store_base.specs.declared.faults.OpenFault.TheVariants as faults;
+ghost use Rattle.fab_store_base.specs.Calls.{IsCounted, OpensNot};
+ghost use Rattle.fab_store_tables.specs.Tables.{Tables};
 ghost use Rattle.fab_world.specs.Soundness.{IsSound};
 ghost use Rattle.fab_world.specs.Worlds.{records_of};
 ghost use Rattle.fab_desk.specs.Desks.{IsTied};
 
 use crate::ledger::Ledger;
-use fab_reach::{PathBook, View};
-use fab_stores::{OpenFault, Store};
+use fab_reach_base::{PathBook, View};
+use fab_store_base::{OpenFault, Store};
 use fab_world::World;
 use std::alloc::{AllocError, Allocator};
 

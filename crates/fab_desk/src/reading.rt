@@ -5,15 +5,15 @@ ghost use Rattle.fab_desk_base.specs.declared.command.Command.TheVariants as com
 ghost use Rattle.fab_desk_base.specs.declared.command.Query.TheVariants as query;
 ghost use Rattle.fab_desk_base.specs.declared.fault.DeskFault.TheVariants as faults;
 ghost use Rattle.fab_desk_base.specs.declared.reply.Reply.TheVariants as replies;
-ghost use Rattle.fab_stores.specs.Calls.{Rises};
+ghost use Rattle.fab_store_base.specs.Calls.{Rises};
 ghost use Rattle.fab_desk.specs.Desks.{IsTied};
 
 use fab_desk_base::{Command, DeskFault, Query, Reply, Shown};
-use fab_machine::Sender;
+use fab_desk_machine::Sender;
+use fab_desk_reads::is_open_to;
 use fab_names::Name;
 use fab_policy_base::Policy;
-use fab_showing::is_open_to;
-use fab_stores::Store;
+use fab_store_base::Store;
 use fab_world::World;
 use std::alloc::Allocator;
 

@@ -1,16 +1,16 @@
 //! Requests answered one after the other.
 ghost use Rattle.std.specs.Prelude.{◌≡◌, IfOk, OnErr, None, Some, map};
 ghost use Rattle.fab_desk_base.specs.Answers.{IsRun};
-ghost use Rattle.fab_machine.specs.Proposals.{asked_of};
+ghost use Rattle.fab_desk_machine.specs.Proposals.{asked_of};
 ghost use Rattle.fab_desk.specs.Desks.{IsCleanDesk, IsLeftByStop, IsTied, IsTiedDesk, done_replies, done_requests};
 ghost use Rattle.fab_desk.specs.Handled.{AreHandled, Handles};
 
 use crate::Desk;
 use fab_desk_base::Reply;
 use fab_desk_laws::steps_are_done;
-use fab_machine::Asked;
-use fab_reach::PathBook;
-use fab_stores::Store;
+use fab_desk_machine::Asked;
+use fab_reach_base::PathBook;
+use fab_store_base::Store;
 use std::alloc::{AllocError, Allocator};
 
 /// Answers requests, one after the other, each handled by the desk that the one before left. Room for

@@ -7,8 +7,8 @@ use Rattle.std.proofs.lemmas.List.{get_or-take, length-take-le}
 use Rattle.std.proofs.lemmas.List.Elements.{All-contains}
 use Rattle.std.proofs.lemmas.Map.Keys.{below_from_sorted}
 use Rattle.std.proofs.lemmas.Option.{get_or_from_slice_get, slice_get_within}
-use Rattle.fab_maps.specs.Firsts.{IsFirstWith, IsFirstWithout, HasAt, HasNowhere}
-use Rattle.fab_maps.specs.Lists.{IsListOf}
+use Rattle.fab_lemmas.specs.Firsts.{IsFirstWith, IsFirstWithout, HasAt, HasNowhere}
+use Rattle.fab_lemmas.specs.Lists.{IsListOf}
 use Rattle.fab_names.specs.Orders.{name_cmp}
 use Rattle.fab_inventory.specs.Holders.{Leaves}
 use Rattle.fab_inventory.specs.Inventories.{InventoryRows}

@@ -6,8 +6,8 @@ use Rattle.fab_policy.specs.declared.act.Need.{Need}
 use Rattle.fab_policy.specs.declared.act.Verdict.TheVariants.{Allowed, Denied}
 use Rattle.fab_policy_base.specs.Callers.{HasToken, IsOnlyWith}
 use Rattle.fab_policy_base.specs.Policies.{CallerRow, PolicyRows}
-use Rattle.fab_reach.specs.Books.{IsDelta}
-use Rattle.fab_reach.specs.declared.book.Delta.{Delta}
+use Rattle.fab_reach_base.specs.Books.{IsDelta}
+use Rattle.fab_reach_base.specs.declared.book.Delta.{Delta}
 use Rattle.fab_world.specs.PlanRecords.{PlanRecord}
 use Rattle.fab_world.specs.Worlds.{WorldRows, records_of}
 use Rattle.fab_desk_base.specs.Acts.{IsJudged}

@@ -1,7 +1,7 @@
 -- What refuses a command, in which order, and what its effect is.
 use Rattle.std.specs.Prelude.{ℕ, ◌≡◌, ◌≢◌, ◌<◌, ◌≤◌, List, true}
 use Rattle.std.specs.FinMap as map
-use Rattle.fab_maps.specs.Room.{IsFull}
+use Rattle.fab_lemmas.specs.Room.{IsFull}
 use Rattle.fab_inventory.specs.declared.holder.HolderKind.TheVariants as kind
 use Rattle.fab_inventory.specs.Holders.{IsLeast, IsUnknownIn, IsHeldIn, IsHeldByOther, IsLeastVolume}
 use Rattle.fab_inventory.specs.Imports.{IsClash, IsImported}
@@ -10,13 +10,13 @@ use Rattle.fab_inventory.specs.Limits.{most_ports, most_holders, most_volumes}
 use Rattle.fab_inventory.specs.Ports.{KnownPorts}
 use Rattle.fab_mapping_base.specs.declared.gone.Gone.{Gone}
 use Rattle.fab_mapping.specs.Gone.{IsFirstGone}
-use Rattle.fab_reach.specs.Limits.{MoreThan}
-use Rattle.fab_reach.specs.Reach.{Reaches}
-use Rattle.fab_reach.specs.Records.{ConfigRows}
-use Rattle.fab_reach.specs.declared.listing.TheConstants.{MOST_PATHS}
-use Rattle.fab_rows.specs.declared.record_row.PlanState.{PlanState}
-use Rattle.fab_rows.specs.declared.record_row.PlanState.TheVariants as state
-use Rattle.fab_steps.specs.Steps.{PlanStep}
+use Rattle.fab_reach_base.specs.Limits.{MoreThan}
+use Rattle.fab_reach_base.specs.Reach.{Reaches}
+use Rattle.fab_reach_base.specs.Records.{ConfigRows}
+use Rattle.fab_reach_base.specs.declared.listing.TheConstants.{MOST_PATHS}
+use Rattle.fab_store_rows.specs.declared.record_row.PlanState.{PlanState}
+use Rattle.fab_store_rows.specs.declared.record_row.PlanState.TheVariants as state
+use Rattle.fab_plans_steps.specs.Steps.{PlanStep}
 use Rattle.fab_plans.specs.Outcomes.{IsRefusedOutcome}
 use Rattle.fab_plans.specs.declared.fault.Item.TheVariants as item
 use Rattle.fab_plans.specs.declared.fault.Refusal.{Refusal}

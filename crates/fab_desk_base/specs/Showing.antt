@@ -4,8 +4,8 @@ use Rattle.std.specs.List.Sorted.{IsStrictlySortedBy}
 use Rattle.std.specs.Ordering.{nat_cmp}
 use Rattle.std.specs.FinMap as map
 use Rattle.std.specs.FinSet as set
-use Rattle.fab_maps.specs.Lists.{IsListOf}
-use Rattle.fab_maps.specs.MapsOfSets.{MapOfSets}
+use Rattle.fab_lemmas.specs.Lists.{IsListOf}
+use Rattle.fab_lemmas.specs.MapsOfSets.{MapOfSets}
 use Rattle.fab_names.specs.Orders.{name_cmp, member_cmp}
 use Rattle.fab_names.specs.declared.fabric.Fabric.{Fabric}
 use Rattle.fab_names.specs.declared.member.Member.{Member}
@@ -17,10 +17,10 @@ use Rattle.fab_inventory.specs.Holders.{Holds}
 use Rattle.fab_zoning.specs.Joins.{Joined, IsFirstZone, InDefaultZone}
 use Rattle.fab_zoning.specs.Rows.{Rows}
 use Rattle.fab_mapping_base.specs.Groups.{HostGroupRows, StorageGroupRows}
-use Rattle.fab_reach.specs.Orders as paths
-use Rattle.fab_reach.specs.Reach.{IsPort, ReachesFrom}
-use Rattle.fab_reach.specs.Records.{Records, zoning_at}
-use Rattle.fab_steps.specs.Plans.{plan_text}
+use Rattle.fab_reach_base.specs.Orders as paths
+use Rattle.fab_reach_base.specs.Reach.{IsPort, ReachesFrom}
+use Rattle.fab_reach_base.specs.Records.{Records, zoning_at}
+use Rattle.fab_plans_steps.specs.Plans.{plan_text}
 use Rattle.fab_policy.specs.declared.act.Approval.{Approval}
 use Rattle.fab_policy_base.specs.Callers.{sees}
 use Rattle.fab_policy_base.specs.Policies.{PolicyRows}

@@ -9,9 +9,9 @@ use Rattle.fab_inventory.specs.declared.holder.Volume.{Volume}
 use Rattle.fab_inventory.specs.Inventories.{InventoryRows}
 use Rattle.fab_mapping_base.specs.Groups.{HostGroupRows, StorageGroupRows}
 use Rattle.fab_mapping.specs.Mappings.{MappingRows}
-use Rattle.fab_reach.specs.Records.{Records}
-use Rattle.fab_reach.specs.Reach.{IsInitiatorOf}
-use Rattle.fab_reach.specs.declared.path.Path.{Path}
+use Rattle.fab_reach_base.specs.Records.{Records}
+use Rattle.fab_reach_base.specs.Reach.{IsInitiatorOf}
+use Rattle.fab_reach_base.specs.declared.path.Path.{Path}
 
 -- something that has a tenant, by its name
 pub data Thing : Type 0 where

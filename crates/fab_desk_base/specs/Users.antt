@@ -1,7 +1,7 @@
 -- What the configuration uses, so that it can't go.
 use Rattle.std.specs.Prelude.{ℕ, ◌≡◌, ◌≢◌, List, Some}
 use Rattle.std.specs.FinMap as map
-use Rattle.fab_maps.specs.Firsts.{IsFirstWith, HasAt}
+use Rattle.fab_lemmas.specs.Firsts.{IsFirstWith, HasAt}
 use Rattle.fab_names.specs.Orders.{name_cmp}
 use Rattle.fab_inventory.specs.declared.holder.HolderKind.{HolderKind}
 use Rattle.fab_inventory.specs.declared.holder.HolderKind.TheVariants as kind

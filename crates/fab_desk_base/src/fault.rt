@@ -4,7 +4,7 @@ use fab_mapping::Gone;
 use fab_names::{Name, Wwn};
 use fab_plans::{Item, Refusal};
 use fab_policy::Need;
-use fab_rows::PlanState;
+use fab_store_rows::PlanState;
 
 /// Why a command is refused. All but `Store` leave the world and its tables as they were; `Store`
 /// does so at a read.

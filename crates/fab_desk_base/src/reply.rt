@@ -4,8 +4,8 @@ use crate::DeskFault;
 use fab_inventory::{HolderKind, Volume};
 use fab_names::{Fabric, Member, Name, Place, Wwn};
 use fab_policy::Approval;
-use fab_reach::{Delta, Path};
-use fab_rows::PlanState;
+use fab_reach_base::{Delta, Path};
+use fab_store_rows::PlanState;
 use fab_zoning::DefaultFlag;
 use std::alloc::Allocator;
 

@@ -12,12 +12,12 @@ use Rattle.fab_policy_base.specs.declared.policy.Scope.{Scope}
 use Rattle.fab_policy.specs.Verdicts.{is_own, Applies, Holds}
 use Rattle.fab_policy.specs.declared.act.Need.TheVariants as need
 use Rattle.fab_policy.specs.declared.act.Verdict.TheVariants.{Allowed}
-use Rattle.fab_reach.specs.Records.{Records}
+use Rattle.fab_reach_base.specs.Records.{Records}
 use Rattle.fab_world.specs.Worlds.{WorldRows, records_of}
 use Rattle.fab_desk_base.specs.Acts.{IsJudged}
 use Rattle.fab_desk_base.specs.Answers.{IsCarriedOut, Request, IsStep}
 use Rattle.fab_desk_base.specs.Commands.{action_of}
-use Rattle.fab_steps.specs.Steps.{PlanStep}
+use Rattle.fab_plans_steps.specs.Steps.{PlanStep}
 use Rattle.fab_desk_base.specs.Effects.{StageMakes}
 use Rattle.fab_desk_base.specs.Refusals.{IsEffect}
 use Rattle.fab_desk_base.specs.Touching.{MovesPathOf}

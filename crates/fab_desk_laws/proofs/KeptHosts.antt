@@ -12,7 +12,7 @@ use Rattle.fab_inventory.proofs.NameTests.{same_name_tells}
 use Rattle.fab_inventory.proofs.Soundness.{held_from, same_holder}
 use Rattle.fab_policy_base.specs.Policies.{PolicyRows}
 use Rattle.fab_plans.specs.declared.fault.Item.TheVariants as item
-use Rattle.fab_steps.specs.Steps.{PlanStep}
+use Rattle.fab_plans_steps.specs.Steps.{PlanStep}
 use Rattle.fab_world.specs.Worlds.{WorldRows, records_of}
 use Rattle.fab_desk_base.specs.Answers.{IsCarriedOut, Request, IsStep}
 use Rattle.fab_desk_base.specs.Effects.{StageMakes}

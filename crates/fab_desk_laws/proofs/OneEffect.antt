@@ -5,12 +5,12 @@ use Rattle.std.proofs.lemmas.List.{append_cancel_right}
 use Rattle.std.proofs.lemmas.Option.{same_Some, none-some}
 use Rattle.fab_inventory.specs.Inventories.{InventoryRows}
 use Rattle.fab_inventory.specs.Ports.{KnownPorts}
-use Rattle.fab_reach.specs.Records.{ConfigRows}
-use Rattle.fab_rows.specs.Differences.{StandsOnlyIn, IsDifference}
-use Rattle.fab_rows.specs.Standing.{Stands}
-use Rattle.fab_rows.specs.declared.config_row.ConfigRow.{ConfigRow}
-use Rattle.fab_rows.proofs.Determined.{one_list, one_config}
-use Rattle.fab_rows.proofs.RowLists.{stands_decided}
+use Rattle.fab_reach_base.specs.Records.{ConfigRows}
+use Rattle.fab_store_rows.specs.Differences.{StandsOnlyIn, IsDifference}
+use Rattle.fab_store_rows.specs.Standing.{Stands}
+use Rattle.fab_store_rows.specs.declared.config_row.ConfigRow.{ConfigRow}
+use Rattle.fab_store_rows.proofs.Determined.{one_list, one_config}
+use Rattle.fab_store_rows.proofs.RowLists.{stands_decided}
 use Rattle.fab_plans.specs.Outcomes.{AllDone}
 use Rattle.fab_plans.proofs.OnePlan.{all_one}
 use Rattle.fab_world.specs.History.{IsEarlier}

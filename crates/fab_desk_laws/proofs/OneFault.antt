@@ -6,7 +6,7 @@ use Rattle.std.specs.FinMap as map
 use Rattle.std.specs.FinSet as set
 use Rattle.std.proofs.lemmas.List.{get_or-take, length-take, take-take}
 use Rattle.std.proofs.lemmas.Option.{same_Some, get_or_from_slice_get}
-use Rattle.fab_maps.specs.Firsts.{IsFirstWith}
+use Rattle.fab_lemmas.specs.Firsts.{IsFirstWith}
 use Rattle.fab_names.specs.Orders.{name_cmp}
 use Rattle.fab_names.proofs.OrderLaws.{name_total, name_exact}
 use Rattle.fab_inventory.specs.Holders.{IsLeast, IsUnknownIn, IsHeldIn, IsHeldByOther, IsLeastVolume}
@@ -20,8 +20,8 @@ use Rattle.fab_mapping_base.specs.declared.gone.Gone.{Gone}
 use Rattle.fab_mapping_base.specs.declared.gone.Gone.TheVariants as gone
 use Rattle.fab_mapping.specs.Gone.{IsFirstGone}
 use Rattle.fab_mapping.specs.Mappings.{MappingRows}
-use Rattle.fab_rows.specs.declared.record_row.PlanState.{PlanState}
-use Rattle.fab_rows.specs.declared.record_row.PlanState.TheVariants as state
+use Rattle.fab_store_rows.specs.declared.record_row.PlanState.{PlanState}
+use Rattle.fab_store_rows.specs.declared.record_row.PlanState.TheVariants as state
 use Rattle.fab_plans.specs.Outcomes.{IsRefusedOutcome}
 use Rattle.fab_plans.specs.declared.fault.Item.TheVariants as item
 use Rattle.fab_plans.specs.declared.fault.Refusal.{Refusal}

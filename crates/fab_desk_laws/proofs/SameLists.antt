@@ -1,13 +1,13 @@
 -- A dry run tells what activation does.
 use Rattle.std.proofs.Common.{ℕ, ◌≡◌, List, subst}
 use Rattle.fab_policy_base.specs.Policies.{PolicyRows}
-use Rattle.fab_reach.specs.Books.{IsGained}
-use Rattle.fab_reach.proofs.SameLists.{one_list}
+use Rattle.fab_reach_base.specs.Books.{IsGained}
+use Rattle.fab_reach_base.proofs.SameLists.{one_list}
 use Rattle.fab_world.specs.Worlds.{WorldRows, records_of}
 use Rattle.fab_desk_base.specs.Answers.{IsCarriedOut, IsMove}
 use Rattle.fab_desk_base.specs.declared.command.Command.TheVariants.{DryRun, Activate}
 use Rattle.fab_desk_base.specs.declared.reply.Reply.{Reply}
-use Rattle.fab_reach.specs.declared.book.Delta.{Delta}
+use Rattle.fab_reach_base.specs.declared.book.Delta.{Delta}
 use Rattle.fab_desk_laws.specs.Laws.{AreSameLists, TellsActivation}
 use Rattle.fab_desk_laws.proofs.OneEffect.{one_effect}
 

@@ -2,7 +2,7 @@
 use Rattle.std.specs.Prelude.{ℕ, ◌≡◌, List}
 use Rattle.std.specs.FinMap as map
 use Rattle.fab_inventory.specs.Holders.{Holds}
-use Rattle.fab_reach.specs.Records.{Records}
+use Rattle.fab_reach_base.specs.Records.{Records}
 
 -- no port passes straight from one holder to another: a port that is held before and after has one
 -- holder

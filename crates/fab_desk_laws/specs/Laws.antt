@@ -3,7 +3,7 @@ use Rattle.std.specs.Prelude.{ℕ, ◌≡◌, ◌≤◌, ◌↔◌, List, Contai
 use Rattle.fab_policy_base.specs.Policies.{RuleRow, PolicyRows}
 use Rattle.fab_policy_base.specs.declared.policy.Action.{Action}
 use Rattle.fab_policy_base.specs.declared.policy.Action.TheVariants as action
-use Rattle.fab_reach.specs.declared.book.Delta.{Delta}
+use Rattle.fab_reach_base.specs.declared.book.Delta.{Delta}
 use Rattle.fab_world.specs.Worlds.{WorldRows}
 use Rattle.fab_world.specs.declared.limits.TheConstants.{MOST_CHANGES}
 use Rattle.fab_desk_base.specs.Commands.{is_counted}

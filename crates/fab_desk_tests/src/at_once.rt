@@ -5,9 +5,9 @@ use crate::desks::{DeskOver, closed, made, opened};
 use crate::lists::{List, turns_of};
 use crate::memory::tables;
 use crate::worlds::are_kept;
-use fab_asking::{Turn, are_told, requests};
 use fab_desk::handle_all;
 use fab_store::Store;
+use fab_test_machine::{Turn, are_told, requests};
 use std::alloc::Global;
 use std::process::Abort;
 

@@ -3,10 +3,10 @@
 use crate::desks::{open, tables_of};
 use crate::lists::List;
 use crate::memory::{Tables, tables_after, tables_then};
-use fab_asking::{ADA, Ask, FIRST, FIRST_TARGET, NO_PORTS, SECOND_TARGET, See, Turn};
 use fab_inventory::HolderKind::Array;
 use fab_names::Fabric;
 use fab_store::{OpenFault, Store, Table};
+use fab_test_machine::{ADA, Ask, FIRST, FIRST_TARGET, NO_PORTS, SECOND_TARGET, See, Turn};
 use std::alloc::Global;
 use std::process::Abort;
 

@@ -1,11 +1,11 @@
 //! Desks over a store, and what they answer.
 
 use crate::lists::{List, all_turns};
-use fab_asking::{Turn, command, is_told, policy};
 use fab_desk::Desk;
 use fab_desk_base::Reply;
-use fab_port_book::PortBook;
+use fab_reach_book::PortBook;
 use fab_store::{OpenFault, SqlStore, Store};
+use fab_test_machine::{Turn, command, is_told, policy};
 use sqlite::{Alter, Connection};
 use std::alloc::Global;
 use std::process::Abort;

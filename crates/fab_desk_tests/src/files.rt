@@ -2,8 +2,8 @@
 
 use crate::desks::{play, tables_of};
 use crate::worlds::{are_after, found};
-use fab_asking::Turn;
 use fab_store::{SqlStore, Store};
+use fab_test_machine::Turn;
 use sqlite::{Alter, Connection, FileStore, Files, Options};
 use sqlite_disk::Disk;
 use std::alloc::Global;

@@ -1,11 +1,11 @@
 //! The worked lists of turns, by name: a table of names is cheaper to prove than one of lists.
 
-use fab_asking::rows::{
+use fab_test_machine::rows::{
     ACTIVE_IS_A_COPY, APPROVALS, DEFAULT_ZONE, FREEZING, LATE, NO_APPROVAL, PLACE_AND_NODE,
     PORTS_GONE, REFUSED_PLAN, SHUT, SIGNED, STAGED, THAWED, UNDONE, UNIT_CLASH, UNMAPPED,
     VOLUME_GONE, ZONES_OVERLAP,
 };
-use fab_asking::{FIRST, SECOND, Turn, WORLD};
+use fab_test_machine::{FIRST, SECOND, Turn, WORLD};
 use std::process::Abort;
 
 /// A worked list of turns.

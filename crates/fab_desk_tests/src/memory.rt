@@ -2,8 +2,8 @@
 
 use crate::desks::{new_tables, store_after};
 use crate::lists::List;
-use fab_asking::Turn;
 use fab_store::SqlStore;
+use fab_test_machine::Turn;
 use sqlite::{Connection, MemStore};
 use std::process::Abort;
 

@@ -6,8 +6,10 @@ use crate::desks::{ask_all, closed, opened};
 use crate::lists::List;
 use crate::memory::tables;
 use crate::worlds::are_kept;
-use fab_asking::{ADA, Ask, FIRST, FIRST_INITIATOR, FIRST_PLAN, FIRST_TARGET, See, Turn, WORLD};
 use fab_store::{RefusingStore, Store};
+use fab_test_machine::{
+    ADA, Ask, FIRST, FIRST_INITIATOR, FIRST_PLAN, FIRST_TARGET, See, Turn, WORLD,
+};
 use std::alloc::Global;
 use std::process::Abort;
 

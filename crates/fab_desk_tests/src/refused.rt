@@ -5,9 +5,9 @@ use crate::desks::{Came, DeskOver, ask, ask_all, closed, open, opened};
 use crate::lists::{List, all_turns};
 use crate::memory::tables;
 use crate::worlds::are_kept;
-use fab_asking::{ADA, Ask, FIRST_INITIATOR, FIRST_TARGET, NO_PORTS, See, Turn};
 use fab_names::Fabric;
 use fab_store::{OpenFault, RefusingStore, Store};
+use fab_test_machine::{ADA, Ask, FIRST_INITIATOR, FIRST_TARGET, NO_PORTS, See, Turn};
 use std::alloc::Global;
 use std::process::Abort;
 

@@ -4,7 +4,7 @@
 use crate::disks::{Failing, files, have_served, stop};
 use crate::files::{Then, Work, run};
 use crate::lists::{List, all_turns};
-use fab_asking::Turn;
+use fab_test_machine::Turn;
 use sqlite::Files;
 use sqlite_disk::Crash;
 use std::process::Abort;

@@ -5,8 +5,8 @@
 use crate::desks::tables_of;
 use crate::lists::List;
 use crate::memory::{Tables, tables_after, tables_then};
-use fab_asking::{ADA, Ask, Turn};
 use fab_names::Fabric;
+use fab_test_machine::{ADA, Ask, Turn};
 use sqlite::{Connection, MemStore};
 use std::process::Abort;
 

@@ -2,8 +2,8 @@
 
 use crate::desks::made;
 use crate::lists::{List, turns_of};
-use fab_asking::{Turn, holds_in};
 use fab_store::Store;
+use fab_test_machine::{Turn, holds_in};
 use fab_test_world::is_same;
 use fab_world::World;
 use std::alloc::Global;

@@ -12,7 +12,7 @@ use Rattle.std.proofs.lemmas.Map.Text.{is_eq-slice_cmp}
 use Rattle.fab_names.specs.Orders.{name_cmp}
 use Rattle.fab_names.specs.declared.fabric.Fabric.{Fabric}
 use Rattle.fab_names.specs.declared.fabric.Fabric.TheVariants.{A, B}
-use Rattle.fab_reach.specs.declared.path.Path.{Path}
+use Rattle.fab_reach_base.specs.declared.path.Path.{Path}
 use Rattle.fab_files.specs.Reports.{same_fabric, leads_over, paths_over}
 use Rattle.fab_files.specs.Counting.{AreCounted, counts_over, none_counted, one_more}
 use Rattle.fab_files.specs.declared.counts.Counts.{Counts}

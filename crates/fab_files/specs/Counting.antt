@@ -6,7 +6,7 @@ use Rattle.std.specs.BTreeMap.{BTreeMap, get, IsOrdered}
 use Rattle.fab_names.specs.Orders.{name_cmp}
 use Rattle.fab_names.specs.declared.fabric.Fabric.{Fabric}
 use Rattle.fab_names.specs.declared.fabric.Fabric.TheVariants.{A, B}
-use Rattle.fab_reach.specs.declared.path.Path.{Path}
+use Rattle.fab_reach_base.specs.declared.path.Path.{Path}
 use Rattle.fab_files.specs.Reports.{counts_line, paths_over}
 use Rattle.fab_files.specs.declared.counts.Counts.{Counts}
 

@@ -5,8 +5,8 @@ use Rattle.std.specs.Str.{bytes_eq}
 use Rattle.fab_names.specs.Orders.{name_cmp}
 use Rattle.fab_names.specs.declared.fabric.Fabric.{Fabric}
 use Rattle.fab_names.specs.declared.fabric.Fabric.TheVariants.{A, B}
-use Rattle.fab_maps.specs.Lists.{IsListOf}
-use Rattle.fab_reach.specs.declared.path.Path.{Path}
+use Rattle.fab_lemmas.specs.Lists.{IsListOf}
+use Rattle.fab_reach_base.specs.declared.path.Path.{Path}
 use Rattle.fab_files.specs.Lines.{line_of}
 use Rattle.fab_files.specs.declared.reports.ReportFault.{ReportFault}
 use Rattle.fab_files.specs.declared.reports.ReportFault.TheVariants.{Memory, Unsent}

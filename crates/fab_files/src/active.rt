@@ -1,13 +1,13 @@
 //! The active set of a fabric.
 ghost use Rattle.std.specs.Prelude.{◌≡◌, ◌++◌};
-ghost use Rattle.fab_json.specs.Taking.{Takes};
+ghost use Rattle.fab_wire_streams.specs.Taking.{Takes};
 ghost use Rattle.fab_files.specs.ActiveSets.{active_lines, head_lines, zones_lines, zone_lines, member_line, set_name, flag_text, words_line};
 ghost use Rattle.fab_names.specs.declared.member.Member.{Member};
 
 use fab_desk_base::ZoneMembers;
-use fab_json::sink::{Sink, put_all};
-use fab_json::streams::WriteFailed;
 use fab_names::{Fabric, Member, Name, Place};
+use fab_wire_streams::sink::{Sink, put_all};
+use fab_wire_streams::streams::WriteFailed;
 use fab_zoning::DefaultFlag;
 use itoa::Buffer;
 use std::alloc::Allocator;

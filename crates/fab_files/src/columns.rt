@@ -1,10 +1,10 @@
 //! Columns of a fixed width.
 ghost use Rattle.std.specs.Prelude.{◌≡◌, ◌-◌, ◌≤◌, length, replicate};
-ghost use Rattle.fab_json.specs.Taking.{Takes};
+ghost use Rattle.fab_wire_streams.specs.Taking.{Takes};
 ghost use Rattle.fab_files.specs.Reports.{row_line};
 
-use fab_json::sink::{Sink, put_all};
-use fab_json::streams::WriteFailed;
+use fab_wire_streams::sink::{Sink, put_all};
+use fab_wire_streams::streams::WriteFailed;
 
 /// How many characters wide the column of a name is. A longer name is not cut.
 pub const NAME_WIDTH: usize = 24;

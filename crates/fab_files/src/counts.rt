@@ -5,7 +5,7 @@ ghost use Rattle.fab_names.specs.Orders.{name_cmp};
 ghost use Rattle.fab_files.specs.Counting.{AreCounted, none_counted, one_more};
 
 use fab_names::{Fabric, Name};
-use fab_reach::Path;
+use fab_reach_base::Path;
 use std::alloc::{AllocError, Allocator};
 use std::collections::BTreeMap;
 

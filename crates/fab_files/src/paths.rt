@@ -1,12 +1,12 @@
 //! Paths as comma-separated values (RFC 4180).
 ghost use Rattle.std.specs.Prelude.{[], ◌∷◌};
-ghost use Rattle.fab_json.specs.Taking.{Takes};
+ghost use Rattle.fab_wire_streams.specs.Taking.{Takes};
 ghost use Rattle.fab_files.specs.PathLists.{csv_line, csv_text, path_header, path_line, path_lines};
 
-use fab_json::sink::{Sink, put_all};
-use fab_json::streams::WriteFailed;
 use fab_names::Name;
-use fab_reach::Path;
+use fab_reach_base::Path;
+use fab_wire_streams::sink::{Sink, put_all};
+use fab_wire_streams::streams::WriteFailed;
 use itoa::Buffer;
 
 /// The header's line: the names of the fields.

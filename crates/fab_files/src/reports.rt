@@ -1,15 +1,15 @@
 //! The report on the volumes of a host.
 ghost use Rattle.std.specs.Prelude.{◌≡◌};
-ghost use Rattle.fab_json.specs.Taking.{Takes};
+ghost use Rattle.fab_wire_streams.specs.Taking.{Takes};
 ghost use Rattle.fab_files.specs.Reports.{Reports, report_header, counts_line, state_text};
 ghost use Rattle.fab_files.specs.Counting.{entry_lines};
 
 use crate::columns::put_row;
 use crate::counts::{Counts, counts_of};
-use fab_json::sink::Sink;
-use fab_json::streams::WriteFailed;
 use fab_names::Name;
-use fab_reach::Path;
+use fab_reach_base::Path;
+use fab_wire_streams::sink::Sink;
+use fab_wire_streams::streams::WriteFailed;
 use itoa::Buffer;
 use std::alloc::Allocator;
 use std::collections::BTreeMap;

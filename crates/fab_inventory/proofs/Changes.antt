@@ -16,7 +16,7 @@ use Rattle.fab_inventory.specs.Holders.{held_after, AreKnown, AreFree, IsPortFau
 use Rattle.fab_inventory.specs.declared.fault.InventoryFault.{InventoryFault}
 use Rattle.fab_inventory.specs.declared.fault.InventoryFault.TheVariants.{UnknownPort, PortHeld}
 use Rattle.fab_inventory.specs.Inventories.{InventoryRows, IsSound, HasNoOtherKind, PutHolderFails, CanPutHolder, IsHolderPut, IsHolderDropped, CanPutVolume}
-use Rattle.fab_maps.proofs.SeenMaps.{same_look_ups, get_entries, seen_insert, seen_remove}
+use Rattle.fab_lemmas.proofs.SeenMaps.{same_look_ups, get_entries, seen_insert, seen_remove}
 use Rattle.fab_inventory.proofs.Soundness.{sound_put_holder, sound_drop_holder, sound_put_volume, sound_drop_volume, trans≤}
 
 -- the code's maps, as contracts see them

@@ -16,10 +16,10 @@ use Rattle.std.proofs.lemmas.Map.Keys.{IsDistinct-from_sorted}
 use Rattle.std.proofs.lemmas.Map.Made.{length-le_from_is_member, is_member-Decides}
 use Rattle.std.proofs.lemmas.Map.Views.{list_any-from_Contains, Contains-from_any, tells_apart}
 use Rattle.std.proofs.lemmas.List.{length-append}
-use Rattle.fab_maps.specs.Lists.{IsListOf}
-use Rattle.fab_maps.proofs.Filters.{keys_where, keys_listed, keys_more, keys_fewer, list_as}
-use Rattle.fab_maps.proofs.SeenMaps.{get_entries}
-use Rattle.fab_maps.proofs.Tests.{both, left, right}
+use Rattle.fab_lemmas.specs.Lists.{IsListOf}
+use Rattle.fab_lemmas.proofs.Filters.{keys_where, keys_listed, keys_more, keys_fewer, list_as}
+use Rattle.fab_lemmas.proofs.SeenMaps.{get_entries}
+use Rattle.fab_lemmas.proofs.Tests.{both, left, right}
 use Rattle.fab_inventory.specs.declared.port.Known.{Known}
 use Rattle.fab_inventory.specs.Holders.{holder_is, is_leaving, Leaves, Holds}
 use Rattle.fab_inventory.specs.Inventories.{HoldsFew}

@@ -13,9 +13,9 @@ use Rattle.std.specs.Cmp.Lexicographic.{bytes_decides}
 use Rattle.std.specs.FinMap as map
 use Rattle.fab_names.specs.Orders.{name_cmp}
 use Rattle.fab_names.proofs.OrderLaws.{name_total}
-use Rattle.fab_maps.proofs.SeenMaps.{get_entries}
-use Rattle.fab_maps.proofs.Passing.{found_passes, each_passes}
-use Rattle.fab_maps.proofs.Tests.{both, left, right, within, from_within, is_false}
+use Rattle.fab_lemmas.proofs.SeenMaps.{get_entries}
+use Rattle.fab_lemmas.proofs.Passing.{found_passes, each_passes}
+use Rattle.fab_lemmas.proofs.Tests.{both, left, right, within, from_within, is_false}
 use Rattle.fab_inventory.specs.declared.port.Known.{Known}
 use Rattle.fab_inventory.specs.declared.holder.Holder.{Holder}
 use Rattle.fab_inventory.specs.declared.holder.Volume.{Volume}

@@ -5,7 +5,7 @@ ghost use Rattle.std.specs.Option.{option_map};
 ghost use Rattle.std.specs.Ordering.{nat_cmp};
 ghost use Rattle.std.specs.BTreeMap.{get};
 ghost use Rattle.std.specs.FinMap as map;
-ghost use Rattle.fab_maps.specs.Lists.{IsListOf};
+ghost use Rattle.fab_lemmas.specs.Lists.{IsListOf};
 ghost use Rattle.fab_names.specs.Orders.{name_cmp};
 ghost use Rattle.fab_inventory.specs.Holders.{held_after, other_holder_in, AreKnown, AreFree, IsLeast, IsUnknownIn, IsHeldIn, IsPortFault, min_of};
 ghost use Rattle.fab_inventory.specs.Holders as spec;

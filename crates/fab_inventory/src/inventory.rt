@@ -4,7 +4,7 @@ ghost use Rattle.std.specs.FinMap as map;
 ghost use Rattle.fab_inventory.specs.Imports.{IsImported, ImportFails};
 ghost use Rattle.fab_inventory.specs.Ports.{port_at};
 ghost use Rattle.std.specs.Ordering.{nat_cmp};
-ghost use Rattle.fab_maps.specs.Lists.{IsListOf};
+ghost use Rattle.fab_lemmas.specs.Lists.{IsListOf};
 ghost use Rattle.fab_inventory.specs.Holders.{HasNoVolume, Holds, Leaves};
 ghost use Rattle.fab_inventory.specs.Restores.{rows_of, RestoreFails};
 ghost use Rattle.fab_inventory.specs.Inventories.{no_rows, IsSound, CanPutHolder, IsHolderPut, PutHolderFails, IsHolderDropped, DropHolderFails, CanPutVolume, PutVolumeFails, DropVolumeFails};

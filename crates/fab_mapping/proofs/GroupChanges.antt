@@ -8,7 +8,7 @@ use Rattle.std.specs.Map.{set_value}
 use Rattle.std.proofs.lemmas.Map.Steps.{set_value_same}
 use Rattle.fab_names.specs.Orders.{name_cmp}
 use Rattle.fab_names.proofs.OrderLaws.{name_total, name_exact}
-use Rattle.fab_maps.proofs.SeenMaps.{get_entries, seen_insert, seen_remove}
+use Rattle.fab_lemmas.proofs.SeenMaps.{get_entries, seen_insert, seen_remove}
 use Rattle.fab_inventory.specs.declared.port.Known.{Known}
 use Rattle.fab_inventory.specs.declared.port.Port.{Port}
 use Rattle.fab_inventory.specs.Ports.{KnownPorts, port_at, port_of}

@@ -8,10 +8,10 @@ use Rattle.std.specs.BTreeMap.{BTreeMap, UpdatesBy}
 use Rattle.std.specs.FinMap as map
 use Rattle.std.specs.FinSet as set
 use Rattle.std.proofs.lemmas.List.Elements.{All-contains}
-use Rattle.fab_maps.proofs.Changed.{member_put, member_gone, entry_put, entry_gone, still_there, there_without}
-use Rattle.fab_maps.proofs.SeenMaps.{same_look_ups}
-use Rattle.fab_maps.proofs.SeenSets.{listed_decides}
-use Rattle.fab_maps.proofs.Sizes.{set_put, set_gone, map_put, map_gone, some_listed, at_most_listed}
+use Rattle.fab_lemmas.proofs.Changed.{member_put, member_gone, entry_put, entry_gone, still_there, there_without}
+use Rattle.fab_lemmas.proofs.SeenMaps.{same_look_ups}
+use Rattle.fab_lemmas.proofs.SeenSets.{listed_decides}
+use Rattle.fab_lemmas.proofs.Sizes.{set_put, set_gone, map_put, map_gone, some_listed, at_most_listed}
 use Rattle.fab_names.specs.Orders.{name_cmp}
 use Rattle.fab_names.proofs.OrderLaws.{name_total, name_exact}
 use Rattle.fab_inventory.specs.Inventories.{InventoryRows, IsHost}

@@ -7,10 +7,10 @@ use Rattle.std.specs.BTreeMap as tree
 use Rattle.std.specs.BTreeMap.{BTreeMap}
 use Rattle.std.specs.FinMap as map
 use Rattle.std.proofs.lemmas.Map.Views.{btree_map_get_iff}
-use Rattle.fab_maps.specs.Firsts.{IsFirstOf}
-use Rattle.fab_maps.proofs.Adding.{Before}
-use Rattle.fab_maps.proofs.Leasts.{least_as}
-use Rattle.fab_maps.proofs.SeenSets.{tie_decides}
+use Rattle.fab_lemmas.specs.Firsts.{IsFirstOf}
+use Rattle.fab_lemmas.proofs.Adding.{Before}
+use Rattle.fab_lemmas.proofs.Leasts.{least_as}
+use Rattle.fab_lemmas.proofs.SeenSets.{tie_decides}
 use Rattle.fab_names.specs.Orders.{name_cmp}
 use Rattle.fab_names.proofs.OrderLaws.{name_total, name_exact}
 use Rattle.fab_inventory.specs.declared.holder.HolderKind.{HolderKind}

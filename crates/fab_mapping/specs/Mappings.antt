@@ -4,8 +4,8 @@ use Rattle.std.specs.Ordering.{is_gt}
 use Rattle.std.specs.Coded.{Coded, code_by, coded×}
 use Rattle.std.specs.FinMap as map
 use Rattle.std.specs.FinSet as set
-use Rattle.fab_maps.specs.Firsts.{IsFirstWithout}
-use Rattle.fab_maps.specs.Room.{IsFull, HasRoom}
+use Rattle.fab_lemmas.specs.Firsts.{IsFirstWithout}
+use Rattle.fab_lemmas.specs.Room.{IsFull, HasRoom}
 use Rattle.fab_names.specs.Orders.{name_cmp}
 use Rattle.fab_names.specs.Codes.{name_code}
 use Rattle.fab_inventory.specs.Inventories.{InventoryRows, IsHost, IsArray}

@@ -3,7 +3,7 @@ ghost use Rattle.std.specs.Prelude.{◌≡◌, ◌<◌, ◌≤◌, ◌↔◌, le
 ghost use Rattle.std.specs.Option.{option_copied};
 ghost use Rattle.std.specs.FinMap as map;
 ghost use Rattle.std.specs.FinSet as set;
-ghost use Rattle.fab_maps.specs.Firsts.{IsFirstWith, HasAt, HasNowhere};
+ghost use Rattle.fab_lemmas.specs.Firsts.{IsFirstWith, HasAt, HasNowhere};
 ghost use Rattle.fab_names.specs.Orders.{name_cmp};
 ghost use Rattle.fab_mapping_base.specs.Groups.{HoldsHost, HasTarget, IsOfArray, MapsVolume, host_group_of, new_storage_group, with_hosts, without_hosts, with_target, without_target, with_unit, without_unit, exposed_as, HasRoomForHosts, HasRoomForTarget, HasRoomForUnit, HasFreeUnit};
 ghost use Rattle.fab_mapping_base.specs.Fitting.{IsPortOf, IsVolumeOn};
@@ -22,8 +22,8 @@ use crate::{
     MappingLimit, Nexus, StorageGroup,
 };
 use fab_inventory::Inventory;
+use fab_lemmas::is_full;
 use fab_mapping_base::{first_no_host, is_array, is_held_by, is_unit, least_clash};
-use fab_maps::is_full;
 use fab_names::{Name, Wwn};
 use std::alloc::{AllocError, Allocator};
 use std::collections::BTreeMap;

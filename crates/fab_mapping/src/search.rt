@@ -2,7 +2,7 @@
 ghost use Rattle.std.specs.Prelude.{MatchOption};
 ghost use Rattle.std.specs.BTreeMap.{get};
 ghost use Rattle.fab_names.specs.Orders.{name_cmp};
-ghost use Rattle.fab_maps.specs.Firsts.{IsFirstWith, HasAt, HasNowhere};
+ghost use Rattle.fab_lemmas.specs.Firsts.{IsFirstWith, HasAt, HasNowhere};
 ghost use Rattle.fab_mapping_base.specs.Groups.{HoldsHost, HasTarget, IsOfArray, MapsVolume};
 ghost use Rattle.fab_mapping.specs.Mappings.{IsUnservedIn, IsLeastServing};
 

@@ -12,10 +12,10 @@ use Rattle.std.proofs.lemmas.Option.{slice_get_within, slice_get-get_or, get_or_
 use Rattle.std.specs.List.{slice_get, AllByRecursion, list_any}
 use Rattle.std.specs.Map.{keys_of}
 use Rattle.std.specs.List.Sorted.{IsStrictlySortedBy}
-use Rattle.fab_maps.specs.Firsts.{IsFirstWith}
-use Rattle.fab_maps.specs.Adding.{Adds, Among}
-use Rattle.fab_maps.specs.MapsOfSets.{in_tree}
-use Rattle.fab_maps.proofs.Leasts.{least_as}
+use Rattle.fab_lemmas.specs.Firsts.{IsFirstWith}
+use Rattle.fab_lemmas.specs.Adding.{Adds, Among}
+use Rattle.fab_lemmas.specs.MapsOfSets.{in_tree}
+use Rattle.fab_lemmas.proofs.Leasts.{least_as}
 use Rattle.fab_names.specs.Orders.{name_cmp}
 use Rattle.fab_names.proofs.OrderLaws.{name_total, name_exact}
 use Rattle.fab_mapping_base.specs.declared.nexus.Nexus.{Nexus}

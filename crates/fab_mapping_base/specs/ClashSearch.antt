@@ -5,8 +5,8 @@ use Rattle.std.specs.BTreeMap.{BTreeMap}
 use Rattle.std.specs.BTreeSet.{BTreeSet}
 use Rattle.std.specs.FinMap as map
 use Rattle.std.specs.FinSet as set
-use Rattle.fab_maps.specs.Firsts.{IsFirstOf}
-use Rattle.fab_maps.specs.MapsOfSets.{tree_has}
+use Rattle.fab_lemmas.specs.Firsts.{IsFirstOf}
+use Rattle.fab_lemmas.specs.MapsOfSets.{tree_has}
 use Rattle.fab_names.specs.Orders.{name_cmp}
 use Rattle.fab_mapping_base.specs.declared.limits.TheConstants.{MOST_STORAGE_GROUPS}
 use Rattle.fab_mapping_base.specs.declared.nexus.Nexus.{Nexus}

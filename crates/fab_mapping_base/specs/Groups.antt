@@ -4,7 +4,7 @@ use Rattle.std.specs.Coded.{Coded, code_by, coded×, coded_ℕ, coded_bool}
 use Rattle.std.specs.Ordering.{nat_cmp}
 use Rattle.std.specs.FinMap as map
 use Rattle.std.specs.FinSet as set
-use Rattle.fab_maps.specs.Room.{HasRoom, IsFullSet, SetHasRoom}
+use Rattle.fab_lemmas.specs.Room.{HasRoom, IsFullSet, SetHasRoom}
 use Rattle.fab_names.specs.Orders.{name_cmp}
 use Rattle.fab_names.specs.Codes.{name_code}
 use Rattle.fab_mapping_base.specs.declared.limits.TheConstants.{MOST_GROUPS_SERVED, MOST_TARGETS, MOST_UNITS}

@@ -6,8 +6,8 @@ ghost use Rattle.std.specs.List.{slice_get};
 ghost use Rattle.std.specs.Ordering.{nat_cmp};
 ghost use Rattle.std.specs.BTreeMap.{get};
 ghost use Rattle.std.specs.BTreeSet.{contains};
-ghost use Rattle.fab_maps.specs.Firsts.{IsFirstWith, lesser};
-ghost use Rattle.fab_maps.specs.Adding.{Among};
+ghost use Rattle.fab_lemmas.specs.Firsts.{IsFirstWith, lesser};
+ghost use Rattle.fab_lemmas.specs.Adding.{Among};
 ghost use Rattle.fab_names.specs.Orders.{name_cmp};
 ghost use Rattle.fab_mapping_base.specs.Nexuses.{nexus_cmp};
 ghost use Rattle.fab_mapping_base.specs.Clashes.{Maps, IsLeastClashIn, HasNoClashIn};
@@ -65,7 +65,7 @@ fn clash_of<A: Allocator + Copy>(
 fn lesser(a: Option<Nexus>, b: Option<Nexus>) -> Option<Nexus>
     ensures { result ≡ lesser nexus_cmp a b }
 {
-    fab_maps::lesser(a, b)
+    fab_lemmas::lesser(a, b)
 }
 
 /// The storage group at a place.

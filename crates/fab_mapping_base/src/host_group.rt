@@ -8,7 +8,7 @@ ghost use Rattle.fab_mapping_base.specs.Soundness.{IsSoundHostGroup};
 
 use crate::limits::MOST_HOSTS;
 use crate::same::are_same_names;
-use fab_maps::set_of;
+use fab_lemmas::set_of;
 use fab_names::Name;
 use std::alloc::{AllocError, Allocator};
 use std::collections::BTreeSet;

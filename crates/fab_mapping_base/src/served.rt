@@ -2,7 +2,7 @@
 ghost use Rattle.std.specs.Prelude.{◌≡◌, ◌↔◌, ◌<◌, length, map, slice_get, Some, true, false, List, ℕ, OnOk, IfOk, Contains};
 ghost use Rattle.std.specs.FinSet as set;
 ghost use Rattle.std.specs.BTreeMap.{get};
-ghost use Rattle.fab_maps.specs.Adding.{Adds};
+ghost use Rattle.fab_lemmas.specs.Adding.{Adds};
 ghost use Rattle.fab_names.specs.Orders.{name_cmp};
 ghost use Rattle.fab_mapping_base.specs.Groups.{StorageGroupRows};
 ghost use Rattle.fab_mapping_base.specs.Clashes.{IsExposed};

@@ -11,9 +11,9 @@ use Rattle.fab_mapping_base.proofs.NexusOrder.{nexus_total}
 use Rattle.fab_mapping_base.specs.Nexuses.{nexus_cmp}
 use Rattle.fab_mapping_base.specs.declared.nexus.Nexus.{Nexus}
 use Rattle.fab_mapping.specs.Mappings.{MappingRows, IsLeastClash}
-use Rattle.fab_reach.proofs.PathOrder.{both_equal}
-use Rattle.fab_reach.specs.Records.{ConfigRows}
-use Rattle.fab_steps.specs.Steps.{PlanStep}
+use Rattle.fab_reach_base.proofs.PathOrder.{both_equal}
+use Rattle.fab_reach_base.specs.Records.{ConfigRows}
+use Rattle.fab_plans_steps.specs.Steps.{PlanStep}
 use Rattle.fab_plans.specs.Outcomes.{AllDone, IsOutcome, IsRefusedAt, IsClashAtEnd, IsRefusedOutcome}
 use Rattle.fab_plans.specs.Steps.{StepDone, StepRefused}
 use Rattle.fab_plans.specs.declared.fault.Refusal.{Refusal}

@@ -8,7 +8,7 @@ use Rattle.fab_names.specs.declared.fabric.Fabric.{Fabric}
 use Rattle.fab_names.specs.declared.member.Member.{Member}
 use Rattle.fab_names.specs.declared.member.Member.TheVariants as member
 use Rattle.fab_names.specs.Orders.{name_cmp}
-use Rattle.fab_maps.specs.MapsOfSets.{in_set}
+use Rattle.fab_lemmas.specs.MapsOfSets.{in_set}
 use Rattle.fab_zoning.specs.declared.fault.ZoningFault.{ZoningFault}
 use Rattle.fab_zoning.specs.declared.fault.ZoningFault.TheVariants as fault
 use Rattle.fab_zoning.specs.declared.fault.ZoningLimit.TheVariants as limit
@@ -18,7 +18,7 @@ use Rattle.fab_zoning.specs.Zonings.{FabricZoning}
 use Rattle.fab_zoning.specs.Resolved.{IsResolved, AreResolved, MoreThan}
 use Rattle.fab_zoning.specs.Steps as base
 use Rattle.fab_zoning.proofs.RowSets.{row_total, row_exact}
-use Rattle.fab_steps.specs.Steps.{alias_put, alias_drop, zone_put, zone_drop, set_put, activate}
+use Rattle.fab_plans_steps.specs.Steps.{alias_put, alias_drop, zone_put, zone_drop, set_put, activate}
 use Rattle.fab_plans.specs.Checks.{PassesAll, IsFirstRefusal}
 use Rattle.fab_plans.specs.ZoningSteps.{ZoningFails}
 use Rattle.fab_plans.specs.Telling.{IsFaultOf, TellsZoning}

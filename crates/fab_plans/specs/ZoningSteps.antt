@@ -3,14 +3,14 @@ use Rattle.std.specs.Prelude.{ℕ, ◌≡◌, List, None, Some, false}
 use Rattle.std.specs.FinMap as map
 use Rattle.std.specs.FinSet as set
 use Rattle.fab_names.specs.declared.member.Member.TheVariants as member
-use Rattle.fab_maps.specs.Firsts.{IsFirstWithout}
-use Rattle.fab_maps.specs.MapsOfSets.{IsFirstUser}
-use Rattle.fab_maps.specs.Room.{IsFull}
+use Rattle.fab_lemmas.specs.Firsts.{IsFirstWithout}
+use Rattle.fab_lemmas.specs.MapsOfSets.{IsFirstUser}
+use Rattle.fab_lemmas.specs.Room.{IsFull}
 use Rattle.fab_zoning.specs.Limits.{most_aliases, most_zones, most_sets, most_rows}
 use Rattle.fab_zoning.specs.Resolved.{IsResolved, AreResolved, MoreThan}
 use Rattle.fab_zoning.specs.Steps.{HasAlias, HasZone}
 use Rattle.fab_zoning.specs.Zonings.{FabricZoning}
-use Rattle.fab_steps.specs.Steps.{PlanStep, alias_put, alias_drop, zone_put, zone_drop, set_put, set_drop, activate, deactivate, default_zone}
+use Rattle.fab_plans_steps.specs.Steps.{PlanStep, alias_put, alias_drop, zone_put, zone_drop, set_put, set_drop, activate, deactivate, default_zone}
 use Rattle.fab_plans.specs.Checks.{Check, own_name, other_names, no_user, room, FailsWith, PassesAll}
 use Rattle.fab_plans.specs.declared.fault.Item.TheVariants as item
 use Rattle.fab_plans.specs.declared.fault.Refusal.{Refusal}

@@ -1,7 +1,7 @@
 //! The trial of steps on a configuration.
 ghost use Rattle.std.specs.Prelude.{◌≡◌, ◌+◌, ◌<◌, ◌^◌, OnOk, IfOk, IfErr};
 ghost use Rattle.fab_plans.specs.Steps.{StepDone, FailsIn, fabric_of};
-ghost use Rattle.fab_reach.specs.Soundness.{IsSoundBeside};
+ghost use Rattle.fab_reach_base.specs.Soundness.{IsSoundBeside};
 ghost use Rattle.fab_plans.specs.Outcomes.{AllDone, IsOutcome, IsTrialFault};
 ghost use Rattle.fab_plans.specs.Telling.{IsFaultOf, fault_at};
 
@@ -11,8 +11,8 @@ use crate::zoning_steps::{fabric, take_zoning_step};
 use crate::{Refusal, TrialFault};
 use fab_inventory::Inventory;
 use fab_names::Fabric;
-use fab_reach::Config;
-use fab_steps::{Action, Step};
+use fab_plans_steps::{Action, Step};
+use fab_reach_base::Config;
 use std::alloc::Allocator;
 
 /// Does a step on a configuration.

@@ -3,13 +3,13 @@
 ghost use Rattle.std.specs.Prelude.{◌≡◌, ◌≢◌, OnOk, OnErr, IfOk, IfErr};
 ghost use Rattle.fab_plans.specs.Outcomes.{IsOutcome, IsTrialFault};
 ghost use Rattle.fab_plans.specs.Plans.{seen_plan, new_plan, approved_by, IsApprovalFault};
-ghost use Rattle.fab_reach.specs.Soundness.{IsSoundBeside};
+ghost use Rattle.fab_reach_base.specs.Soundness.{IsSoundBeside};
 
 use crate::{ApprovalFault, Plan, TrialFault, trial};
 use fab_inventory::Inventory;
 use fab_names::Name;
-use fab_reach::Config;
-use fab_steps::Step;
+use fab_plans_steps::Step;
+use fab_reach_base::Config;
 use std::alloc::Allocator;
 
 /// A plan that is staged: it may be approved, tried, activated or withdrawn.

@@ -4,7 +4,7 @@
 use crate::worlds::{name, port};
 use fab_inventory::Inventory;
 use fab_names::Fabric;
-use fab_reach::{Config, Path, plain_paths};
+use fab_reach_base::{Config, Path, plain_paths};
 use fab_zoning::Why;
 use std::alloc::Global;
 use std::process::Abort;

@@ -8,7 +8,7 @@ use crate::worlds::{
 use fab_inventory::Inventory;
 use fab_mapping::Nexus;
 use fab_plans::{Item, Refusal, StepLimit, TrialFault, trial};
-use fab_reach::Config;
+use fab_reach_base::Config;
 use std::alloc::Global;
 use std::process::Abort;
 

@@ -9,7 +9,7 @@ use crate::worlds::{
     stock, take,
 };
 use fab_inventory::Inventory;
-use fab_reach::Config;
+use fab_reach_base::Config;
 use std::alloc::Global;
 use std::process::Abort;
 

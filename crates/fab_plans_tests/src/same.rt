@@ -1,7 +1,7 @@
 //! Which steps are the same.
 
-use fab_plans_base::{Step, read_plan};
-use fab_same_steps::are_same;
+use fab_plans_same::are_same;
+use fab_plans_text::{Step, read_plan};
 use std::alloc::Global;
 use std::process::Abort;
 

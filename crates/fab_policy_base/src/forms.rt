@@ -14,7 +14,7 @@ use crate::policy::{Action, Freeze, Quorum, Scope, Tenants, WEEK_MINUTES, WeekSp
 use crate::read::{Read, each, list, optional};
 use crate::text::Text;
 use fab_names::{Fabric, Name};
-use fab_tokens::is_token;
+use fab_names_tokens::is_token;
 use std::alloc::Global;
 use toml::value::Array;
 use toml::{Table, Value};

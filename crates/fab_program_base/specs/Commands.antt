@@ -1,21 +1,21 @@
 -- What the commands of one caller at a database come to.
 use Rattle.std.specs.Prelude.{ℕ, ◌≡◌, List, Option, Result, Ok, Err}
 use Rattle.std.specs.declared.alloc.Global.{Global}
-use Rattle.fab_answers.specs.declared.answers.Answer.{Answer}
+use Rattle.fab_wire_answers.specs.declared.answers.Answer.{Answer}
 use Rattle.fab_desk_base.specs.declared.command.Command.TheVariants as command
 use Rattle.fab_desk_base.specs.declared.command.Query.{Query}
 use Rattle.fab_policy_base.specs.Policies.{PolicyRows}
-use Rattle.fab_printing.specs.declared.forms.Form.{Form}
-use Rattle.fab_printing.specs.declared.forms.Form.TheVariants.{Json}
-use Rattle.fab_printing.specs.declared.printing.End.{End}
+use Rattle.fab_files_printing.specs.declared.forms.Form.{Form}
+use Rattle.fab_files_printing.specs.declared.forms.Form.TheVariants.{Json}
+use Rattle.fab_files_printing.specs.declared.printing.End.{End}
 use Rattle.fab_program_outside.specs.Coming.{Then}
 use Rattle.fab_program_outside.specs.Contents.{HasContent, IsPolicyAt, IsUnread}
 use Rattle.fab_program_outside.specs.declared.faults.Fault.{Fault}
 use Rattle.fab_program_outside.specs.declared.files.Files as files
 use Rattle.fab_store.specs.declared.Store as store
-use Rattle.fab_words.specs.declared.words.Access.{Access}
-use Rattle.fab_words.specs.declared.words.DryRun.{DryRun}
-use Rattle.fab_words.specs.declared.words.Import.{Import}
+use Rattle.fab_program_options.specs.declared.words.Access.{Access}
+use Rattle.fab_program_options.specs.declared.words.DryRun.{DryRun}
+use Rattle.fab_program_options.specs.declared.words.Import.{Import}
 use Rattle.fab_program_base.specs.Desks.{ProgramDesk}
 use Rattle.fab_program_base.specs.Tasks.{ComesOver, ImportsAt, Replies}
 use Rattle.fab_program_base.specs.declared.database.Databases as databases

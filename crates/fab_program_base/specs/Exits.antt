@@ -1,15 +1,15 @@
 -- How the program ends.
 use Rattle.std.specs.Prelude.{ℕ, ◌≡◌, ◌⊎◌, List, Result, Ok, Err}
-use Rattle.fab_printing.specs.declared.printing.End.{End}
-use Rattle.fab_printing.specs.declared.printing.End.TheVariants.{Done, Refused}
+use Rattle.fab_files_printing.specs.declared.printing.End.{End}
+use Rattle.fab_files_printing.specs.declared.printing.End.TheVariants.{Done, Refused}
 use Rattle.fab_program_outside.specs.declared.faults.Fault.{Fault}
 use Rattle.fab_program_outside.specs.declared.faults.Fault.TheVariants.{Stream, Listen, Clock}
-use Rattle.fab_serving.specs.declared.serving.ServeFault.{ServeFault}
-use Rattle.fab_serving.specs.declared.serving.ServeFault.TheVariants as serving
+use Rattle.fab_wire_serving.specs.declared.serving.ServeFault.{ServeFault}
+use Rattle.fab_wire_serving.specs.declared.serving.ServeFault.TheVariants as serving
 use Rattle.fab_wire.specs.declared.outcome.Outcome.{Outcome}
 use Rattle.fab_wire.specs.declared.outcome.Outcome.TheVariants as outcome
-use Rattle.fab_words.specs.declared.reading.WordsFault.{WordsFault}
-use Rattle.fab_words.specs.declared.reading.WordsFault.TheVariants as words
+use Rattle.fab_program_options.specs.declared.reading.WordsFault.{WordsFault}
+use Rattle.fab_program_options.specs.declared.reading.WordsFault.TheVariants as words
 
 -- a request is done where its answer was written, or there was none; else a stream failed
 abbrev pub ended : Outcome → Result End Fault

@@ -1,6 +1,6 @@
 -- What a desk that serves connections does.
 use Rattle.std.specs.Prelude.{ℕ, ◌≡◌, Bool, None, is_none}
-use Rattle.fab_serving.specs.Sides.{Side, Sides}
+use Rattle.fab_wire_serving.specs.Sides.{Side, Sides}
 use Rattle.fab_store.specs.declared.OpenFault.{OpenFault}
 use Rattle.fab_store.specs.declared.Store as store
 use Rattle.fab_wire.specs.Desks.{IsOpened, IsUnopened}

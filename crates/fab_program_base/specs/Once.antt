@@ -3,7 +3,7 @@ use Rattle.std.specs.Prelude.{ℕ, ◌≡◌, ◌⊎◌, List, Option, Result, O
 use Rattle.std.specs.declared.alloc.Global.{Global}
 use Rattle.fab_policy_base.specs.Policies.{PolicyRows}
 use Rattle.fab_policy_base.specs.declared.trial.TheConstants.{TRIAL_POLICY}
-use Rattle.fab_printing.specs.declared.printing.End.{End}
+use Rattle.fab_files_printing.specs.declared.printing.End.{End}
 use Rattle.fab_program_outside.specs.Coming.{After, Then}
 use Rattle.fab_program_outside.specs.Contents.{IsPolicyAt, IsPolicyFrom}
 use Rattle.fab_program_outside.specs.declared.faults.Fault.{Fault}
@@ -12,8 +12,8 @@ use Rattle.fab_program_outside.specs.declared.files.Files as files
 use Rattle.fab_store.specs.declared.Store as store
 use Rattle.fab_wire.specs.Serving.{Side, side, Serves}
 use Rattle.fab_wire.specs.declared.outcome.Outcome.{Outcome}
-use Rattle.fab_words.specs.declared.words.Over.{Over}
-use Rattle.fab_words.specs.declared.words.Over.TheVariants as over
+use Rattle.fab_program_options.specs.declared.words.Over.{Over}
+use Rattle.fab_program_options.specs.declared.words.Over.TheVariants as over
 use Rattle.fab_program_base.specs.Databases.{IsDeskOver}
 use Rattle.fab_program_base.specs.Desks.{ProgramDesk}
 use Rattle.fab_program_base.specs.Exits.{ended}

@@ -2,8 +2,8 @@
 use Rattle.std.specs.Prelude.{ℕ, ◌≡◌, List, Option, Result, Ok, Err}
 use Rattle.std.specs.declared.alloc.Global.{Global}
 use Rattle.fab_desk_base.specs.declared.command.Query.TheVariants as query
-use Rattle.fab_printing.specs.declared.forms.Form.TheVariants as form
-use Rattle.fab_printing.specs.declared.printing.End.{End}
+use Rattle.fab_files_printing.specs.declared.forms.Form.TheVariants as form
+use Rattle.fab_files_printing.specs.declared.printing.End.{End}
 use Rattle.fab_program_outside.specs.Faults.{line_of, words_line}
 use Rattle.fab_program_outside.specs.Moments.{IsMoment}
 use Rattle.fab_program_outside.specs.Telling.{IsTold}
@@ -11,10 +11,10 @@ use Rattle.fab_program_outside.specs.declared.faults.Fault.{Fault}
 use Rattle.fab_program_outside.specs.declared.faults.Fault.TheVariants as fault
 use Rattle.fab_program_outside.specs.declared.files.Files as files
 use Rattle.fab_store.specs.declared.Store as store
-use Rattle.fab_words.specs.declared.reading.WordsFault.{WordsFault}
-use Rattle.fab_words.specs.declared.reading.WordsFault.TheVariants as wrong
-use Rattle.fab_words.specs.declared.words.Words.{Words}
-use Rattle.fab_words.specs.declared.words.Words.TheVariants as words
+use Rattle.fab_program_options.specs.declared.reading.WordsFault.{WordsFault}
+use Rattle.fab_program_options.specs.declared.reading.WordsFault.TheVariants as wrong
+use Rattle.fab_program_options.specs.declared.words.Words.{Words}
+use Rattle.fab_program_options.specs.declared.words.Words.TheVariants as words
 use Rattle.fab_program_base.specs.Commands.{DryRunComes, ImportComes, ShowComes}
 use Rattle.fab_program_base.specs.Databases.{IsMade}
 use Rattle.fab_program_base.specs.Exits.{end_of_making, end_only}

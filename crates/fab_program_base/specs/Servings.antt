@@ -3,15 +3,15 @@ use Rattle.std.specs.Prelude.{ℕ, ◌≡◌, ◌⊎◌, List, Option, Some, Non
 use Rattle.std.specs.declared.alloc.Global.{Global}
 use Rattle.std.specs.declared.net.TcpListener.{TcpListener}
 use Rattle.fab_policy_base.specs.Policies.{PolicyRows}
-use Rattle.fab_printing.specs.declared.printing.End.{End}
+use Rattle.fab_files_printing.specs.declared.printing.End.{End}
 use Rattle.fab_program_outside.specs.Coming.{After, Then}
 use Rattle.fab_program_outside.specs.Contents.{IsPolicyAt}
 use Rattle.fab_program_outside.specs.declared.faults.Fault.{Fault}
 use Rattle.fab_program_outside.specs.declared.faults.Fault.TheVariants as fault
 use Rattle.fab_program_outside.specs.declared.files.Files as files
-use Rattle.fab_serving.specs.declared.serving.ServeFault.{ServeFault}
+use Rattle.fab_wire_serving.specs.declared.serving.ServeFault.{ServeFault}
 use Rattle.fab_store.specs.declared.Store as store
-use Rattle.fab_words.specs.declared.words.Serve.{Serve}
+use Rattle.fab_program_options.specs.declared.words.Serve.{Serve}
 use Rattle.fab_program_base.specs.Databases.{IsDeskOver}
 use Rattle.fab_program_base.specs.Exits.{served}
 use Rattle.fab_program_base.specs.declared.addresses.Addresses as addresses

@@ -4,8 +4,8 @@ ghost use Rattle.fab_program_outside.specs.declared.faults.Fault.{Fault};
 ghost use Rattle.fab_program_base.specs.Databases.{IsAgain, IsDeskOver, IsMade, fault_of_opening};
 
 use fab_policy_base::Policy;
-use fab_port_book::PortBook;
 use fab_program_outside::{Fault, Files, is_free};
+use fab_reach_book::PortBook;
 use fab_store::{OpenFault, Store};
 use fab_wire::Desk;
 use std::alloc::Global;

@@ -2,11 +2,11 @@
 ghost use Rattle.std.specs.Prelude.{◌≡◌};
 
 use crate::database::ProgramDesk;
-use fab_json::counted::Counted;
-use fab_serving::{Bounded, Server, Shown};
 use fab_store::{OpenFault, Store};
 use fab_wire::{Outcome, serve_one};
 use fab_wire_base::routes::Routes;
+use fab_wire_serving::{Bounded, Server, Shown};
+use fab_wire_streams::counted::Counted;
 use std::alloc::Global;
 use std::io::{Read, Write};
 
@@ -29,8 +29,7 @@ impl<S: Store<Global>> Server for Front<S> {
     type Outcome = Outcome;
 
     ghost use Rattle.fab_program_base.specs.Fronts.{is_halted_desk, ServesDesk, ReleasesDesk, ReopensDesk, RefusesDesk};
-    ghost use Rattle.fab_serving.specs.Shown.{shown_text};
-
+    ghost use Rattle.fab_wire_serving.specs.Shown.{shown_text};
     ghost use Rattle.fab_wire.specs.Telling.{outcome_text};
 
     ghost is_halted = { λ f. is_halted_desk f.desk };

@@ -4,8 +4,8 @@ ghost use Rattle.sqlite.specs.Files.{file_state, IsOpened};
 ghost use Rattle.sqlite.specs.Held.{state};
 ghost use Rattle.sqlite.specs.State.{HasCleanDisk};
 ghost use Rattle.sqlite.specs.Steps.{over_memory};
-ghost use Rattle.fab_sql.specs.NewDesk.{IsNewDesk};
-ghost use Rattle.fab_sql.specs.Trees.{tables_of};
+ghost use Rattle.fab_store_sql.specs.NewDesk.{IsNewDesk};
+ghost use Rattle.fab_store_sql.specs.Trees.{tables_of};
 ghost use Rattle.fab_program_base.specs.Tables.{opened_fault};
 
 use crate::addresses::Addresses;
@@ -103,8 +103,8 @@ impl<'r> Databases for Machine<'r> {
     ghost use Rattle.std.specs.Prelude.{IfOk};
     ghost use Rattle.sqlite.specs.Files.{file_state, IsOpened};
     ghost use Rattle.sqlite.specs.State.{HasCleanDisk};
-    ghost use Rattle.fab_sql.specs.NewDesk.{IsNewDesk};
-    ghost use Rattle.fab_sql.specs.Trees.{tables_of};
+    ghost use Rattle.fab_store_sql.specs.NewDesk.{IsNewDesk};
+    ghost use Rattle.fab_store_sql.specs.Trees.{tables_of};
 
     type Tables = FileTables;
 

@@ -3,8 +3,8 @@ ghost use Rattle.std.specs.Prelude.{◌≡◌, IfOk};
 ghost use Rattle.sqlite.specs.Held.{state};
 ghost use Rattle.sqlite.specs.State.{HasCleanDisk};
 ghost use Rattle.sqlite.specs.Steps.{over_memory};
-ghost use Rattle.fab_sql.specs.NewDesk.{IsNewDesk};
-ghost use Rattle.fab_sql.specs.Trees.{tables_of};
+ghost use Rattle.fab_store_sql.specs.NewDesk.{IsNewDesk};
+ghost use Rattle.fab_store_sql.specs.Trees.{tables_of};
 ghost use Rattle.fab_program_outside.specs.Coming.{After, Then};
 ghost use Rattle.fab_program_base.specs.Databases.{IsDeskOver};
 ghost use Rattle.fab_program_base.specs.Exits.{ended};
@@ -12,14 +12,14 @@ ghost use Rattle.fab_program_base.specs.Once.{ComesOnce, IsServedAt, IsServedOve
 
 use crate::database::{Databases, ProgramDesk, desk_over};
 use crate::machine::new_tables;
-use fab_json::counted::Counted;
+use fab_files_printing::End;
 use fab_policy_base::{Policy, TRIAL_POLICY};
-use fab_printing::End;
+use fab_program_options::{Once, Over};
 use fab_program_outside::{Fault, Files, policy_from, policy_of};
 use fab_store::{SqlStore, Store};
 use fab_wire::{Outcome, serve_one};
 use fab_wire_base::routes::Routes;
-use fab_words::{Once, Over};
+use fab_wire_streams::counted::Counted;
 use sqlite::MemStore;
 use std::alloc::Global;
 use std::io::{Read, Write};

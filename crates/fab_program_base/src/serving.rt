@@ -7,13 +7,13 @@ ghost use Rattle.fab_program_base.specs.Servings.{ComesServing, IsServedAt, IsSe
 use crate::addresses::Addresses;
 use crate::database::{Databases, ProgramDesk, desk_over, tables_again};
 use crate::front::Front;
+use fab_files_printing::End;
 use fab_policy_base::Policy;
-use fab_printing::End;
+use fab_program_options::Serve;
 use fab_program_outside::{Fault, Files, policy_of};
-use fab_serving::{ServeFault, Watch, serve_on};
 use fab_store::{OpenFault, Store};
 use fab_wire_base::routes::Routes;
-use fab_words::Serve;
+use fab_wire_serving::{ServeFault, Watch, serve_on};
 use std::alloc::Global;
 use std::io::Write;
 

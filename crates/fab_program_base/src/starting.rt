@@ -2,8 +2,8 @@
 ghost use Rattle.fab_program_base.specs.Exits.{IsExitStatus};
 
 use crate::running::run;
-use fab_json::counted::Counted;
 use fab_program_outside::{fail, open_standard, refuse_args, seconds, words_of};
+use fab_wire_streams::counted::Counted;
 use std::io;
 
 /// Runs the program with the words, the clock, the standard streams and the files of this machine, and

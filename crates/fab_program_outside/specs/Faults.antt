@@ -1,8 +1,8 @@
 -- The lines on standard error that tell why the program could not do what was asked.
 use Rattle.std.specs.Prelude.{ℕ, List, [], ◌∷◌, codes, decimal}
 use Rattle.std.specs.List.{flat_map}
-use Rattle.fab_load.specs.declared.fault.Table.{Table}
-use Rattle.fab_load.specs.declared.fault.Table.TheVariants as table
+use Rattle.fab_store_load.specs.declared.fault.Table.{Table}
+use Rattle.fab_store_load.specs.declared.fault.Table.TheVariants as table
 use Rattle.fab_program_outside.specs.declared.faults.Fault.{Fault}
 use Rattle.fab_program_outside.specs.declared.faults.Fault.TheVariants.{File, Policy, Store, Memory, Listen, Stream, Clock, Damaged, NewerSchema}
 

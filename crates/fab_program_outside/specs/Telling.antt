@@ -1,7 +1,7 @@
 -- What is told on standard error.
 use Rattle.std.specs.Prelude.{ℕ, List, Result}
-use Rattle.fab_json.specs.Taking.{Takes}
-use Rattle.fab_json.specs.declared.streams.WriteFailed.{WriteFailed}
+use Rattle.fab_wire_streams.specs.Taking.{Takes}
+use Rattle.fab_wire_streams.specs.declared.streams.WriteFailed.{WriteFailed}
 use Rattle.fab_program_outside.specs.Faults.{line_of, words_line}
 use Rattle.fab_program_outside.specs.declared.args.ArgsFault.{ArgsFault}
 use Rattle.fab_program_outside.specs.declared.args.ArgsFault.TheVariants.{NotText, Memory}

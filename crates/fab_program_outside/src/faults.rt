@@ -2,7 +2,7 @@
 ghost use Rattle.std.specs.Prelude.{◌≡◌};
 ghost use Rattle.fab_program_outside.specs.Faults as faults;
 
-use fab_load::Table;
+use fab_store_load::Table;
 
 /// Why the program ends with status 3.
 #[derive(Clone, Copy, Debug, PartialEq, Eq, Drop)]

@@ -1,13 +1,13 @@
 //! What is told on standard error, and the exit statuses that go with it.
 ghost use Rattle.std.specs.Prelude.{◌≡◌};
-ghost use Rattle.fab_json.specs.Taking.{Takes};
+ghost use Rattle.fab_wire_streams.specs.Taking.{Takes};
 ghost use Rattle.fab_program_outside.specs.Faults.{line_of, word_line, detail_line, words_line};
 ghost use Rattle.fab_program_outside.specs.Telling.{IsTold, args_status, args_line};
 
 use crate::args::ArgsFault;
 use crate::faults::{Fault, table_name};
-use fab_json::sink::{Sink, put_all};
-use fab_json::streams::WriteFailed;
+use fab_wire_streams::sink::{Sink, put_all};
+use fab_wire_streams::streams::WriteFailed;
 use itoa::Buffer;
 
 /// The exit status of what could not be done; the standard error has a line that says why.

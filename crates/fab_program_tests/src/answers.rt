@@ -1,7 +1,7 @@
 //! What a desk answers to the bytes of a request.
 
 use super::desks::Asked;
-use fab_exchanges::{Exchange, exchange_of, turn_of};
+use fab_test_wire::{Exchange, exchange_of, turn_of};
 use fab_wire_base::routes::Routes;
 use std::process::Abort;
 use std::test::Fail;

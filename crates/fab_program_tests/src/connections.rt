@@ -2,13 +2,13 @@
 
 use super::answers::{STORE, asking_of};
 use super::desks::made;
-use fab_exchanges::rows::WORLD;
 use fab_policy_base::{Policy, TRIAL_POLICY};
 use fab_program_base::front::Front;
-use fab_serving::{Watch, serve_on};
 use fab_store::{OpenFault, RefusingStore, SqlStore, Store};
+use fab_test_wire::rows::WORLD;
 use fab_wire::Desk;
 use fab_wire_base::routes::Routes;
+use fab_wire_serving::{Watch, serve_on};
 use sqlite::{Connection, File, FileStore};
 use std::alloc::Global;
 use std::io::{Read, Write};

@@ -1,12 +1,12 @@
 //! A desk whose memory comes from an allocator of the test's, and what the tests ask of it.
 
 use super::tables::are_same;
-use fab_json::counted::Counted;
 use fab_policy_base::{Policy, TRIAL_POLICY};
-use fab_reach::PathBook;
+use fab_reach_base::PathBook;
 use fab_store::{SqlStore, Store};
 use fab_wire::{Desk, serve_one};
 use fab_wire_base::routes::Routes;
+use fab_wire_streams::counted::Counted;
 use fab_world::World;
 use sqlite::Alter;
 use std::alloc::{Allocator, Global};

@@ -7,14 +7,14 @@
 
 use super::answers::{Asking, asking_of, is_given};
 use super::desks::{Asked, Trial, desk_of, made};
-use fab_exchanges::rows::{
+use fab_reach_base::PathBook;
+use fab_reach_book::PortBook;
+use fab_store::{SqlStore, Store};
+use fab_test_alloc::Refusing;
+use fab_test_wire::rows::{
     ALIAS_PUT_ANEW, APPROVALS, FIRST_PLAN, ROLLED_BACK, SECOND_PLAN, UNIT_CLASH, UNMAPPED,
     VOLUME_GONE, WORLD,
 };
-use fab_port_book::PortBook;
-use fab_reach::PathBook;
-use fab_refusing::Refusing;
-use fab_store::{SqlStore, Store};
 use sqlite::{Alter, Connection};
 use std::alloc::{Allocator, Global};
 use std::process::Abort;

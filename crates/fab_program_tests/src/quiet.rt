@@ -3,9 +3,9 @@
 
 use super::answers::{asking_of, is_given};
 use super::desks::{Asked, Trial, desk_of, made};
-use fab_port_book::PortBook;
-use fab_refusing::Refusing;
+use fab_reach_book::PortBook;
 use fab_store::SqlStore;
+use fab_test_alloc::Refusing;
 use sqlite::{Connection, MemStore};
 use std::alloc::Global;
 use std::process::Abort;

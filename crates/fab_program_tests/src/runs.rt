@@ -2,10 +2,10 @@
 //! status. The desk stands in a file, which each run opens anew.
 
 use super::answers::asking_of;
-use fab_exchanges::rows::{FIRST_PLAN, WORLD};
-use fab_exchanges::streams::{Breaking, Slow};
 use fab_policy_base::TRIAL_POLICY;
 use fab_program_base::run;
+use fab_test_wire::rows::{FIRST_PLAN, WORLD};
+use fab_test_wire::streams::{Breaking, Slow};
 use std::cell::Cell;
 use std::fs;
 use std::process::Abort;

@@ -1,16 +1,16 @@
 //! The statements of the tables, over a database in memory: how many there are, the tables of a new
 //! desk, and rows that are read, taken out and added again.
 
-use fab_lines::{
+use fab_store_columns::{
     ActiveLine, ApprovalLine, GroupLine, HolderLine, MetaLine, PartLine, PathLine, PlanLine,
     PortLine, VolumeLine, ZoningLine,
 };
-use fab_sql::{
+use fab_store_sql::{
     Line, apply, create_text, delete_text, has_tables, init, insert_text, paths_text, read_all,
     read_paths_of, select_text,
 };
-use fab_tables::{LineChanges, Table, TableLine};
-use fab_undo_lines::UndoLine;
+use fab_store_tables::{LineChanges, Table, TableLine};
+use fab_store_undo::UndoLine;
 use sqlite::{Connection, MemStore};
 use std::alloc::Global;
 use std::collections::BTreeSet;

@@ -1,8 +1,8 @@
 //! Runs whose words are wrong: what is told of them has no token.
 
 use super::runs::{QUIET, Run, are_run, words_from};
-use fab_exchanges::streams::{Breaking, Slow};
 use fab_program_base::run;
+use fab_test_wire::streams::{Breaking, Slow};
 use std::process::Abort;
 
 /// A token that has not its text form.

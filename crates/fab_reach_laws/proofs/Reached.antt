@@ -24,9 +24,9 @@ use Rattle.fab_mapping_base.specs.Clashes.{HostClaims, GroupClaims}
 use Rattle.fab_mapping_base.specs.Groups.{HostGroupRows, StorageGroupRows}
 use Rattle.fab_mapping_base.specs.Nexuses.{Claim}
 use Rattle.fab_mapping.specs.Mappings.{MappingRows, IsMapped}
-use Rattle.fab_reach.specs.Reach.{IsInitiator, IsInitiatorOf, IsTarget, Meets, Reaches, ReachesFrom, nexus_of}
-use Rattle.fab_reach.specs.Records.{Records, zoning_at}
-use Rattle.fab_reach.specs.declared.path.Path.{Path}
+use Rattle.fab_reach_base.specs.Reach.{IsInitiator, IsInitiatorOf, IsTarget, Meets, Reaches, ReachesFrom, nexus_of}
+use Rattle.fab_reach_base.specs.Records.{Records, zoning_at}
+use Rattle.fab_reach_base.specs.declared.path.Path.{Path}
 use Rattle.fab_reach_laws.proofs.Telling.{Told, both, all_three, either, negated, as_told, same_by, at_key, in_set, in_map}
 
 -- ---- zoning

@@ -1,8 +1,8 @@
 //! Whether a path is there can be told: a law is the contract of a function that does nothing.
 ghost use Rattle.std.specs.Prelude.{◌⊎◌, ℕ, List};
-ghost use Rattle.fab_reach.specs.Reach.{Reaches, ReachesFrom};
-ghost use Rattle.fab_reach.specs.Records.{Records};
-ghost use Rattle.fab_reach.specs.declared.path.Path.{Path};
+ghost use Rattle.fab_reach_base.specs.Reach.{Reaches, ReachesFrom};
+ghost use Rattle.fab_reach_base.specs.Records.{Records};
+ghost use Rattle.fab_reach_base.specs.declared.path.Path.{Path};
 
 /// A path is there in a world, or it is not: a search through the active rows, the storage groups and
 /// their host groups tells which.

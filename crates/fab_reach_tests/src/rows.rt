@@ -8,7 +8,7 @@ use crate::stock::{
 use crate::ways::{Ways, assert_ways};
 use fab_inventory::Inventory;
 use fab_names::Fabric;
-use fab_reach::{Config, few_paths, plain_paths};
+use fab_reach_base::{Config, few_paths, plain_paths};
 use std::alloc::Global;
 use std::process::Abort;
 

@@ -5,7 +5,7 @@ use crate::stock::{
     port,
 };
 use fab_names::Fabric;
-use fab_reach::Path;
+use fab_reach_base::Path;
 use std::alloc::Global;
 use std::process::Abort;
 

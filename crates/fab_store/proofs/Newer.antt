@@ -2,12 +2,12 @@
 use Rattle.std.proofs.Common.{Option, Some, None, MatchOption, take, length, get_or, ◌+◌, ◌<◌, ◌≤◌, ℕ, ◌≡◌, ⊎_elim, List, [], ◌∷◌, ◌++◌, sym, ap, ◌∙◌, subst, arith}
 use Rattle.std.proofs.lemmas.List.{take_more, take_all}
 use Rattle.std.proofs.lemmas.List.Elements.{Contains-push_cases}
-use Rattle.fab_lines.specs.MetaLines.{MetaColumns, ShowsMeta}
-use Rattle.fab_lines.specs.declared.meta_lines.MetaRow.{MetaRow}
-use Rattle.fab_lines.specs.declared.meta_lines.MetaRow.TheVariants.{Schema, Revision, Setting}
-use Rattle.fab_lines.proofs.UniqueConfig.{one_meta}
-use Rattle.fab_rows.specs.declared.config_row.SettingRow.{SettingRow}
-use Rattle.fab_rows.specs.declared.table_rows.TheConstants.{SCHEMA}
+use Rattle.fab_store_columns.specs.MetaLines.{MetaColumns, ShowsMeta}
+use Rattle.fab_store_columns.specs.declared.meta_lines.MetaRow.{MetaRow}
+use Rattle.fab_store_columns.specs.declared.meta_lines.MetaRow.TheVariants.{Schema, Revision, Setting}
+use Rattle.fab_store_columns.proofs.UniqueConfig.{one_meta}
+use Rattle.fab_store_rows.specs.declared.config_row.SettingRow.{SettingRow}
+use Rattle.fab_store_rows.specs.declared.table_rows.TheConstants.{SCHEMA}
 use Rattle.fab_store.specs.Loading.{TellsNewer, TellNewer}
 
 -- one line further

@@ -3,15 +3,15 @@ use Rattle.std.proofs.Common.{ℕ, ℤ, pos, ◌≡◌, List, [], refl, sym, ap,
 use Rattle.sqlite.specs.Order.{Row, column}
 use Rattle.sqlite.specs.declared.types.Value.{Value}
 use Rattle.sqlite.specs.declared.types.Value.TheVariants.{Int, Text}
-use Rattle.fab_lines.specs.RecordLines.{PathColumns, ShowsPath}
-use Rattle.fab_load.specs.declared.fault.Table.TheVariants as table
-use Rattle.fab_reach.specs.Orders.{IsListOf}
-use Rattle.fab_reach.specs.declared.path.Path.{Path}
-use Rattle.fab_row_lines_base.specs.Paths.{IsPathOf}
-use Rattle.fab_sql.specs.Reading.{AreLinesOf, IsOfHost}
-use Rattle.fab_stores.specs.Worlds.{HasPathOf, ArePathsIn}
-use Rattle.fab_tables.specs.Columns.{path_row}
-use Rattle.fab_tables.specs.Tables.{Tables}
+use Rattle.fab_store_columns.specs.RecordLines.{PathColumns, ShowsPath}
+use Rattle.fab_store_load.specs.declared.fault.Table.TheVariants as table
+use Rattle.fab_reach_base.specs.Orders.{IsListOf}
+use Rattle.fab_reach_base.specs.declared.path.Path.{Path}
+use Rattle.fab_store_listing.specs.Paths.{IsPathOf}
+use Rattle.fab_store_sql.specs.Reading.{AreLinesOf, IsOfHost}
+use Rattle.fab_store_base.specs.Worlds.{HasPathOf, ArePathsIn}
+use Rattle.fab_store_tables.specs.Columns.{path_row}
+use Rattle.fab_store_tables.specs.Tables.{Tables}
 
 text_in : Value → List ℕ
 text_in (Text t) = t

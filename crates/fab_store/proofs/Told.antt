@@ -2,21 +2,21 @@
 use Rattle.std.proofs.Common.{◌↔◌, List, map, Contains, subst}
 use Rattle.sqlite.specs.Effect.{Database}
 use Rattle.sqlite.specs.Order.{Row}
-use Rattle.fab_load.specs.declared.fault.Table.{Table}
-use Rattle.fab_load.specs.declared.fault.Table.TheVariants as table
-use Rattle.fab_row_lines.proofs.Distinct.{in_map, map_in}
-use Rattle.fab_row_lines.specs.Opened.{tables_of}
-use Rattle.fab_row_lines_base.specs.declared.lines.TableLines.{TableLines}
-use Rattle.fab_sql.specs.Reading.{IsAny, AreLinesOf}
-use Rattle.fab_sql.specs.Rows.{IsKeyed}
-use Rattle.fab_sql.specs.Trees.{tree_of, show_of}
-use Rattle.fab_sql.specs.Trees as sql
-use Rattle.fab_stores.specs.Calls.{OpensNot}
-use Rattle.fab_stores.specs.Worlds.{HoldsWorld}
-use Rattle.fab_stores.specs.declared.faults.OpenFault.{OpenFault}
-use Rattle.fab_stores.specs.declared.faults.OpenFault.TheVariants.{Damaged, NewerSchema, Store, Memory}
-use Rattle.fab_tables.specs.Columns.{meta_row, port_row, holder_row, volume_row, zoning_row, active_row, group_row, part_row, plan_row, approval_row, undo_row, path_row}
-use Rattle.fab_tables.specs.Tables.{Tables}
+use Rattle.fab_store_load.specs.declared.fault.Table.{Table}
+use Rattle.fab_store_load.specs.declared.fault.Table.TheVariants as table
+use Rattle.fab_store_moves.proofs.Distinct.{in_map, map_in}
+use Rattle.fab_store_moves.specs.Opened.{tables_of}
+use Rattle.fab_store_listing.specs.declared.lines.TableLines.{TableLines}
+use Rattle.fab_store_sql.specs.Reading.{IsAny, AreLinesOf}
+use Rattle.fab_store_sql.specs.Rows.{IsKeyed}
+use Rattle.fab_store_sql.specs.Trees.{tree_of, show_of}
+use Rattle.fab_store_sql.specs.Trees as sql
+use Rattle.fab_store_base.specs.Calls.{OpensNot}
+use Rattle.fab_store_base.specs.Worlds.{HoldsWorld}
+use Rattle.fab_store_base.specs.declared.faults.OpenFault.{OpenFault}
+use Rattle.fab_store_base.specs.declared.faults.OpenFault.TheVariants.{Damaged, NewerSchema, Store, Memory}
+use Rattle.fab_store_tables.specs.Columns.{meta_row, port_row, holder_row, volume_row, zoning_row, active_row, group_row, part_row, plan_row, approval_row, undo_row, path_row}
+use Rattle.fab_store_tables.specs.Tables.{Tables}
 use Rattle.fab_world.specs.Worlds.{WorldRows}
 use Rattle.fab_store.specs.Reads.{IsTableOf, HaveSame, AreTablesOf}
 

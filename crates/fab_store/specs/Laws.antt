@@ -4,9 +4,9 @@ use Rattle.std.proofs.Common.{sym, ap, ◌∙◌}
 use Rattle.sqlite.specs.Effect.{Database}
 use Rattle.sqlite.specs.State.{State}
 use Rattle.sqlite.specs.Tree.{Trees}
-use Rattle.fab_tables.specs.Tables.{Tables}
-use Rattle.fab_sql.specs.States.{IsReady}
-use Rattle.fab_sql.specs.Trees.{tables_of}
+use Rattle.fab_store_tables.specs.Tables.{Tables}
+use Rattle.fab_store_sql.specs.States.{IsReady}
+use Rattle.fab_store_sql.specs.Trees.{tables_of}
 
 -- trees that may be left have these tables
 abbrev pub Leaves : (Trees → Type 0) → Tables → Type 0

@@ -1,10 +1,10 @@
 -- What settings tell of a newer schema, and whether a plan has two lines.
 use Rattle.std.specs.Prelude.{ℕ, ◌<◌, List, Contains, map}
-use Rattle.fab_lines.specs.MetaLines.{MetaColumns, ShowsMeta}
-use Rattle.fab_lines.specs.PlanLines.{PlanColumns}
-use Rattle.fab_lines.specs.declared.meta_lines.MetaRow.TheVariants as meta
-use Rattle.fab_row_lines_base.specs.Listing.{AreDistinct}
-use Rattle.fab_rows.specs.declared.table_rows.TheConstants.{SCHEMA}
+use Rattle.fab_store_columns.specs.MetaLines.{MetaColumns, ShowsMeta}
+use Rattle.fab_store_columns.specs.PlanLines.{PlanColumns}
+use Rattle.fab_store_columns.specs.declared.meta_lines.MetaRow.TheVariants as meta
+use Rattle.fab_store_listing.specs.Listing.{AreDistinct}
+use Rattle.fab_store_rows.specs.declared.table_rows.TheConstants.{SCHEMA}
 
 -- the line tells this schema, which is newer
 pub record TellsNewer (l : MetaColumns) (n : ℕ) : Type 0 where

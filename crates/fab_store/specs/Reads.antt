@@ -3,14 +3,14 @@ use Rattle.std.specs.Prelude.{◌≡◌, ◌↔◌, false, List, IsTrue, Contain
 use Rattle.sqlite.specs.Effect.{Database}
 use Rattle.sqlite.specs.Order.{Row}
 use Rattle.sqlite.specs.State.{State, HasCleanDisk, Survives}
-use Rattle.fab_load.specs.declared.fault.Table.{Table}
-use Rattle.fab_tables.specs.Tables.{Tables}
-use Rattle.fab_sql.specs.Reading.{IsAny, AreLinesOf, Stays}
-use Rattle.fab_sql.specs.Rows.{IsKeyed}
-use Rattle.fab_sql.specs.Schema.{desk_schema}
-use Rattle.fab_sql.specs.Trees.{tree_of, show_of, tables_of}
-use Rattle.fab_row_lines.specs.Opened as lines
-use Rattle.fab_row_lines_base.specs.declared.lines.TableLines.{TableLines}
+use Rattle.fab_store_load.specs.declared.fault.Table.{Table}
+use Rattle.fab_store_tables.specs.Tables.{Tables}
+use Rattle.fab_store_sql.specs.Reading.{IsAny, AreLinesOf, Stays}
+use Rattle.fab_store_sql.specs.Rows.{IsKeyed}
+use Rattle.fab_store_sql.specs.Schema.{desk_schema}
+use Rattle.fab_store_sql.specs.Trees.{tree_of, show_of, tables_of}
+use Rattle.fab_store_moves.specs.Opened as lines
+use Rattle.fab_store_listing.specs.declared.lines.TableLines.{TableLines}
 
 -- a crash leaves nothing that it did not leave before, and a connection with nothing pending is as it
 -- was, if it is still open

@@ -7,5 +7,5 @@ mod paths;
 mod reading;
 mod store;
 
-pub use fab_stores::{OpenFault, RefusingStore, Store, StoreFault, Table};
+pub use fab_store_base::{OpenFault, RefusingStore, Store, StoreFault, Table};
 pub use store::SqlStore;

@@ -5,7 +5,7 @@ ghost use Rattle.sqlite.specs.Held.{state};
 ghost use Rattle.sqlite.specs.State.{HasCleanDisk};
 ghost use Rattle.fab_store.specs.Reads.{OnlyReads, SeesSame, IsTableOf};
 
-use fab_sql::{Line, ReadFault, read_all};
+use fab_store_sql::{Line, ReadFault, read_all};
 use sqlite::{Alter, Connection};
 use std::alloc::Global;
 

@@ -2,15 +2,15 @@
 ghost use Rattle.std.specs.Prelude.{IfOk};
 ghost use Rattle.sqlite.specs.Held.{state};
 ghost use Rattle.sqlite.specs.State.{HasCleanDisk};
-ghost use Rattle.fab_sql.specs.Trees.{tables_of};
-ghost use Rattle.fab_stores.specs.Worlds.{ArePathsIn};
+ghost use Rattle.fab_store_sql.specs.Trees.{tables_of};
+ghost use Rattle.fab_store_base.specs.Worlds.{ArePathsIn};
 ghost use Rattle.fab_store.specs.Reads.{OnlyReads, SeesSame};
 
 use fab_names::Name;
-use fab_reach::Path;
-use fab_row_lines_base::paths_in;
-use fab_sql::read_paths_of;
-use fab_stores::StoreFault;
+use fab_reach_base::Path;
+use fab_store_base::StoreFault;
+use fab_store_listing::paths_in;
+use fab_store_sql::read_paths_of;
 use sqlite::{Alter, Connection};
 use std::alloc::{Allocator, Global};
 

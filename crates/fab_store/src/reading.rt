@@ -5,13 +5,13 @@ ghost use Rattle.sqlite.specs.State.{HasCleanDisk};
 ghost use Rattle.fab_store.specs.Reads.{OnlyReads, SeesSame, AreTablesOf};
 
 use crate::lots::{Both, Lot};
-use fab_lines::{
+use fab_store_columns::{
     ActiveLine, ApprovalLine, GroupLine, HolderLine, MetaLine, PartLine, PathLine, PlanLine,
     PortLine, VolumeLine, ZoningLine,
 };
-use fab_row_lines::TableLines;
-use fab_sql::ReadFault;
-use fab_undo_lines::UndoLine;
+use fab_store_moves::TableLines;
+use fab_store_sql::ReadFault;
+use fab_store_undo::UndoLine;
 use sqlite::{Alter, Connection};
 use std::alloc::Global;
 

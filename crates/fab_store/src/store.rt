@@ -2,19 +2,19 @@
 ghost use Rattle.std.specs.Prelude.{◌≡◌, ◌≢◌, ◌↔◌, ◌⊎◌, [], false, OnOk, OnErr, IsTrue};
 ghost use Rattle.sqlite.specs.Held.{state};
 ghost use Rattle.sqlite.specs.State.{HasCleanDisk};
-ghost use Rattle.fab_sql.specs.NewDesk.{IsNewDesk};
-ghost use Rattle.fab_sql.specs.States.{IsReady};
-ghost use Rattle.fab_sql.specs.Trees.{tables_of};
-ghost use Rattle.fab_stores.specs.Calls.{IsCounted, Rises};
-ghost use Rattle.fab_tables.specs.Tables.{Tables};
+ghost use Rattle.fab_store_sql.specs.NewDesk.{IsNewDesk};
+ghost use Rattle.fab_store_sql.specs.States.{IsReady};
+ghost use Rattle.fab_store_sql.specs.Trees.{tables_of};
+ghost use Rattle.fab_store_base.specs.Calls.{IsCounted, Rises};
+ghost use Rattle.fab_store_tables.specs.Tables.{Tables};
 ghost use Rattle.fab_store.specs.Laws.{Leaves};
 
 use crate::opening::load_world;
 use crate::paths::find_paths;
 use fab_names::Name;
-use fab_reach::Path;
-use fab_sql::{apply, init};
-use fab_stores::{LineChanges, OpenFault, Store, StoreFault};
+use fab_reach_base::Path;
+use fab_store_base::{LineChanges, OpenFault, Store, StoreFault};
+use fab_store_sql::{apply, init};
 use fab_world::World;
 use sqlite::{Alter, Connection};
 use std::alloc::{Allocator, Global};

@@ -1,4 +1,3 @@
-pub mod Orders
-pub mod Kinds
-pub mod PlanRows
-pub mod Parts
+pub mod Worlds
+pub mod Calls
+pub mod Moves

@@ -1,11 +1,12 @@
-//! Plans, and the order of their activations, from the rows of their tables.
+//! What a store of the desk's tables promises: it makes the changes of a command whole or not at all,
+//! and counts each call that it refuses.
 #![tactic(auto)]
 
-mod kinds;
-mod order;
-mod plans;
-mod texts;
-mod whole;
+mod faults;
+mod refusing;
+mod store;
 
-pub use order::order_of;
-pub use whole::{Plans, plans_of};
+pub use fab_store_tables::{LineChanges, Table, TableLine};
+pub use faults::{OpenFault, StoreFault};
+pub use refusing::RefusingStore;
+pub use store::Store;

@@ -2,8 +2,8 @@
 
 use fab_names::Name;
 use fab_plans::Plan;
-use fab_rows::RowDifference;
-use fab_same_steps::are_same;
+use fab_plans_same::are_same;
+use fab_store_rows::RowDifference;
 use fab_world::KeptPlan;
 use std::alloc::Allocator;
 use std::collections::BTreeMap;

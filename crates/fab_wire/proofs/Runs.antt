@@ -1,7 +1,7 @@
 -- Connections that were served in turn lead to the world of the commands that they ask.
 use Rattle.std.proofs.Common.{ℕ, ◌≡◌, ◌≢◌, ◌⊎◌, inl, inr, List, [], ◌∷◌, Option, IfSome, refl, sym, ap, subst}
-use Rattle.fab_json.specs.Counting.{inner_of}
-use Rattle.fab_stores.specs.declared.store.Store as store
+use Rattle.fab_wire_streams.specs.Counting.{inner_of}
+use Rattle.fab_store_base.specs.declared.store.Store as store
 use Rattle.fab_desk_base.specs.Answers.{IsStep, Request}
 use Rattle.fab_desk_base.specs.declared.fault.DeskFault.TheVariants as fault
 use Rattle.fab_desk_base.specs.declared.reply.Reply.{Reply}
@@ -14,9 +14,9 @@ use Rattle.fab_policy_base.specs.Policies.{PolicyRows}
 use Rattle.fab_world.specs.Worlds.{WorldRows}
 use Rattle.fab_wire_base.specs.Spelling.{Spelling, nothing, refused, asked, Spells}
 use Rattle.fab_wire_base.specs.Spelling as wire
-use Rattle.fab_requests.specs.Meanings.{Meaning, asks, unnamed, bad_body, Means}
-use Rattle.fab_answers.specs.Messages.{want_of_memory}
-use Rattle.fab_answers.specs.declared.answers.Answer.{Answer}
+use Rattle.fab_wire_requests.specs.Meanings.{Meaning, asks, unnamed, bad_body, Means}
+use Rattle.fab_wire_answers.specs.Messages.{want_of_memory}
+use Rattle.fab_wire_answers.specs.declared.answers.Answer.{Answer}
 use Rattle.fab_wire.specs.Known.{is_known}
 use Rattle.fab_wire.specs.Serving.{AnswersMeaning, AnswersSpelling, IsAnswered, Serves}
 use Rattle.fab_wire.specs.Telling.{TellsOutcome}

@@ -1,12 +1,12 @@
 -- An answer, from what was heard and what was told.
 use Rattle.std.proofs.Common.{ℕ, ◌≡◌, ◌<◌, ◌⊎◌, Bool, List, Option, None, Some, IfSome, inl, inr, length}
-use Rattle.fab_stores.specs.declared.store.Store as store
+use Rattle.fab_store_base.specs.declared.store.Store as store
 use Rattle.fab_desk.specs.Handled.{policy_of}
 use Rattle.fab_desk.specs.declared.desk.Desk.{Desk}
 use Rattle.fab_wire_base.specs.Spelling.{Request, asked, Spells}
 use Rattle.fab_wire_base.proofs.SpellingLemmas.{head-some}
-use Rattle.fab_answers.specs.Messages.{want_of_memory}
-use Rattle.fab_answers.specs.declared.answers.Answer.{Answer}
+use Rattle.fab_wire_answers.specs.Messages.{want_of_memory}
+use Rattle.fab_wire_answers.specs.declared.answers.Answer.{Answer}
 use Rattle.fab_wire.specs.Known.{is_known}
 use Rattle.fab_wire.specs.Serving.{IsAnswered, AnswersRequest, Serves, side}
 use Rattle.fab_wire.specs.Telling.{TellsOutcome, failures_after_outcome}

@@ -1,6 +1,6 @@
 -- The world that connections lead to, one after the other: that of the commands which they ask.
 use Rattle.std.specs.Prelude.{ℕ, ◌≡◌, ◌⊎◌, List, [], ◌∷◌, Option, IfSome}
-use Rattle.fab_json.specs.Counting.{inner_of}
+use Rattle.fab_wire_streams.specs.Counting.{inner_of}
 use Rattle.fab_desk_base.specs.Answers.{Request}
 use Rattle.fab_desk_base.specs.Commands.{IsGiven}
 use Rattle.fab_desk_base.specs.declared.reply.Reply.{Reply}
@@ -9,11 +9,11 @@ use Rattle.fab_policy_base.specs.Policies.{PolicyRows}
 use Rattle.fab_world.specs.Worlds.{WorldRows}
 use Rattle.fab_wire_base.specs.Spelling.{Spelling, nothing, refused, asked, Spells}
 use Rattle.fab_wire_base.specs.Spelling as wire
-use Rattle.fab_requests.specs.Commands.{Order, order_of}
-use Rattle.fab_requests.specs.Meanings.{Meaning, asks, unnamed, bad_body, Means}
-use Rattle.fab_answers.specs.Messages.{want_of_memory}
-use Rattle.fab_answers.specs.declared.answers.Answer.{Answer}
-use Rattle.fab_answers.specs.declared.answers.Answer.TheVariants as answer
+use Rattle.fab_wire_requests.specs.Commands.{Order, order_of}
+use Rattle.fab_wire_requests.specs.Meanings.{Meaning, asks, unnamed, bad_body, Means}
+use Rattle.fab_wire_answers.specs.Messages.{want_of_memory}
+use Rattle.fab_wire_answers.specs.declared.answers.Answer.{Answer}
+use Rattle.fab_wire_answers.specs.declared.answers.Answer.TheVariants as answer
 use Rattle.fab_wire.specs.Known.{is_known}
 use Rattle.fab_wire.specs.Telling.{TellsOutcome}
 use Rattle.fab_wire.specs.declared.laws.Connection.{Connection}

@@ -1,9 +1,9 @@
 -- What serving one connection does, from bytes to bytes.
 use Rattle.std.specs.Prelude.{ℕ, ◌≡◌, ◌<◌, ◌⊎◌, List, Option, None, Some, IfSome, length}
 use Rattle.std.specs.Io.KnownBytes.{Appends, Keeps}
-use Rattle.fab_json.specs.Failures.{one_more}
-use Rattle.fab_json.specs.Sent.{AppendsBeginning}
-use Rattle.fab_stores.specs.declared.store.Store as store
+use Rattle.fab_wire_streams.specs.Failures.{one_more}
+use Rattle.fab_wire_streams.specs.Sent.{AppendsBeginning}
+use Rattle.fab_store_base.specs.declared.store.Store as store
 use Rattle.fab_desk_base.specs.Commands.{IsGiven}
 use Rattle.fab_desk_base.specs.declared.command.Command.{Command}
 use Rattle.fab_desk_base.specs.declared.fault.DeskFault.{DeskFault}
@@ -14,11 +14,11 @@ use Rattle.fab_desk.specs.Handled.{Handles, policy_of, serving_of}
 use Rattle.fab_desk.specs.declared.desk.Desk.{Desk}
 use Rattle.fab_wire_base.specs.Spelling.{Request, Spelling, nothing, refused, asked, Spells}
 use Rattle.fab_wire_base.specs.declared.requests.Refusal.TheVariants.{BadBody}
-use Rattle.fab_requests.specs.Commands.{order_of}
-use Rattle.fab_requests.specs.Meanings.{Meaning, asks, unnamed, bad_body, Means}
-use Rattle.fab_answers.specs.Messages.{status_of, text, told_of, want_of_memory}
-use Rattle.fab_answers.specs.declared.answers.Answer.{Answer}
-use Rattle.fab_answers.specs.declared.answers.Answer.TheVariants as answer
+use Rattle.fab_wire_requests.specs.Commands.{order_of}
+use Rattle.fab_wire_requests.specs.Meanings.{Meaning, asks, unnamed, bad_body, Means}
+use Rattle.fab_wire_answers.specs.Messages.{status_of, text, told_of, want_of_memory}
+use Rattle.fab_wire_answers.specs.declared.answers.Answer.{Answer}
+use Rattle.fab_wire_answers.specs.declared.answers.Answer.TheVariants as answer
 use Rattle.fab_wire.specs.Known.{is_known}
 use Rattle.fab_wire.specs.declared.outcome.Outcome.{Outcome}
 use Rattle.fab_wire.specs.declared.outcome.Outcome.TheVariants as outcome

@@ -1,10 +1,10 @@
 -- What telling an answer comes to.
 use Rattle.std.specs.Prelude.{ℕ, ◌≡◌, List, Option, codes, decimal}
 use Rattle.std.specs.Io.KnownBytes.{Appends}
-use Rattle.fab_json.specs.Failures.{one_more}
-use Rattle.fab_json.specs.Sent.{AppendsBeginning}
-use Rattle.fab_answers.specs.Messages.{status_of, text, told_of}
-use Rattle.fab_answers.specs.declared.answers.Answer.{Answer}
+use Rattle.fab_wire_streams.specs.Failures.{one_more}
+use Rattle.fab_wire_streams.specs.Sent.{AppendsBeginning}
+use Rattle.fab_wire_answers.specs.Messages.{status_of, text, told_of}
+use Rattle.fab_wire_answers.specs.declared.answers.Answer.{Answer}
 use Rattle.fab_wire.specs.declared.outcome.Outcome.{Outcome}
 use Rattle.fab_wire.specs.declared.outcome.Outcome.TheVariants as outcome
 

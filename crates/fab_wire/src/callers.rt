@@ -3,8 +3,8 @@
 ghost use Rattle.std.specs.Prelude.{◌≡◌};
 
 use fab_desk::Desk;
-use fab_reach::PathBook;
-use fab_stores::Store;
+use fab_reach_base::PathBook;
+use fab_store_base::Store;
 use fab_wire_base::callers::Callers;
 use std::alloc::Allocator;
 use std::str;

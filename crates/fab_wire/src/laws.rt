@@ -10,10 +10,10 @@ use crate::outcome::Outcome;
 use crate::serving::serve_one;
 use fab_desk::Desk;
 use fab_desk_laws::steps_are_done;
-use fab_json::counted::Counted;
-use fab_reach::PathBook;
-use fab_stores::Store;
+use fab_reach_base::PathBook;
+use fab_store_base::Store;
 use fab_wire_base::routes::Routes;
+use fab_wire_streams::counted::Counted;
 use std::alloc::{AllocError, Allocator, Global};
 use std::io::{Read, Write};
 

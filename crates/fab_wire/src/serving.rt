@@ -1,9 +1,9 @@
 //! One connection: a request is heard, handled by the desk, and answered.
 
 ghost use Rattle.std.specs.Prelude.{◌≡◌, ◌⊎◌, true};
-ghost use Rattle.fab_json.specs.Counting.{inner_of, failures_of};
+ghost use Rattle.fab_wire_streams.specs.Counting.{inner_of, failures_of};
 ghost use Rattle.fab_wire_base.specs.Hearing.{request_of};
-ghost use Rattle.fab_answers.specs.Messages.{want_of_memory};
+ghost use Rattle.fab_wire_answers.specs.Messages.{want_of_memory};
 ghost use Rattle.fab_desk.specs.Handled.{Handles, policy_of, serving_of};
 ghost use Rattle.fab_wire.specs.Known.{is_known};
 ghost use Rattle.fab_wire.specs.Serving.{AnswersRequest, Serves, side, unnamed_fault};
@@ -11,16 +11,16 @@ ghost use Rattle.fab_wire.specs.Telling.{TellsOutcome, failures_after_outcome};
 
 use crate::callers::KnownTo;
 use crate::outcome::Outcome;
-use fab_answers::answers::{Answer, Told, tell};
 use fab_desk::Desk;
 use fab_desk_base::{Command, DeskFault, Reply};
-use fab_json::counted::Counted;
-use fab_reach::PathBook;
-use fab_requests::{Meant, meaning};
-use fab_stores::Store;
+use fab_reach_base::PathBook;
+use fab_store_base::Store;
+use fab_wire_answers::answers::{Answer, Told, tell};
 use fab_wire_base::hear::{Asked, Heard, hear};
 use fab_wire_base::requests::Refusal;
 use fab_wire_base::routes::Routes;
+use fab_wire_requests::{Meant, meaning};
+use fab_wire_streams::counted::Counted;
 use std::alloc::{Allocator, Global};
 use std::io::{Read, Write};
 use std::str;

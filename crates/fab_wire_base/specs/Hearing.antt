@@ -1,6 +1,6 @@
 -- What is heard of an input.
 use Rattle.std.specs.Prelude.{ℕ, ◌≡◌, ◌<◌, List, ◌++◌, Bool, true, length}
-use Rattle.fab_json.specs.Failures.{one_more}
+use Rattle.fab_wire_streams.specs.Failures.{one_more}
 use Rattle.fab_wire_base.specs.Spelling.{Request, request, nothing, refused, asked, Spells}
 use Rattle.fab_wire_base.specs.declared.hear.Asked.{Asked}
 use Rattle.fab_wire_base.specs.declared.hear.Heard.{Heard}

@@ -4,7 +4,7 @@ use Rattle.std.specs.Io.KnownBytes.{Consumes}
 use Rattle.httparse.specs.Spans.{IsRequestOf, IsRequestWithin, RequestOverflows}
 use Rattle.httparse.specs.Grammar.{HasNoRequest}
 use Rattle.httparse.specs.declared.spans.HeaderSpan.{HeaderSpan}
-use Rattle.fab_json.specs.Failures.{one_more}
+use Rattle.fab_wire_streams.specs.Failures.{one_more}
 use Rattle.fab_wire_base.specs.Limits.{most_lines}
 use Rattle.fab_wire_base.specs.Heads.{HasNoHead}
 use Rattle.fab_wire_base.specs.declared.head.HeadRead.{HeadRead}

@@ -1,7 +1,7 @@
 -- What taking a body comes to.
 use Rattle.std.specs.Prelude.{ℕ, ◌≡◌, ◌<◌, ◌≤◌, List, ◌++◌, Option, IfSome, length, take}
 use Rattle.std.specs.Io.KnownBytes.{Consumes}
-use Rattle.fab_json.specs.Failures.{one_more}
+use Rattle.fab_wire_streams.specs.Failures.{one_more}
 use Rattle.fab_wire_base.specs.declared.bodies.Body.{Body}
 use Rattle.fab_wire_base.specs.declared.bodies.Body.TheVariants.{Whole, Short, ReadFailed, Memory}
 use Rattle.fab_wire_base.specs.declared.bodies.Filled.{Filled}

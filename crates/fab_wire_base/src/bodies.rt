@@ -1,10 +1,10 @@
 //! Takes the body of a request, of the length that its head gave.
 
 ghost use Rattle.std.specs.Prelude.{◌≡◌, ◌≤◌, length, take, drop};
-ghost use Rattle.fab_json.specs.Counting.{inner_of, failures_of};
+ghost use Rattle.fab_wire_streams.specs.Counting.{inner_of, failures_of};
 ghost use Rattle.fab_wire_base.specs.Taking.{Fills, TakesBody, failures_after_fill, failures_after_body};
 
-use fab_json::counted::Counted;
+use fab_wire_streams::counted::Counted;
 use std::alloc::Allocator;
 use std::io::Read;
 

@@ -1,10 +1,10 @@
 //! Reads the head of a request: request line and header lines, by httparse's grammar (RFC 9112).
 
 ghost use Rattle.std.specs.Prelude.{◌≡◌, ◌==◌, length, if◌then◌else◌};
-ghost use Rattle.fab_json.specs.Counting.{inner_of, failures_of};
+ghost use Rattle.fab_wire_streams.specs.Counting.{inner_of, failures_of};
 ghost use Rattle.fab_wire_base.specs.Reading.{ReadsHead, IsParsed, failures_after_head};
 
-use fab_json::counted::Counted;
+use fab_wire_streams::counted::Counted;
 use httparse::Status;
 use httparse::spans::{HeaderSpan, RequestSpans, parse_request};
 use std::io::Read;

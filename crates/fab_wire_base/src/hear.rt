@@ -2,7 +2,7 @@
 
 ghost use Rattle.std.specs.Prelude.{◌≡◌, ◌≤◌, length, IfSome};
 ghost use Rattle.httparse.specs.Spans.{IsRequestOf, IsRequestWithin};
-ghost use Rattle.fab_json.specs.Counting.{inner_of, failures_of};
+ghost use Rattle.fab_wire_streams.specs.Counting.{inner_of, failures_of};
 ghost use Rattle.fab_wire_base.specs.Limits.{most_head};
 ghost use Rattle.fab_wire_base.specs.Hearing.{IsHeard, IsHeardOf, IsHeardOfKnown, IsKept, failures_after_heard};
 ghost use Rattle.fab_wire_base.specs.Spelling.{request};
@@ -13,7 +13,7 @@ use crate::head::{HeadRead, MOST_HEAD, MOST_LINES, read_head};
 use crate::kinds::Kind;
 use crate::requests::{Judged, Refusal, judge_head};
 use crate::routes::Routes;
-use fab_json::counted::Counted;
+use fab_wire_streams::counted::Counted;
 use httparse::spans::{EMPTY_HEADER_SPAN, HeaderSpan, RequestSpans};
 use std::alloc::Allocator;
 use std::io::Read;

@@ -3,12 +3,12 @@
 use crate::faults::Fault;
 use crate::scenarios::Exchange;
 use crate::sips::Sips;
-use fab_json::counted::Counted;
 use fab_policy_base::Policy;
-use fab_port_book::PortBook;
+use fab_reach_book::PortBook;
 use fab_store::SqlStore;
 use fab_wire::{Desk, serve_one};
 use fab_wire_base::routes::Routes;
+use fab_wire_streams::counted::Counted;
 use sqlite::{Connection, MemStore};
 use std::alloc::Global;
 use std::str;

@@ -15,10 +15,10 @@ use Rattle.fab_zoning.proofs.Keeping.{new_is_sound}
 use Rattle.fab_zoning.specs.Soundness as zonings
 use Rattle.fab_mapping.specs.Mappings.{no_groups, HasNoClash}
 use Rattle.fab_mapping.specs.Soundness as mappings
-use Rattle.fab_reach.specs.Reach.{Reaches}
-use Rattle.fab_reach.specs.Records.{zoning_at}
-use Rattle.fab_reach.specs.declared.path.Path.{Path}
-use Rattle.fab_reach.specs.declared.listing.TheConstants.{MOST_PATHS}
+use Rattle.fab_reach_base.specs.Reach.{Reaches}
+use Rattle.fab_reach_base.specs.Records.{zoning_at}
+use Rattle.fab_reach_base.specs.declared.path.Path.{Path}
+use Rattle.fab_reach_base.specs.declared.listing.TheConstants.{MOST_PATHS}
 use Rattle.fab_world.specs.PlanRecords.{PlanRecord}
 use Rattle.fab_world.specs.Soundness.{ListsActive, IsSound}
 use Rattle.fab_world.specs.Worlds.{new_world, records_of}

@@ -4,18 +4,18 @@ use mathlib.Core.Bool.{true≢false}
 use Rattle.std.specs.Cmp.{eq_by_cmp_equiv}
 use Rattle.std.proofs.lemmas.Map.Keys.{IsDistinct-from_sorted}
 use Rattle.std.proofs.lemmas.Map.Made.{length-le_from_is_member, is_member-Decides}
-use Rattle.fab_maps.proofs.SeenSets.{tie_decides}
+use Rattle.fab_lemmas.proofs.SeenSets.{tie_decides}
 use Rattle.fab_names.specs.declared.fabric.Fabric.{Fabric}
 use Rattle.fab_names.specs.declared.fabric.Fabric.TheVariants.{A, B}
 use Rattle.fab_zoning.specs.Soundness as zonings
 use Rattle.fab_mapping_base.specs.declared.nexus.Nexus.{Nexus}
 use Rattle.fab_mapping.specs.Mappings.{MappingRows, HasNoClash, IsLeastClash}
-use Rattle.fab_reach.specs.Limits.{MoreThan}
-use Rattle.fab_reach.specs.Orders.{path_order, IsListOf}
-use Rattle.fab_reach.specs.Records.{ConfigRows, zoning_at}
-use Rattle.fab_reach.specs.Soundness.{HasSoundZonings}
-use Rattle.fab_reach.specs.declared.path.Path.{Path}
-use Rattle.fab_reach.proofs.PathOrder.{path_total, path_exact}
+use Rattle.fab_reach_base.specs.Limits.{MoreThan}
+use Rattle.fab_reach_base.specs.Orders.{path_order, IsListOf}
+use Rattle.fab_reach_base.specs.Records.{ConfigRows, zoning_at}
+use Rattle.fab_reach_base.specs.Soundness.{HasSoundZonings}
+use Rattle.fab_reach_base.specs.declared.path.Path.{Path}
+use Rattle.fab_reach_base.proofs.PathOrder.{path_total, path_exact}
 
 -- the zonings of both fabrics
 pub both_sound : (c : ConfigRows) → ((zoning_at c A).fabric ≡ A) × zonings.IsSound (zoning_at c A) → ((zoning_at c B).fabric ≡ B) × zonings.IsSound (zoning_at c B) → HasSoundZonings c

@@ -1,15 +1,15 @@
 -- Earlier configurations: what rows tell of them, and how changes lead back.
 use Rattle.std.proofs.Common.{ℕ, ◌≡◌, ◌↔◌, List, [], ◌∷◌, ◌++◌, Option, None, Some, MatchOption, Result, Ok, Err, IfOk, sym, ap, ◌∙◌, subst, reverse}
 use Rattle.std.proofs.lemmas.List.{reverse-append}
-use Rattle.fab_maps.specs.Lists.{IsListOf}
-use Rattle.fab_reach.specs.Records.{ConfigRows}
-use Rattle.fab_reach.specs.Soundness.{IsSoundAlone}
-use Rattle.fab_rows.specs.declared.config_row.ConfigRow.{ConfigRow}
-use Rattle.fab_rows.specs.Differences.{StandsOnlyIn, IsDifference}
-use Rattle.fab_rows.specs.RowOrder.{row_order}
-use Rattle.fab_rows.specs.Standing.{Stands}
-use Rattle.fab_rows.proofs.Determined.{one_list, one_config}
-use Rattle.fab_load.specs.Configs.{AreConfigRows}
+use Rattle.fab_lemmas.specs.Lists.{IsListOf}
+use Rattle.fab_reach_base.specs.Records.{ConfigRows}
+use Rattle.fab_reach_base.specs.Soundness.{IsSoundAlone}
+use Rattle.fab_store_rows.specs.declared.config_row.ConfigRow.{ConfigRow}
+use Rattle.fab_store_rows.specs.Differences.{StandsOnlyIn, IsDifference}
+use Rattle.fab_store_rows.specs.RowOrder.{row_order}
+use Rattle.fab_store_rows.specs.Standing.{Stands}
+use Rattle.fab_store_rows.proofs.Determined.{one_list, one_config}
+use Rattle.fab_store_load.specs.Configs.{AreConfigRows}
 use Rattle.fab_world.specs.History.{IsEarlier, IsOnlyEarlier, LeadsBack, changes_at, changes_of}
 use Rattle.fab_world.specs.PlanRecords.{PlanRecord}
 use Rattle.fab_world.specs.Plans.{Change}

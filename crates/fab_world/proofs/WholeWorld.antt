@@ -5,9 +5,9 @@ use Rattle.std.specs.FinMap as map
 use Rattle.fab_names.specs.Orders.{name_cmp}
 use Rattle.fab_names.proofs.OrderLaws.{name_total}
 use Rattle.fab_inventory.specs.Inventories.{InventoryRows}
-use Rattle.fab_maps.proofs.SeenMaps.{len_entries, same_look_ups}
+use Rattle.fab_lemmas.proofs.SeenMaps.{len_entries, same_look_ups}
 use Rattle.fab_mapping.specs.Soundness.{Each}
-use Rattle.fab_reach.specs.Records.{ConfigRows}
+use Rattle.fab_reach_base.specs.Records.{ConfigRows}
 use Rattle.fab_world.specs.History.{LeadsBack, changes_of}
 use Rattle.fab_world.specs.PlanRecords.{PlanRecord}
 use Rattle.fab_world.specs.Soundness.{IsSoundPlan, ListsActive, IsSoundNow, IsSound}

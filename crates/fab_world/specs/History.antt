@@ -2,9 +2,9 @@
 use Rattle.std.specs.Prelude.{ℕ, ◌≡◌, List, [], ◌∷◌, Option}
 use Rattle.std.specs.List.{flat_map}
 use Rattle.std.specs.Option.{option_and_then, option_to_list}
-use Rattle.fab_reach.specs.Records.{ConfigRows}
-use Rattle.fab_reach.specs.Soundness.{IsSoundAlone}
-use Rattle.fab_rows.specs.Differences.{IsDifference}
+use Rattle.fab_reach_base.specs.Records.{ConfigRows}
+use Rattle.fab_reach_base.specs.Soundness.{IsSoundAlone}
+use Rattle.fab_store_rows.specs.Differences.{IsDifference}
 use Rattle.fab_world.specs.PlanRecords.{PlanRecord}
 use Rattle.fab_world.specs.Plans.{Change, undo_of}
 

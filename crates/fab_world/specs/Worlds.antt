@@ -9,7 +9,7 @@ use Rattle.fab_inventory.specs.Codes.{rows_code}
 use Rattle.fab_inventory.specs.Inventories.{InventoryRows, no_rows}
 use Rattle.fab_zoning.specs.Zonings.{new_zoning}
 use Rattle.fab_mapping.specs.Mappings.{no_groups}
-use Rattle.fab_reach.specs.Records.{ConfigRows, config_code, Records}
+use Rattle.fab_reach_base.specs.Records.{ConfigRows, config_code, Records}
 use Rattle.fab_world.specs.PlanRecords.{PlanRecord}
 use Rattle.fab_world.specs.Codes.{plan_code}
 

@@ -2,19 +2,19 @@
 ghost use Rattle.std.specs.Prelude.{◌≡◌, ◌↔◌, ◌++◌, List, [], ◌∷◌, reverse, IsTrue, IfOk, MatchOption};
 ghost use Rattle.std.specs.BTreeMap.{get};
 ghost use Rattle.fab_names.specs.Orders.{name_cmp};
-ghost use Rattle.fab_reach.specs.Records.{ConfigRows};
-ghost use Rattle.fab_reach.specs.Soundness.{IsSoundAlone};
-ghost use Rattle.fab_load.specs.Configs.{AreConfigRows};
-ghost use Rattle.fab_rows.specs.Differences.{IsDifference};
-ghost use Rattle.fab_rows.specs.declared.config_row.ConfigRow.{ConfigRow};
+ghost use Rattle.fab_reach_base.specs.Records.{ConfigRows};
+ghost use Rattle.fab_reach_base.specs.Soundness.{IsSoundAlone};
+ghost use Rattle.fab_store_load.specs.Configs.{AreConfigRows};
+ghost use Rattle.fab_store_rows.specs.Differences.{IsDifference};
+ghost use Rattle.fab_store_rows.specs.declared.config_row.ConfigRow.{ConfigRow};
 ghost use Rattle.fab_world.specs.History.{IsEarlier, IsOnlyEarlier, LeadsBack, changes_at, changes_of};
 ghost use Rattle.fab_world.specs.Plans.{Change, change_in};
 
 use crate::KeptPlan;
-use fab_load::{LoadFault, config_of};
 use fab_names::Name;
-use fab_reach::Config;
-use fab_rows::{ConfigRow, RowDifference, config_rows, difference, undone};
+use fab_reach_base::Config;
+use fab_store_load::{LoadFault, config_of};
+use fab_store_rows::{ConfigRow, RowDifference, config_rows, difference, undone};
 use std::alloc::{AllocError, Allocator};
 use std::collections::BTreeMap;
 

@@ -2,7 +2,7 @@
 ghost use Rattle.std.specs.Prelude.{◌≡◌, ◌≤◌, ◌↔◌, ℕ, List, All, IsTrue, true, IfOk};
 ghost use Rattle.std.specs.BTreeMap.{get};
 ghost use Rattle.std.specs.BTreeSet.{contains};
-ghost use Rattle.fab_maps.specs.Firsts.{HasAt};
+ghost use Rattle.fab_lemmas.specs.Firsts.{HasAt};
 ghost use Rattle.fab_names.specs.Orders.{name_cmp};
 ghost use Rattle.fab_mapping.specs.Soundness.{Each};
 ghost use Rattle.fab_world.specs.Plans.{IsActive};
@@ -10,9 +10,9 @@ ghost use Rattle.fab_world.specs.Soundness.{IsSoundPlan, ListsActive};
 ghost use Rattle.fab_world.specs.declared.limits.TheConstants.{MOST_CHANGES};
 
 use crate::{KeptPlan, MOST_CHANGES};
-use fab_maps::set_of;
+use fab_lemmas::set_of;
 use fab_names::Name;
-use fab_plans_base::is_within_limits;
+use fab_plans_text::is_within_limits;
 use std::alloc::{AllocError, Allocator};
 use std::collections::{BTreeMap, BTreeSet};
 

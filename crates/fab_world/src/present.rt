@@ -2,17 +2,17 @@
 ghost use Rattle.std.specs.Prelude.{◌≡◌, ◌↔◌, false, IsTrue, IfOk};
 ghost use Rattle.fab_inventory.specs.Inventories.{IsSound as IsSoundInventory};
 ghost use Rattle.fab_zoning.specs.Soundness.{IsSound as IsSoundZoning};
-ghost use Rattle.fab_reach.specs.Limits.{MoreThan};
-ghost use Rattle.fab_reach.specs.Reach.{Reaches};
-ghost use Rattle.fab_reach.specs.Records.{zoning_at};
-ghost use Rattle.fab_reach.specs.Soundness.{HasSoundZonings, IsSoundAlone};
-ghost use Rattle.fab_reach.specs.declared.listing.TheConstants.{MOST_PATHS};
+ghost use Rattle.fab_reach_base.specs.Limits.{MoreThan};
+ghost use Rattle.fab_reach_base.specs.Reach.{Reaches};
+ghost use Rattle.fab_reach_base.specs.Records.{zoning_at};
+ghost use Rattle.fab_reach_base.specs.Soundness.{HasSoundZonings, IsSoundAlone};
+ghost use Rattle.fab_reach_base.specs.declared.listing.TheConstants.{MOST_PATHS};
 ghost use Rattle.fab_world.specs.Soundness.{IsSoundNow};
 
 use fab_inventory::Inventory;
 use fab_names::{Fabric, Wwn};
-use fab_path_bounds::offer_few_paths;
-use fab_reach::{Config, PathsFault, View, few_paths};
+use fab_reach_base::{Config, PathsFault, View, few_paths};
+use fab_reach_bounds::offer_few_paths;
 use std::alloc::{AllocError, Allocator};
 
 /// Whether the zoning of a fabric is its own, and sound.

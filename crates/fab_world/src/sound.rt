@@ -9,7 +9,7 @@ use crate::present::is_sound_now;
 use crate::{KeptPlan, MOST_CHANGES, MOST_PLANS};
 use fab_inventory::Inventory;
 use fab_names::Name;
-use fab_reach::Config;
+use fab_reach_base::Config;
 use std::alloc::{AllocError, Allocator};
 use std::collections::BTreeMap;
 

@@ -8,7 +8,7 @@ use crate::sound::are_sound;
 use fab_inventory::Inventory;
 use fab_mapping::Mapping;
 use fab_names::{Fabric, Name, Wwn};
-use fab_reach::Config;
+use fab_reach_base::Config;
 use fab_zoning::Zoning;
 use std::alloc::{AllocError, Allocator};
 use std::collections::BTreeMap;

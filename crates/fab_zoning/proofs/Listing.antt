@@ -9,8 +9,8 @@ use Rattle.std.specs.FinSet as set
 use Rattle.std.proofs.lemmas.List.{map-append}
 use Rattle.std.proofs.lemmas.List.Folds.{list_any-append}
 use Rattle.fab_names.specs.declared.member.Member.{Member}
-use Rattle.fab_maps.specs.Lists.{IsListOf}
-use Rattle.fab_maps.proofs.SeenSets.{set_of_list, listed_decides}
+use Rattle.fab_lemmas.specs.Lists.{IsListOf}
+use Rattle.fab_lemmas.proofs.SeenSets.{set_of_list, listed_decides}
 use Rattle.fab_zoning.specs.Rows.{Row, Rows, row_cmp, IsRowOf}
 use Rattle.fab_zoning.specs.Views.{listed_rows, seen_rows}
 use Rattle.fab_zoning.specs.Inner.ByZone.{rows_of_member, AddsListed}

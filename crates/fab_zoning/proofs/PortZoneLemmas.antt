@@ -10,7 +10,7 @@ use Rattle.std.specs.BTreeSet.{BTreeSet, contains}
 use Rattle.fab_names.specs.Orders.{name_cmp}
 use Rattle.std.proofs.lemmas.Cmp.{upto}
 use Rattle.fab_names.proofs.OrderLaws.{name_total}
-use Rattle.fab_maps.proofs.Tests.{or_true, or_right, or_left}
+use Rattle.fab_lemmas.proofs.Tests.{or_true, or_right, or_left}
 use Rattle.fab_zoning.specs.Inner.PortZones.{HasNoCommon, IsLeastCommon, IsLesser}
 
 none_in : (ks : List (List ℕ)) → length ks ≡ 0 → (z : List ℕ) → list_any (eq_by_cmp name_cmp z) ks ≡ false

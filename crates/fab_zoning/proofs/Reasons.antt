@@ -13,7 +13,7 @@ use Rattle.fab_zoning.specs.declared.flag.DefaultFlag.TheVariants.{Permit, Deny}
 use Rattle.fab_zoning.specs.Zonings.{FabricZoning}
 use Rattle.fab_zoning.specs.Inner.PortZones.{HasNoCommon, IsLeastCommon}
 use Rattle.fab_zoning.specs.Joins.{Matches, Holds, IsLoggedInAt, InZone, IsUnzoned, InDefaultZone, Joined, IsFirstZone}
-use Rattle.fab_maps.proofs.Tests.{or_true, or_right, or_left}
+use Rattle.fab_lemmas.proofs.Tests.{or_true, or_right, or_left}
 
 -- a port has three members: its two names, and its place where it is logged in
 module _ (rows : Rows) (p : Port) (z : List ℕ) (a b c : Bool) (by_port : set.contains rows (z, member.Port p.name) ≡ a) (by_node : set.contains rows (z, member.Node p.node) ≡ b) where

@@ -2,7 +2,7 @@
 use Rattle.std.specs.Prelude.{ℕ, List, Bool, ◌||◌}
 use Rattle.std.specs.Option.{option_copied}
 use Rattle.fab_names.specs.Orders.{name_cmp}
-use Rattle.fab_maps.specs.MapsOfSets.{in_tree}
+use Rattle.fab_lemmas.specs.MapsOfSets.{in_tree}
 use Rattle.fab_zoning.specs.declared.port_zones.PortZones.{PortZones}
 
 -- whether the zone is one of the port's: it is in one of the three sets

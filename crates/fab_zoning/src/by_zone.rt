@@ -1,6 +1,6 @@
 //! The active rows, listed by zone.
 ghost use Rattle.std.specs.Prelude.{OnOk, IfOk};
-ghost use Rattle.fab_maps.specs.Lists.{IsListOf};
+ghost use Rattle.fab_lemmas.specs.Lists.{IsListOf};
 ghost use Rattle.fab_zoning.specs.Rows.{row_cmp, IsRowOf};
 ghost use Rattle.fab_zoning.specs.Views.{seen_rows};
 ghost use Rattle.fab_zoning.specs.Inner.ByZone.{AddsListed, rows_of_member};

@@ -3,7 +3,7 @@ ghost use Rattle.std.specs.Prelude.{◌≡◌, ℕ, List, IsTrue, ◌↔◌, tru
 ghost use Rattle.std.specs.Option.{option_copied};
 ghost use Rattle.std.specs.BTreeSet.{contains};
 ghost use Rattle.fab_names.specs.Orders.{name_cmp};
-ghost use Rattle.fab_maps.specs.MapsOfSets.{in_tree};
+ghost use Rattle.fab_lemmas.specs.MapsOfSets.{in_tree};
 ghost use Rattle.fab_zoning.specs.PortZones.{in_zones};
 ghost use Rattle.fab_zoning.specs.Inner.PortZones.{HasNoCommon, IsLeastCommon, IsLesser};
 

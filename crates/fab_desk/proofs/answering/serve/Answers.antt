@@ -1,6 +1,6 @@
 use Rattle.std.proofs.Common.{sym, subst}
 use Rattle.fab_desk_base.specs.declared.command.Query.TheVariants.{Paths}
-use Rattle.fab_machine.specs.Proposals.{request_of}
+use Rattle.fab_desk_machine.specs.Proposals.{request_of}
 use Rattle.fab_desk.specs.Desks.{IsHandled, IsInDoubt, IsTied}
 use Rattle.fab_desk.proofs.answering.serve.Goals as goal
 

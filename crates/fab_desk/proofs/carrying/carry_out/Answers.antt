@@ -1,8 +1,8 @@
 use Rattle.std.proofs.Common.{inl, inr, refl, sym, ap, subst, ◌∙◌}
-use Rattle.fab_machine.proofs.Rooms.{same_records, leads_there, room_for, ready_there, moved_there, back_there}
-use Rattle.fab_next.specs.Nexts.{next_world}
-use Rattle.fab_stores.specs.Worlds.{HoldsWorld}
-use Rattle.fab_tables.specs.Tables.{Tables, HaveKeys}
+use Rattle.fab_desk_machine.proofs.Rooms.{same_records, leads_there, room_for, ready_there, moved_there, back_there}
+use Rattle.fab_desk_next.specs.Nexts.{next_world}
+use Rattle.fab_store_base.specs.Worlds.{HoldsWorld}
+use Rattle.fab_store_tables.specs.Tables.{Tables, HaveKeys}
 use Rattle.fab_desk.specs.Desks.{IsTied}
 use Rattle.fab_desk.proofs.Tied.{can, tied_after, left_after}
 use Rattle.fab_world.specs.Worlds.{records_of}

@@ -1,6 +1,6 @@
 use Rattle.std.proofs.Common.{sym, subst}
 use Rattle.std.proofs.lemmas.Result.{IfErr-weaker}
-use Rattle.fab_stores.specs.Calls.{IsCounted}
+use Rattle.fab_store_base.specs.Calls.{IsCounted}
 use Rattle.fab_desk.specs.Desks.{IsTied}
 use Rattle.fab_desk.proofs.Tied.{found_tied, ok_as}
 use Rattle.fab_desk.proofs.opening.opened.Goals as goal

@@ -1,7 +1,7 @@
 use Rattle.std.proofs.Common.{◌≡◌, ◌+◌, ◌≤◌, ◌++◌, map, length}
 use Rattle.std.specs.Vec.{vec_len, vec_capacity}
 use Rattle.std.specs.Vec.Iter.{into_iter_items, into_iter_len}
-use Rattle.fab_machine.specs.Proposals.{asked_of}
+use Rattle.fab_desk_machine.specs.Proposals.{asked_of}
 use Rattle.fab_desk.specs.Handled.{AreHandled}
 use Rattle.fab_desk.proofs.run.handle_all.Given as goal
 

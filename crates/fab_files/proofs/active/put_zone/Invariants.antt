@@ -1,6 +1,6 @@
 use Rattle.std.proofs.Common.{drop}
 use Rattle.std.specs.List.{flat_map}
-use Rattle.fab_json.proofs.Turns.{Gone}
+use Rattle.fab_wire_streams.proofs.Turns.{Gone}
 use Rattle.fab_files.specs.ActiveSets.{member_line}
 use Rattle.fab_files.proofs.active.put_zone.Given as goal
 

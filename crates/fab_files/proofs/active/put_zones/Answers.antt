@@ -1,7 +1,7 @@
 use Rattle.std.proofs.Common.{ℕ, List, subst}
 use Rattle.std.specs.List.{flat_map}
-use Rattle.fab_json.proofs.SentLemmas.{flat-cut}
-use Rattle.fab_json.proofs.Turns.{Gone, gone-cut, gone-more}
+use Rattle.fab_wire_streams.proofs.SentLemmas.{flat-cut}
+use Rattle.fab_wire_streams.proofs.Turns.{Gone, gone-cut, gone-more}
 use Rattle.fab_desk_base.specs.declared.reply.ZoneMembers.{ZoneMembers}
 use Rattle.fab_files.specs.ActiveSets.{zone_lines}
 use Rattle.fab_files.proofs.active.put_zones.Goals as goal

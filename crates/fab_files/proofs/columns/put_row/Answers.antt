@@ -1,5 +1,5 @@
 use Rattle.std.proofs.Common.{ℕ, List, sym, subst}
-use Rattle.fab_json.specs.Taking.{Takes}
+use Rattle.fab_wire_streams.specs.Taking.{Takes}
 use Rattle.fab_files.proofs.Pieces.{row_pieces}
 use Rattle.fab_files.proofs.columns.put_row.Goals as goal
 

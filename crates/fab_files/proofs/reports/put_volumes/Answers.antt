@@ -1,7 +1,7 @@
 use Rattle.std.proofs.Common.{ℕ, List, subst}
 use Rattle.std.specs.Map.Iter.{deref_pair}
 use Rattle.std.proofs.lemmas.Map.Iter.{rest_more}
-use Rattle.fab_json.proofs.Turns.{Gone, gone-more}
+use Rattle.fab_wire_streams.proofs.Turns.{Gone, gone-more}
 use Rattle.fab_files.specs.Counting.{entry_lines}
 use Rattle.fab_files.specs.declared.counts.Counts.{Counts}
 use Rattle.fab_files.proofs.reports.put_volumes.Goals as goal

@@ -1,4 +1,4 @@
-use Rattle.fab_json.proofs.Turns.{Gone}
+use Rattle.fab_wire_streams.proofs.Turns.{Gone}
 use Rattle.fab_files.specs.Counting.{entry_lines}
 use Rattle.fab_files.proofs.reports.put_volumes.Given as goal
 

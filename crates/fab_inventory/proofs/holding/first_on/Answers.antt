@@ -5,7 +5,7 @@ use Rattle.std.specs.Map.Iter.{deref_pair}
 use Rattle.std.proofs.lemmas.Map.Iter.{rest_more, rest_all}
 use Rattle.fab_names.proofs.OrderLaws.{name_total}
 use Rattle.fab_inventory.specs.declared.holder.Volume.{Volume}
-use Rattle.fab_maps.proofs.Walks.{first_hit, no_hit, walked, walk_end, all_push}
+use Rattle.fab_lemmas.proofs.Walks.{first_hit, no_hit, walked, walk_end, all_push}
 use Rattle.fab_inventory.proofs.holding.first_on.Goals as goal
 
 pub returns-then-eq : goal.returns-then-eq

@@ -7,7 +7,7 @@ use Rattle.fab_inventory.specs.Holders.{held_after}
 use Rattle.fab_inventory.specs.declared.port.Known.{Known}
 use Rattle.fab_inventory.proofs.Handing.{map_keyed_pairs, lookup-map_keyed}
 use Rattle.std.specs.Cmp.{nat_cmp_total}
-use Rattle.fab_maps.proofs.SeenMaps.{len_entries}
+use Rattle.fab_lemmas.proofs.SeenMaps.{len_entries}
 use Rattle.fab_inventory.proofs.holding.hand_over_all.Goals as goal
 
 pub returns-clause-ports : goal.returns-clause-ports

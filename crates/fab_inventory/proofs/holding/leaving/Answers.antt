@@ -3,9 +3,9 @@ use Rattle.std.specs.BTreeMap.{get}
 use Rattle.std.specs.Ordering.{nat_cmp}
 use Rattle.std.specs.Map.Iter.{deref_pair}
 use Rattle.std.proofs.lemmas.Map.Iter.{rest_more, rest_all}
-use Rattle.fab_maps.specs.Lists.{IsListOf}
-use Rattle.fab_maps.proofs.Filters.{keys_where, keys_more}
-use Rattle.fab_maps.proofs.Walks.{walked, walk_end}
+use Rattle.fab_lemmas.specs.Lists.{IsListOf}
+use Rattle.fab_lemmas.proofs.Filters.{keys_where, keys_more}
+use Rattle.fab_lemmas.proofs.Walks.{walked, walk_end}
 use Rattle.fab_inventory.specs.declared.port.Known.{Known}
 use Rattle.fab_inventory.specs.Holders.{is_leaving, Leaves}
 use Rattle.fab_inventory.proofs.Holdings.{leaving_listed}

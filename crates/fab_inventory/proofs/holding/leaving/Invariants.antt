@@ -1,5 +1,5 @@
 use Rattle.std.proofs.Common.{◌≡◌, ℕ, List, ◌++◌}
-use Rattle.fab_maps.proofs.Filters.{keys_where}
+use Rattle.fab_lemmas.proofs.Filters.{keys_where}
 use Rattle.fab_inventory.specs.declared.port.Known.{Known}
 use Rattle.fab_inventory.specs.Holders.{is_leaving}
 use Rattle.fab_inventory.proofs.holding.leaving.Given as goal

@@ -3,7 +3,7 @@ use mathlib.Core.Bool.{true≢false}
 use Rattle.std.specs.FinMap as map
 use Rattle.std.specs.Ordering.{nat_cmp}
 use Rattle.std.specs.Cmp.{nat_cmp_total}
-use Rattle.fab_maps.proofs.SeenMaps.{len_entries}
+use Rattle.fab_lemmas.proofs.SeenMaps.{len_entries}
 use Rattle.fab_inventory.proofs.Restoring.{known_from_sound, sound_from_known}
 use Rattle.fab_inventory.proofs.restore.are_ports_sound.Goals as goal
 

@@ -1,7 +1,7 @@
 use Rattle.std.proofs.Common.{sym, ◌∙◌, arith}
 use mathlib.Core.Bool.{true≢false}
 use Rattle.fab_names.proofs.OrderLaws.{name_total}
-use Rattle.fab_maps.proofs.SeenMaps.{len_entries}
+use Rattle.fab_lemmas.proofs.SeenMaps.{len_entries}
 use Rattle.fab_inventory.proofs.Restoring.{placed_from_sound, array_of, capacity_of}
 use Rattle.fab_inventory.proofs.restore.are_volumes_sound.Goals as goal
 

@@ -6,7 +6,7 @@ use Rattle.std.specs.Map.{lookup}
 use Rattle.std.specs.Map.Iter.{deref_pair}
 use Rattle.std.proofs.lemmas.Map.Iter.{rest_more, rest_all}
 use Rattle.fab_names.specs.Orders.{name_cmp}
-use Rattle.fab_maps.proofs.Walks.{walked, walk_end}
+use Rattle.fab_lemmas.proofs.Walks.{walked, walk_end}
 use Rattle.fab_inventory.specs.RestoreTests.{count_of}
 use Rattle.fab_inventory.specs.declared.port.Known.{Known}
 use Rattle.fab_inventory.proofs.Restoring.{counts_more, few_more, too_many, all_few}

@@ -1,6 +1,6 @@
 use Rattle.std.proofs.Common.{◌≡◌, ℕ, List, ◌++◌}
-use Rattle.fab_maps.specs.Firsts.{IsFirstOf}
-use Rattle.fab_maps.proofs.Adding.{Before}
+use Rattle.fab_lemmas.specs.Firsts.{IsFirstOf}
+use Rattle.fab_lemmas.proofs.Adding.{Before}
 use Rattle.fab_names.specs.Orders.{name_cmp}
 use Rattle.fab_mapping_base.specs.Groups.{StorageGroupRows}
 use Rattle.fab_mapping_base.specs.Fitting.{LacksVolume}

@@ -1,8 +1,8 @@
 use Rattle.std.proofs.Common.{◌≡◌, ℕ, List, ◌++◌}
 use Rattle.std.specs.BTreeMap.{get}
 use Rattle.std.specs.FinSet as set
-use Rattle.fab_maps.specs.Adding.{Adds}
-use Rattle.fab_maps.proofs.Adding.{Before}
+use Rattle.fab_lemmas.specs.Adding.{Adds}
+use Rattle.fab_lemmas.proofs.Adding.{Before}
 use Rattle.fab_names.specs.Orders.{name_cmp}
 use Rattle.fab_mapping_base.specs.ClashSearch.{lists}
 use Rattle.fab_mapping_base.proofs.Serving.{ByHosts}

@@ -1,6 +1,6 @@
 use Rattle.std.proofs.Common.{Bor, map, false}
 use Rattle.std.specs.BTreeMap.{get}
-use Rattle.fab_maps.specs.Adding.{Adds}
+use Rattle.fab_lemmas.specs.Adding.{Adds}
 use Rattle.fab_names.specs.Orders.{name_cmp}
 use Rattle.fab_mapping_base.specs.Groups.{StorageGroupRows}
 use Rattle.fab_mapping_base.specs.ClashSearch.{lists}

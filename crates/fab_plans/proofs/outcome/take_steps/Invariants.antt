@@ -1,6 +1,6 @@
 use Rattle.std.proofs.Common.{take}
 use Rattle.fab_plans.specs.Outcomes.{AllDone}
-use Rattle.fab_reach.specs.Soundness.{IsSoundBeside}
+use Rattle.fab_reach_base.specs.Soundness.{IsSoundBeside}
 use Rattle.fab_plans.proofs.outcome.take_steps.Given as goal
 
 abbrev pub invariant-loop-place : goal.invariant-loop-place

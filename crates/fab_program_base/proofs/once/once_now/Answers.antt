@@ -1,5 +1,5 @@
 use Rattle.std.proofs.Common.{◌∙◌, ap, sym}
-use Rattle.fab_json.specs.Counting.{inner_of, failures_of}
+use Rattle.fab_wire_streams.specs.Counting.{inner_of, failures_of}
 use Rattle.fab_wire.specs.Serving.{Serves, side}
 use Rattle.fab_program_base.proofs.Beginnings.{begun}
 use Rattle.fab_program_base.proofs.once.once_now.Goals as goal

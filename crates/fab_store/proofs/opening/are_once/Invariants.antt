@@ -1,5 +1,5 @@
 use Rattle.std.proofs.Common.{ℕ, List, map, take, Bor}
-use Rattle.fab_lines.specs.PlanLines.{PlanColumns}
+use Rattle.fab_store_columns.specs.PlanLines.{PlanColumns}
 use Rattle.fab_store.proofs.Names.{AreNamed}
 use Rattle.fab_store.proofs.opening.are_once.Given as goal
 

@@ -1,6 +1,6 @@
 use Rattle.std.proofs.Common.{subst}
-use Rattle.fab_lines.specs.MetaLines.{ShowsMeta}
-use Rattle.fab_lines.specs.declared.meta_lines.MetaRow.TheVariants.{Schema}
+use Rattle.fab_store_columns.specs.MetaLines.{ShowsMeta}
+use Rattle.fab_store_columns.specs.declared.meta_lines.MetaRow.TheVariants.{Schema}
 use Rattle.fab_store.proofs.Newer.{tells_schema, revision_tells_none, setting_tells_none}
 use Rattle.fab_store.proofs.opening.newer_in.Goals as goal
 

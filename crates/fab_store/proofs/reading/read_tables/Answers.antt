@@ -1,7 +1,7 @@
 use Rattle.std.proofs.Common.{sym, subst}
 use Rattle.sqlite.specs.Held.{state}
-use Rattle.fab_load.specs.declared.fault.Table.TheVariants as table
-use Rattle.fab_tables.specs.Columns.{meta_row, port_row, holder_row, volume_row, zoning_row, active_row, group_row, part_row, plan_row, approval_row, undo_row, path_row}
+use Rattle.fab_store_load.specs.declared.fault.Table.TheVariants as table
+use Rattle.fab_store_tables.specs.Columns.{meta_row, port_row, holder_row, volume_row, zoning_row, active_row, group_row, part_row, plan_row, approval_row, undo_row, path_row}
 use Rattle.fab_store.specs.Reads.{IsTableOf}
 use Rattle.fab_store.proofs.Told.{all_told}
 use Rattle.fab_store.proofs.reading.read_tables.Goals as goal

@@ -1,5 +1,5 @@
 use Rattle.std.proofs.Common.{refl, inl, inr}
-use Rattle.fab_json.specs.Counting.{inner_of, failures_of}
+use Rattle.fab_wire_streams.specs.Counting.{inner_of, failures_of}
 use Rattle.fab_wire_base.specs.Hearing.{request_of}
 use Rattle.fab_wire_base.specs.Spelling.{refused}
 use Rattle.fab_wire.proofs.Told.{answered, asked_answered}

@@ -1,5 +1,5 @@
 use Rattle.std.proofs.Common.{length, ◌-◌}
-use Rattle.fab_json.specs.Counting.{inner_of, failures_of}
+use Rattle.fab_wire_streams.specs.Counting.{inner_of, failures_of}
 use Rattle.fab_wire_base.proofs.BodyLemmas.{FilledTo}
 use Rattle.fab_wire_base.proofs.bodies.fill.Given as goal
 

@@ -1,5 +1,5 @@
 use Rattle.std.proofs.Common.{length, ◌-◌, ◌≤◌, take}
-use Rattle.fab_json.specs.Counting.{inner_of, failures_of}
+use Rattle.fab_wire_streams.specs.Counting.{inner_of, failures_of}
 use Rattle.fab_wire_base.proofs.HeadLemmas.{ReadTo}
 use Rattle.fab_wire_base.proofs.head.read_head.Given as goal
 

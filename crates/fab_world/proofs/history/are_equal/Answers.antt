@@ -5,8 +5,8 @@ use Rattle.std.specs.Cmp.{Equal-is, tied_itself}
 use Rattle.std.specs.Cmp.Lexicographic.{slice_cmp}
 use Rattle.std.proofs.lemmas.Cmp.{lists_total}
 use Rattle.std.specs.FinSet as set
-use Rattle.fab_rows.specs.RowOrder.{row_cmp}
-use Rattle.fab_rows.proofs.OrderOfRows.{row_total, row_exact}
+use Rattle.fab_store_rows.specs.RowOrder.{row_cmp}
+use Rattle.fab_store_rows.proofs.OrderOfRows.{row_total, row_exact}
 use Rattle.fab_world.proofs.history.are_equal.Goals as goal
 
 pub returns : goal.returns

@@ -1,10 +1,10 @@
 use Rattle.std.proofs.Common.{sym, ◌∙◌, subst}
 use mathlib.Core.Bool.{true≢false}
-use Rattle.fab_maps.specs.Lists.{IsListOf}
-use Rattle.fab_reach.specs.Records.{ConfigRows}
-use Rattle.fab_rows.specs.Differences.{IsDifference}
-use Rattle.fab_rows.specs.RowOrder.{row_order}
-use Rattle.fab_rows.specs.Standing.{Stands}
+use Rattle.fab_lemmas.specs.Lists.{IsListOf}
+use Rattle.fab_reach_base.specs.Records.{ConfigRows}
+use Rattle.fab_store_rows.specs.Differences.{IsDifference}
+use Rattle.fab_store_rows.specs.RowOrder.{row_order}
+use Rattle.fab_store_rows.specs.Standing.{Stands}
 use Rattle.fab_world.specs.Plans.{change_in}
 use Rattle.fab_world.proofs.WaysBack.{here, nothing, none_earlier, one_earlier}
 use Rattle.fab_world.proofs.history.earlier.Goals as goal

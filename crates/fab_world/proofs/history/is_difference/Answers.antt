@@ -1,7 +1,7 @@
 use Rattle.std.proofs.Common.{List, sym, ◌∙◌, subst}
 use mathlib.Core.Bool.{true≢false}
-use Rattle.fab_rows.specs.Differences.{IsDifference}
-use Rattle.fab_rows.specs.declared.config_row.ConfigRow.{ConfigRow}
+use Rattle.fab_store_rows.specs.Differences.{IsDifference}
+use Rattle.fab_store_rows.specs.declared.config_row.ConfigRow.{ConfigRow}
 use Rattle.fab_world.proofs.WaysBack.{one_difference}
 use Rattle.fab_world.proofs.history.is_difference.Goals as goal
 

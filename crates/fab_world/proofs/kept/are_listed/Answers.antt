@@ -3,9 +3,9 @@ use mathlib.Core.Bool.{true≢false}
 use Rattle.std.specs.BTreeSet.{contains}
 use Rattle.std.specs.Map.Iter.{deref_pair}
 use Rattle.std.proofs.lemmas.Map.Iter.{rest_more, rest_all}
-use Rattle.fab_maps.proofs.Walks.{walked, walk_end}
+use Rattle.fab_lemmas.proofs.Walks.{walked, walk_end}
 use Rattle.fab_names.specs.Orders.{name_cmp}
-use Rattle.fab_reach.proofs.Scanning.{none_yet, one_more}
+use Rattle.fab_reach_base.proofs.Scanning.{none_yet, one_more}
 use Rattle.fab_world.specs.PlanRecords.{PlanRecord}
 use Rattle.fab_world.specs.Plans.{IsActive}
 use Rattle.fab_world.proofs.Listing.{stands_there, all_there}

@@ -1,7 +1,7 @@
 use Rattle.std.proofs.Common.{◌≡◌, ℕ, List, ◌++◌, true}
 use Rattle.std.specs.BTreeSet.{contains}
 use Rattle.fab_names.specs.Orders.{name_cmp}
-use Rattle.fab_reach.proofs.Scanning.{AllSoFar}
+use Rattle.fab_reach_base.proofs.Scanning.{AllSoFar}
 use Rattle.fab_world.specs.PlanRecords.{PlanRecord}
 use Rattle.fab_world.specs.Plans.{IsActive}
 use Rattle.fab_world.proofs.kept.are_listed.Given as goal

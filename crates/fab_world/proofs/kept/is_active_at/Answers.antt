@@ -1,5 +1,5 @@
 use Rattle.std.proofs.Common.{sym, subst}
-use Rattle.fab_reach.proofs.Same.{same_some}
+use Rattle.fab_reach_base.proofs.Same.{same_some}
 use Rattle.fab_world.specs.Plans.{IsActive}
 use Rattle.fab_world.proofs.kept.is_active_at.Goals as goal
 

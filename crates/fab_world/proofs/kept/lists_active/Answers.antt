@@ -1,7 +1,7 @@
 use Rattle.std.proofs.Common.{sym, ◌∙◌, arith}
 use mathlib.Core.Bool.{true≢false}
 use Rattle.std.specs.BTreeMap.{get}
-use Rattle.fab_maps.specs.Firsts.{HasAt}
+use Rattle.fab_lemmas.specs.Firsts.{HasAt}
 use Rattle.fab_names.specs.Orders.{name_cmp}
 use Rattle.fab_world.specs.Plans.{IsActive}
 use Rattle.fab_world.proofs.Listing.{each_once, as_large, in_set, in_list, each_has, all_have}

@@ -1,6 +1,6 @@
 use Rattle.std.proofs.Common.{refl}
-use Rattle.fab_reach.specs.Reach.{Reaches}
-use Rattle.fab_reach.specs.declared.listing.TheConstants.{MOST_PATHS}
+use Rattle.fab_reach_base.specs.Reach.{Reaches}
+use Rattle.fab_reach_base.specs.declared.listing.TheConstants.{MOST_PATHS}
 use Rattle.fab_world.proofs.Presents.{not_more}
 use Rattle.fab_world.proofs.present.has_few_paths.Goals as goal
 

@@ -1,5 +1,5 @@
 use Rattle.std.proofs.Common.{◌∷◌, [], ◌++◌, sym}
-use Rattle.fab_maps.proofs.Walks.{walked, walk_end}
+use Rattle.fab_lemmas.proofs.Walks.{walked, walk_end}
 use Rattle.fab_zoning.proofs.Listing.{listed_none, listed_more, listed_all}
 use Rattle.fab_zoning.proofs.by_zone.add_rows_of.Goals as goal
 

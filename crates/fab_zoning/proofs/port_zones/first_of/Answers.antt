@@ -4,7 +4,7 @@ use Rattle.std.specs.Ordering.{eq_by_cmp}
 use Rattle.fab_names.specs.Orders.{name_cmp}
 use Rattle.fab_names.proofs.OrderLaws.{name_total, name_exact}
 use Rattle.fab_zoning.specs.PortZones.{in_zones}
-use Rattle.fab_maps.proofs.Walks.{walked, walk_end, all_push, all_found, first_key, key_there}
+use Rattle.fab_lemmas.proofs.Walks.{walked, walk_end, all_push, all_found, first_key, key_there}
 use Rattle.fab_zoning.proofs.port_zones.first_of.Goals as goal
 
 pub loop-zone-preserved : goal.loop-zone-preserved

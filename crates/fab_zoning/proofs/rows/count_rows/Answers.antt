@@ -4,7 +4,7 @@ use Rattle.std.specs.BTreeSet.{BTreeSet}
 use Rattle.fab_names.specs.declared.member.Member.{Member}
 use Rattle.fab_zoning.specs.Rows.{row_cmp}
 use Rattle.fab_zoning.specs.Views.{seen_rows}
-use Rattle.fab_maps.proofs.Walks.{walked, walk_end}
+use Rattle.fab_lemmas.proofs.Walks.{walked, walk_end}
 use Rattle.fab_zoning.proofs.RowSets.{count_step, count_within}
 use Rattle.fab_zoning.proofs.rows.count_rows.Goals as goal
 

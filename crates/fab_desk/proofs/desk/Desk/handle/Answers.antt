@@ -1,7 +1,7 @@
 use Rattle.std.proofs.Common.{◌≡◌, refl, sym, subst, inl, inr, ◌∙◌, Some}
 use Rattle.std.proofs.lemmas.Option.{same_Some, none-some}
 use Rattle.std.proofs.lemmas.Bool.{both_ways}
-use Rattle.fab_machine.specs.Proposals.{request_of}
+use Rattle.fab_desk_machine.specs.Proposals.{request_of}
 use Rattle.fab_desk.specs.Desks.{IsServed}
 use Rattle.fab_desk.proofs.desk.Desk.handle.Goals as goal
 

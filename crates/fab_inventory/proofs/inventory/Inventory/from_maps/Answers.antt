@@ -1,7 +1,7 @@
 use Rattle.std.proofs.Common.{sym, ◌∙◌, arith}
 use mathlib.Core.Bool.{true≢false}
 use Rattle.fab_names.proofs.OrderLaws.{name_total}
-use Rattle.fab_maps.proofs.SeenMaps.{len_entries}
+use Rattle.fab_lemmas.proofs.SeenMaps.{len_entries}
 use Rattle.fab_inventory.specs.Restores.{rows_of}
 use Rattle.fab_inventory.proofs.Restoring.{sound_of_parts}
 use Rattle.fab_inventory.proofs.inventory.Inventory.from_maps.Goals as goal

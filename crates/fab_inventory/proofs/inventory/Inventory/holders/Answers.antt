@@ -2,7 +2,7 @@ use Rattle.std.proofs.Common.{sym, ap, ◌∙◌}
 use Rattle.std.specs.FinMap as map
 use Rattle.fab_names.proofs.OrderLaws.{name_total, name_exact}
 use Rattle.fab_inventory.specs.Inventories.{InventoryRows}
-use Rattle.fab_maps.proofs.SeenMaps.{entries_made}
+use Rattle.fab_lemmas.proofs.SeenMaps.{entries_made}
 use Rattle.fab_inventory.proofs.inventory.Inventory.holders.Goals as goal
 
 pub returns : goal.returns

@@ -12,7 +12,7 @@ use Rattle.fab_inventory.specs.declared.fault.InventoryLimit.TheVariants.{Ports}
 use Rattle.fab_inventory.specs.Imports.{Agrees, ListsIn, IsImported, ImportFails, logged_in, logged_out}
 use Rattle.fab_inventory.specs.Inventories.{InventoryRows}
 use Rattle.fab_inventory.proofs.Changes.{seen}
-use Rattle.fab_maps.proofs.SeenMaps.{get_entries, len_entries}
+use Rattle.fab_lemmas.proofs.SeenMaps.{get_entries, len_entries}
 use Rattle.fab_inventory.proofs.Soundness.{sound_import}
 use Rattle.fab_inventory.proofs.inventory.Inventory.import.Goals as goal
 

@@ -3,7 +3,7 @@ use Rattle.std.specs.Cmp.{nat_cmp_total}
 use Rattle.std.specs.Option.{option_map}
 use Rattle.fab_inventory.specs.Ports.{port_of}
 use Rattle.fab_inventory.specs.Inventories.{InventoryRows}
-use Rattle.fab_maps.proofs.SeenMaps.{looked_up}
+use Rattle.fab_lemmas.proofs.SeenMaps.{looked_up}
 use Rattle.fab_inventory.proofs.inventory.Inventory.port.Goals as goal
 
 pub returns-clause-port : goal.returns-clause-port

@@ -3,7 +3,7 @@ use Rattle.std.specs.FinMap as map
 use Rattle.std.specs.Cmp.{nat_cmp_total}
 use Rattle.std.specs.FinSet as set
 use Rattle.fab_inventory.specs.Inventories.{InventoryRows}
-use Rattle.fab_maps.proofs.SeenMaps.{entries_made}
+use Rattle.fab_lemmas.proofs.SeenMaps.{entries_made}
 use Rattle.fab_inventory.proofs.inventory.Inventory.ports.Goals as goal
 
 pub returns : goal.returns

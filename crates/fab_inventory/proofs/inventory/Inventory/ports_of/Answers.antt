@@ -1,12 +1,12 @@
 use Rattle.std.proofs.Common.{ℕ, [], Option, Result, Ok, Err, IfOk, ap, subst}
 use Rattle.std.specs.FinMap as map
 use Rattle.std.specs.Ordering.{nat_cmp}
-use Rattle.fab_maps.specs.Lists.{IsListOf}
+use Rattle.fab_lemmas.specs.Lists.{IsListOf}
 use Rattle.fab_inventory.specs.declared.port.Known.{Known}
 use Rattle.fab_inventory.specs.Inventories.{InventoryRows}
 use Rattle.fab_inventory.specs.Holders.{Leaves}
 use Rattle.std.specs.Cmp.{nat_cmp_total}
-use Rattle.fab_maps.proofs.SeenMaps.{same_look_ups}
+use Rattle.fab_lemmas.proofs.SeenMaps.{same_look_ups}
 use Rattle.fab_inventory.proofs.Holdings.{held_of_leaving}
 use Rattle.fab_inventory.proofs.inventory.Inventory.ports_of.Goals as goal
 

@@ -8,7 +8,7 @@ use Rattle.fab_inventory.specs.declared.fault.InventoryLimit.TheVariants.{Holder
 use Rattle.fab_inventory.specs.Holders.{IsPortFault}
 use Rattle.fab_inventory.specs.Inventories.{InventoryRows, CanPutHolder, IsHolderPut, PutHolderFails}
 use Rattle.fab_inventory.proofs.Changes.{seen, put_made, known_seen, free_seen, kind_seen, port_look_ups, holder_look_ups, port_fails}
-use Rattle.fab_maps.proofs.SeenMaps.{len_entries}
+use Rattle.fab_lemmas.proofs.SeenMaps.{len_entries}
 use Rattle.fab_inventory.proofs.inventory.Inventory.put_holder.Goals as goal
 use Rattle.fab_inventory.proofs.inventory.Inventory.put_holder.Goals.{else-len-ge-MOST_HOLDERS-via-then-len-ge-MOST_HOLDERS+else-not-contains_key, else-len-ge-MOST_HOLDERS-via-else-len-ge-MOST_HOLDERS}
 

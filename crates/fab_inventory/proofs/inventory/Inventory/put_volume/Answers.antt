@@ -9,7 +9,7 @@ use Rattle.fab_inventory.specs.declared.fault.InventoryFault.TheVariants.{Limit,
 use Rattle.fab_inventory.specs.declared.fault.InventoryLimit.TheVariants.{Volumes}
 use Rattle.fab_inventory.specs.Inventories.{InventoryRows, CanPutVolume, PutVolumeFails}
 use Rattle.fab_inventory.proofs.Changes.{seen, volume_put_made, kind_seen, volume_look_ups}
-use Rattle.fab_maps.proofs.SeenMaps.{len_entries}
+use Rattle.fab_lemmas.proofs.SeenMaps.{len_entries}
 use Rattle.fab_inventory.proofs.inventory.Inventory.put_volume.Goals as goal
 use Rattle.fab_inventory.proofs.inventory.Inventory.put_volume.Goals.{else-len-ge-MOST_VOLUMES-via-then-len-ge-MOST_VOLUMES+else-not-contains_key, else-len-ge-MOST_VOLUMES-via-else-len-ge-MOST_VOLUMES}
 

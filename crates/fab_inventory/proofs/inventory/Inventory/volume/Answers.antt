@@ -1,7 +1,7 @@
 use Rattle.std.proofs.Common.{sym, ap, ◌∙◌, refl}
 use Rattle.fab_names.proofs.OrderLaws.{name_total}
 use Rattle.fab_inventory.specs.Inventories.{InventoryRows}
-use Rattle.fab_maps.proofs.SeenMaps.{looked_up}
+use Rattle.fab_lemmas.proofs.SeenMaps.{looked_up}
 use Rattle.fab_inventory.proofs.inventory.Inventory.volume.Goals as goal
 
 pub returns-clause-volume : goal.returns-clause-volume

@@ -1,7 +1,7 @@
 use Rattle.std.proofs.Common.{MatchOption, ap, subst}
 use Rattle.std.specs.BTreeMap.{get}
 use Rattle.std.specs.FinMap as map
-use Rattle.fab_maps.proofs.SeenMaps.{same_look_ups}
+use Rattle.fab_lemmas.proofs.SeenMaps.{same_look_ups}
 use Rattle.fab_names.specs.Orders.{name_cmp}
 use Rattle.fab_names.proofs.OrderLaws.{name_total}
 use Rattle.fab_mapping_base.specs.Clashes.{HostGroups, StorageGroups}

@@ -1,5 +1,5 @@
 use Rattle.sqlite.specs.Held.{state}
-use Rattle.fab_sql.specs.NewDesk.{IsNewDesk}
+use Rattle.fab_store_sql.specs.NewDesk.{IsNewDesk}
 use Rattle.fab_store.proofs.Left.{left_after}
 use Rattle.fab_store.proofs.store.SqlStore.init.Goals as goal
 

@@ -1,9 +1,9 @@
 use Rattle.std.proofs.Common.{IsTrue, inl, inr}
 use Rattle.sqlite.specs.Held.{state}
-use Rattle.fab_sql.specs.States.{IsReady}
-use Rattle.fab_sql.specs.Trees.{tables_of}
+use Rattle.fab_store_sql.specs.States.{IsReady}
+use Rattle.fab_store_sql.specs.Trees.{tables_of}
 use Rattle.fab_store.proofs.Left.{left_after}
-use Rattle.fab_tables.specs.Tables.{Tables, CanChange, AreChanged}
+use Rattle.fab_store_tables.specs.Tables.{Tables, CanChange, AreChanged}
 use Rattle.fab_store.proofs.store.SqlStoreStore.commit.Goals as goal
 
 pub returns-in-Ok-clause-stop : goal.returns-in-Ok-clause-stop

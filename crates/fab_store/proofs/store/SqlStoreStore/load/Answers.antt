@@ -1,7 +1,7 @@
 use Rattle.std.proofs.Common.{sym, subst}
 use Rattle.sqlite.specs.Effect.{Database}
-use Rattle.fab_sql.specs.Trees.{tables_of}
-use Rattle.fab_stores.specs.Worlds.{HoldsWorld}
+use Rattle.fab_store_sql.specs.Trees.{tables_of}
+use Rattle.fab_store_base.specs.Worlds.{HoldsWorld}
 use Rattle.fab_store.proofs.store.SqlStoreStore.load.Goals as goal
 
 pub returns-in-Ok-clause-rows : goal.returns-in-Ok-clause-rows

@@ -1,7 +1,7 @@
 use Rattle.std.proofs.Common.{◌||◌}
 use Rattle.std.specs.Option.{option_copied}
 use Rattle.fab_names.specs.Orders.{name_cmp}
-use Rattle.fab_maps.specs.MapsOfSets.{in_tree}
+use Rattle.fab_lemmas.specs.MapsOfSets.{in_tree}
 use Rattle.fab_zoning.specs.PortZones.{in_zones}
 use Rattle.fab_zoning.proofs.PortZoneLemmas.{first_of_either}
 use Rattle.fab_zoning.proofs.port_zones.PortZones.first_common.Goals as goal

@@ -2,7 +2,7 @@ use Rattle.std.proofs.Common.{sym, ap, ◌∙◌}
 use Rattle.std.specs.FinSet as set
 use Rattle.fab_names.specs.Orders.{name_cmp}
 use Rattle.fab_zoning.specs.Rows.{Rows}
-use Rattle.fab_maps.specs.MapsOfSets.{in_tree}
+use Rattle.fab_lemmas.specs.MapsOfSets.{in_tree}
 use Rattle.fab_zoning.proofs.RowSets.{contains_seen}
 use Rattle.fab_zoning.proofs.rows.ActiveRows.contains.Goals as goal
 

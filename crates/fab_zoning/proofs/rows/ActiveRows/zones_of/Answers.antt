@@ -9,7 +9,7 @@ use Rattle.fab_names.specs.declared.member.Member.TheVariants as member
 use Rattle.fab_names.specs.Orders.{name_cmp, member_cmp}
 use Rattle.fab_zoning.specs.Rows.{Rows}
 use Rattle.fab_zoning.specs.Views.{seen_rows}
-use Rattle.fab_maps.specs.MapsOfSets.{in_tree}
+use Rattle.fab_lemmas.specs.MapsOfSets.{in_tree}
 use Rattle.fab_zoning.proofs.RowSets.{ByMember, contains_seen}
 use Rattle.fab_zoning.proofs.Reasons.{held_exactly}
 use Rattle.fab_zoning.proofs.rows.ActiveRows.zones_of.Goals as goal

@@ -1,4 +1,0 @@
-use Rattle.fab_answers.proofs.refusals.put_denied.Goals as goal
-
-pub returns : goal.returns
-returns g c = rw (c.number.ensures, c.name.ensures, c.word.ensures) at c.put.ensures.text

@@ -1,0 +1,53 @@
+-- What the trial of a command gives, said of the command.
+use Rattle.std.proofs.Common.{ℕ, ◌≡◌, List, [], Result, Ok, Err, IfOk, IfErr, true, sym, subst}
+use Rattle.fab_inventory.specs.Inventories.{InventoryRows}
+use Rattle.fab_policy_base.specs.Policies.{PolicyRows}
+use Rattle.fab_world.specs.Worlds.{WorldRows}
+use Rattle.fab_desk_next.specs.Nexts.{next_world, Suits}
+use Rattle.fab_desk_next.specs.declared.next.Next.{Next}
+use Rattle.fab_desk_base.specs.Answers.{IsThere}
+use Rattle.fab_desk_base.specs.Commands.{is_counted, tried}
+use Rattle.fab_desk_base.specs.Effects.{counted, with_inventory}
+use Rattle.fab_desk_base.specs.Trying.{IsMade, StaysSound, IsTryFault}
+use Rattle.fab_desk_base.specs.declared.command.Command.{Command}
+use Rattle.fab_desk_base.specs.declared.fault.DeskFault.{DeskFault}
+use Rattle.fab_desk_machine.specs.Trials.{stock_effect, plan_effect, MayCount, IsTried}
+
+-- a policy, where any does
+pub no_policy : PolicyRows
+no_policy = record { callers = []; windows = []; rules = [] }
+
+-- what the command is about is there, once it is known which command it is
+pub there : {A : Type 0} (w : WorldRows) (c k : Command A) → c ≡ k → ((p : PolicyRows) (id : ℕ) → IsThere p w id c) → (p : PolicyRows) (id : ℕ) → IsThere p w id k
+there w c k is h p id = subst (IsThere p w id) is (h p id)
+
+-- one fact of what is made follows from another
+pub ok_as : {X E : Type 0} {P Q : X → Type 0} (r : Result X E) → ((x : X) → P x → Q x) → IfOk r P → IfOk r Q
+ok_as (Ok x) f h = f x h
+ok_as (Err e) f h = h
+
+-- t is the command as it is tried
+module _ {A : Type 0} (w : WorldRows) (caller : List ℕ) (c t : Command A) (same : t ≡ tried c) where
+  pub stock_ok : (r : Result InventoryRows DeskFault) → is_counted t ≡ true → IfOk r (λ v. IsMade w caller t (counted (with_inventory v w))) → IfOk r (λ v. StaysSound w t (counted (with_inventory v w))) → IfOk (stock_effect r) (IsTried w caller c)
+  stock_ok (Ok v) counts made sound = record {
+    made = subst (λ x. IsMade w caller x (counted (with_inventory v w))) same made;
+    suits = λ may. may (subst (λ x. is_counted x ≡ true) same counts);
+    sound = subst (λ x. StaysSound w x (counted (with_inventory v w))) same sound;
+  }
+  stock_ok (Err q) counts made sound = made
+
+  pub stock_err : (r : Result InventoryRows DeskFault) → IfErr r (IsTryFault w caller t) → IfErr (stock_effect {A = A} r) (IsTryFault w caller (tried c))
+  stock_err (Ok v) h = h
+  stock_err (Err q) h = subst (λ x. IsTryFault w caller x q) same h
+
+  pub plan_ok : (r : Result (Next A) DeskFault) → IfOk r (λ n. IsMade w caller t (next_world w n)) → IfOk r (λ n. MayCount w t → Suits w n) → IfOk r (λ n. StaysSound w t (next_world w n)) → IfOk (plan_effect r) (IsTried w caller c)
+  plan_ok (Ok n) made suits sound = record {
+    made = subst (λ x. IsMade w caller x (next_world w n)) same made;
+    suits = λ may. suits (subst (MayCount w) (sym same) may);
+    sound = subst (λ x. StaysSound w x (next_world w n)) same sound;
+  }
+  plan_ok (Err q) made suits sound = made
+
+  pub plan_err : (r : Result (Next A) DeskFault) → IfErr r (IsTryFault w caller t) → IfErr (plan_effect r) (IsTryFault w caller (tried c))
+  plan_err (Ok n) h = h
+  plan_err (Err q) h = subst (λ x. IsTryFault w caller x q) same h

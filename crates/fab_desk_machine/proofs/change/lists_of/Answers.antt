@@ -1,0 +1,5 @@
+use Rattle.fab_desk_machine.proofs.PathLists.{no_step}
+use Rattle.fab_desk_machine.proofs.change.lists_of.Goals as goal
+
+pub returns-in-None : goal.returns-in-None
+returns-in-None g c old new ready = no_step (g.B.PathBook.leads c.args.book.now) old new c.args.step.now c.no_paths.result.gained.items c.no_paths.result.lost.items c.in-None.is ready c.no_paths.ensures

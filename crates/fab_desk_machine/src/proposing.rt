@@ -1,0 +1,190 @@
+//! What is proposed for a request.
+ghost use Rattle.std.specs.Prelude.{◌≡◌, ◌⊎◌, ◌↔◌, ℕ, IsSome, IsTrue, slice_get, Some};
+ghost use Rattle.fab_policy_base.specs.Policies.{CallerRow, PolicyRows};
+ghost use Rattle.fab_policy_base.specs.Callers.{IsOnlyWith};
+ghost use Rattle.fab_world.specs.Soundness.{IsSound};
+ghost use Rattle.fab_world.specs.Worlds.{records_of};
+ghost use Rattle.fab_desk_base.specs.Answers.{IsAnswerTo, IsStep, IsThere};
+ghost use Rattle.fab_desk_base.specs.Commands.{IsGiven, action_of};
+ghost use Rattle.fab_desk_base.specs.declared.command.Command.TheVariants as command;
+ghost use Rattle.fab_desk_base.specs.declared.fault.DeskFault.TheVariants as faults;
+ghost use Rattle.fab_desk_machine.specs.Proposals.{IsEnd, IsMemory, IsProposalFor, IsSenderOf, query_in, request_of};
+
+use crate::bodies::{is_given, is_there};
+use crate::change::Change;
+use crate::finish::{carry_out, turn_down};
+use crate::steps::try_out;
+use crate::verdicts::Sender;
+use fab_desk_base::{Command, DeskFault, Query, Reply};
+use fab_desk_reads::shown;
+use fab_policy_base::Policy;
+use fab_reach_base::PathBook;
+use fab_world::World;
+use std::alloc::Allocator;
+
+/// What the machine says to a request.
+#[derive(Drop)]
+pub enum Proposal<A: Allocator + Copy, R> {
+    /// The answer: nothing is changed.
+    Answer(Reply<A>),
+    /// A change that is ready to be taken over.
+    Ready(Change<A, R>),
+}
+
+/// Whether it is the want of memory.
+fn is_memory(fault: &DeskFault) -> bool
+    ensures { IsTrue result ↔ (fault.now ≡ faults.Memory) }
+{
+    match fault {
+        DeskFault::Memory => true,
+        _ => false,
+    }
+}
+
+/// What a command asks for that is a read.
+fn query_of<A: Allocator + Copy>(command: &Command<A>) -> Option<Query>
+    ensures { result ≡ query_in command.now }
+{
+    match command {
+        Command::Show(query) => Some(*query),
+        _ => None,
+    }
+}
+
+/// What a read is answered.
+fn read<A: Allocator + Copy, B: PathBook<A>>(
+    alloc: A,
+    world: &World<A>,
+    book: &B,
+    policy: &Policy,
+    sender: &Sender,
+    query: &Query,
+) -> Reply<A>
+    requires sound { IsSound world.now }
+    requires stands { B.stands book.now (records_of world.now) }
+    ensures { IsMemory result ⊎ IsAnswerTo policy.now world.now sender.now.id sender.now.name sender.now.moment (command.Show query.now) result world.now }
+{
+    match shown(alloc, policy, world, book, sender.id, query) {
+        Ok(Some(shown)) => Reply::Shown(shown),
+        Ok(None) => Reply::Refused(DeskFault::NotFound),
+        Err(_) => Reply::Refused(DeskFault::Memory),
+    }
+}
+
+/// What is proposed for a command whose values some body gives, and that is about what is there.
+fn end<A: Allocator + Copy, B: PathBook<A>>(
+    alloc: A,
+    world: &World<A>,
+    book: &mut B,
+    policy: &Policy,
+    sender: &Sender,
+    command: Command<A>,
+) -> Proposal<A, B::Ready>
+    requires sound { IsSound world.now }
+    requires stands { B.stands book.old (records_of world.now) }
+    requires given { IsGiven command }
+    requires there { (p : PolicyRows) (i : ℕ) → IsThere p world.now i command }
+    requires change { IsSome (action_of command) }
+    ensures stays { B.stands book.new (records_of world.now) }
+    ensures proposes { IsProposalFor (B.leads book.new) (IsEnd policy.now world.now sender.now.id sender.now.name sender.now.moment command) world.now result }
+{
+    match try_out(alloc, world, book, &sender.name, &command) {
+        Ok(prepared) => carry_out(alloc, world, book, policy, sender, command, prepared),
+        Err(fault) => {
+            if is_memory(&fault) {
+                return Proposal::Answer(Reply::Refused(DeskFault::Memory));
+            }
+            Proposal::Answer(turn_down(alloc, world, policy, sender, &command, fault))
+        }
+    }
+}
+
+/// What is proposed for a command that is no read.
+fn act<A: Allocator + Copy, B: PathBook<A>>(
+    alloc: A,
+    world: &World<A>,
+    book: &mut B,
+    policy: &Policy,
+    sender: &Sender,
+    command: Command<A>,
+) -> Proposal<A, B::Ready>
+    requires sound { IsSound world.now }
+    requires stands { B.stands book.old (records_of world.now) }
+    requires change { IsSome (action_of command) }
+    ensures stays { B.stands book.new (records_of world.now) }
+    ensures proposes { IsProposalFor (B.leads book.new) (IsAnswerTo policy.now world.now sender.now.id sender.now.name sender.now.moment command) world.now result }
+{
+    if !is_given(&command) {
+        return Proposal::Answer(Reply::Refused(DeskFault::BadBody { line: 0 }));
+    }
+    if !is_there(world, &command) {
+        return Proposal::Answer(Reply::Refused(DeskFault::NotFound));
+    }
+    end(alloc, world, book, policy, sender, command)
+}
+
+/// What is proposed for the command of a known caller.
+fn answer_to<A: Allocator + Copy, B: PathBook<A>>(
+    alloc: A,
+    world: &World<A>,
+    book: &mut B,
+    policy: &Policy,
+    sender: &Sender,
+    command: Command<A>,
+) -> Proposal<A, B::Ready>
+    requires sound { IsSound world.now }
+    requires stands { B.stands book.old (records_of world.now) }
+    ensures stays { B.stands book.new (records_of world.now) }
+    ensures proposes { IsProposalFor (B.leads book.new) (IsAnswerTo policy.now world.now sender.now.id sender.now.name sender.now.moment command) world.now result }
+{
+    match query_of(&command) {
+        Some(query) => Proposal::Answer(read(alloc, world, book, policy, sender, &query)),
+        None => act(alloc, world, book, policy, sender, command),
+    }
+}
+
+/// The sender of a request: the one caller who has the token.
+pub fn sender_of(policy: &Policy, token: &str, moment: u64) -> Option<Sender>
+    ensures { IsSenderOf policy.now token.now moment result }
+{
+    let Some(id) = policy.caller(token) else {
+        return None;
+    };
+    let Some(caller) = policy.row(id) else {
+        return None;
+    };
+    Some(Sender {
+        id,
+        name: caller.name,
+        moment,
+    })
+}
+
+/// What is proposed for a request: the token that its sender shows, when it comes, in Unix seconds,
+/// and its command. The world is lent, and stays as it is; the book stands where it stood. The world
+/// has to be sound, and the book has to stand at it.
+///
+/// The answer is by the first of these that fits: nobody has the token (`NoCaller`); no body gives
+/// such values (`BadBody`); what the command is about is not there, or a read is not for the caller
+/// (`NotFound`); a read, what it shows; the policy denies it (`Denied`); the first refusal of the
+/// records, the limits on paths and on changes the last of them; of a dry run the lists of paths
+/// that the activation gains and loses; else the change. Want of memory is answered `Memory`.
+pub fn propose<A: Allocator + Copy, B: PathBook<A>>(
+    alloc: A,
+    world: &World<A>,
+    book: &mut B,
+    policy: &Policy,
+    token: &str,
+    moment: u64,
+    command: Command<A>,
+) -> Proposal<A, B::Ready>
+    requires sound { IsSound world.now }
+    requires stands { B.stands book.old (records_of world.now) }
+    ensures stays { B.stands book.new (records_of world.now) }
+    ensures proposes { IsProposalFor (B.leads book.new) (IsStep policy.now world.now (request_of token.now moment command)) world.now result }
+{
+    match sender_of(policy, token, moment) {
+        Some(sender) => answer_to(alloc, world, book, policy, &sender, command),
+        None => Proposal::Answer(Reply::Refused(DeskFault::NoCaller)),
+    }
+}

@@ -1,0 +1,38 @@
+//! Plans, as they are shown.
+ghost use Rattle.std.specs.Prelude.{IfOk};
+ghost use Rattle.fab_desk_base.specs.declared.command.Query.TheVariants as query;
+ghost use Rattle.fab_desk_reads.specs.Recorded.{IsFound};
+
+use crate::listed::approvals_listed;
+use crate::parts::plan_in;
+use fab_desk_base::{Shown, ShownPlan};
+use fab_names::Name;
+use fab_plans_text::print_plan;
+use fab_world::World;
+use std::alloc::{AllocError, Allocator};
+
+/// The plan of this name, with its approvals and the printed form of its steps, if it is there.
+///
+/// # Errors
+/// `AllocError` where there is no memory.
+pub fn plan_shown<A: Allocator + Copy>(
+    alloc: A,
+    world: &World<A>,
+    name: &Name,
+) -> Result<Option<Shown<A>>, AllocError>
+    ensures { IfOk result (IsFound world.now (query.Plan name.now)) }
+{
+    let Some(kept) = plan_in(world, name) else {
+        return Ok(None);
+    };
+    let plan = kept.plan();
+    let text = print_plan(alloc, plan.steps.as_slice())?;
+    let approvals = approvals_listed(alloc, &plan.approvals)?;
+    Ok(Some(Shown::Plan(ShownPlan {
+        name: *name,
+        author: plan.author,
+        state: kept.state(),
+        approvals,
+        text,
+    })))
+}

@@ -1,0 +1,17 @@
+use Rattle.std.proofs.Common.{◌≡◌, inl, inr, ap, sym, subst}
+use Rattle.fab_inventory.specs.Inventories.{InventoryRows}
+use Rattle.fab_store_lists.specs.Inventories.{IsInventoryDifference}
+use Rattle.fab_desk_next.specs.Nexts.{next_world}
+use Rattle.fab_desk_rows.proofs.parts.inventory_moved.Goals as goal
+
+pub returns-in-Same : goal.returns-in-Same
+returns-in-Same g c =
+    let w = c.args.world.now in
+    let stays : (next_world w c.args.next.now).inventory ≡ w.inventory = elim c.in-Same.is [
+      | inl e ↦ ap (λ n. (next_world w n).inventory) e
+      | inr more ↦ elim more [
+        | inl e ↦ ap (λ n. (next_world w n).inventory) e.2
+        | inr more ↦ elim more [ inl e ↦ ap (λ n. (next_world w n).inventory) e.2 | inr e ↦ ap (λ n. (next_world w n).inventory) e.4 ]
+      ]
+    ] in
+    subst (λ (v : InventoryRows). IsInventoryDifference w.inventory v c.same_inventory.result) (sym stays) (c.same_inventory.ensures w.inventory)

@@ -1,0 +1,81 @@
+//! The fabrics that a command names.
+ghost use Rattle.std.specs.Prelude.{◌≡◌, ◌↔◌, Contains, IsTrue};
+ghost use Rattle.fab_names.specs.declared.fabric.Fabric.{Fabric};
+ghost use Rattle.fab_names.specs.declared.fabric.Fabric.TheVariants as fabric;
+ghost use Rattle.fab_plans.specs.Steps.{fabric_of};
+ghost use Rattle.fab_plans_steps.specs.Actions.{zoning_step};
+ghost use Rattle.fab_plans_steps.specs.Steps.{PlanStep};
+ghost use Rattle.fab_desk_base.specs.Commands.{NamesFabric};
+
+use crate::named::steps_of;
+use fab_desk_base::Command;
+use fab_names::Fabric;
+use fab_plans_steps::{Action, Step, ZoningAction};
+use fab_world::World;
+use std::alloc::Allocator;
+
+/// The fabric whose zoning the action changes.
+fn zoned<A: Allocator + Copy>(action: &ZoningAction<A>) -> Fabric
+    ensures { fabric_of (zoning_step action.now) ≡ Some result }
+{
+    match action {
+        ZoningAction::AliasPut { fabric, .. }
+        | ZoningAction::AliasDrop { fabric, .. }
+        | ZoningAction::ZonePut { fabric, .. }
+        | ZoningAction::ZoneDrop { fabric, .. }
+        | ZoningAction::SetPut { fabric, .. }
+        | ZoningAction::SetDrop { fabric, .. }
+        | ZoningAction::Activate { fabric, .. }
+        | ZoningAction::Deactivate { fabric }
+        | ZoningAction::Default { fabric, .. } => *fabric,
+    }
+}
+
+/// Whether the step is of the zoning of the fabric.
+fn is_of<A: Allocator + Copy>(step: &Step<A>, fabric: Fabric) -> bool
+    ensures { IsTrue result ↔ (fabric_of step.now ≡ Some fabric) }
+{
+    match step.action() {
+        Action::Zoning(action) => zoned(action) == fabric,
+        Action::Mapping(_) => false,
+    }
+}
+
+/// Whether some step is of the zoning of the fabric.
+fn are_of<A: Allocator + Copy>(steps: &[Step<A>], fabric: Fabric) -> bool
+    ensures { IsTrue result ↔ ((s : PlanStep) × Contains steps.now s × (fabric_of s ≡ Some fabric)) }
+{
+    steps.iter().any(|step| is_of(step, fabric))
+}
+
+/// Whether the command names the fabric: an import its own, and a plan those of its steps of zoning.
+fn names_fabric<A: Allocator + Copy>(world: &World<A>, command: &Command<A>, fabric: Fabric) -> bool
+    ensures { IsTrue result ↔ NamesFabric world.now command.now fabric }
+{
+    if let Command::Import { fabric: own, .. } = command {
+        return *own == fabric;
+    }
+    are_of(steps_of(world, command), fabric)
+}
+
+/// The fabrics of which this holds.
+fn chosen(a: bool, b: bool) -> &'static [Fabric]
+    ensures a { Contains result.now fabric.A ↔ IsTrue a }
+    ensures b { Contains result.now fabric.B ↔ IsTrue b }
+{
+    match (a, b) {
+        (true, true) => &[Fabric::A, Fabric::B],
+        (true, false) => &[Fabric::A],
+        (false, true) => &[Fabric::B],
+        (false, false) => &[],
+    }
+}
+
+/// The fabrics that the command names. It takes no memory.
+pub fn fabrics_of<A: Allocator + Copy>(world: &World<A>, command: &Command<A>) -> &'static [Fabric]
+    ensures { (f : Fabric) → Contains result.now f ↔ NamesFabric world.now command.now f }
+{
+    let a = names_fabric(world, command, Fabric::A);
+    let b = names_fabric(world, command, Fabric::B);
+    chosen(a, b)
+}

@@ -1,0 +1,102 @@
+//! What a command says of itself, and the plan that it names.
+ghost use Rattle.std.specs.Prelude.{◌≡◌, ◌↔◌, Contains};
+ghost use Rattle.std.specs.FinMap as map;
+ghost use Rattle.std.specs.Option.{option_copied};
+ghost use Rattle.fab_reach_base.specs.Views.{seen};
+ghost use Rattle.fab_plans_steps.specs.Steps.{PlanStep};
+ghost use Rattle.fab_world.specs.Worlds.{records_of};
+ghost use Rattle.fab_desk_base.specs.Commands as commands;
+ghost use Rattle.fab_desk_verdicts.specs.Named.{plan_named};
+
+use fab_desk_base::Command;
+use fab_names::Name;
+use fab_plans_steps::Step;
+use fab_policy::Action;
+use fab_reach_base::View;
+use fab_world::{KeptPlan, World};
+use std::alloc::Allocator;
+
+/// What the command does, as a policy names it; a read has no action.
+pub fn action_of<A: Allocator + Copy>(command: &Command<A>) -> Option<Action>
+    ensures { result ≡ commands.action_of command.now }
+{
+    match command {
+        Command::Import { .. } => Some(Action::Import),
+        Command::PutHolder { .. }
+        | Command::PutVolume { .. }
+        | Command::DropHolder { .. }
+        | Command::DropVolume { .. } => Some(Action::Inventory),
+        Command::Stage { .. } => Some(Action::Stage),
+        Command::Withdraw { .. } => Some(Action::Withdraw),
+        Command::Approve { .. } => Some(Action::Approve),
+        Command::DryRun { .. } => Some(Action::DryRun),
+        Command::Activate { .. } => Some(Action::Activate),
+        Command::Rollback { .. } => Some(Action::Rollback),
+        Command::Show(_) => None,
+    }
+}
+
+/// The plan that the command is about, which has to be there.
+pub fn plan_of<A: Allocator + Copy>(command: &Command<A>) -> Option<Name>
+    ensures { result ≡ commands.plan_of command.now }
+{
+    match command {
+        Command::Withdraw { plan }
+        | Command::Approve { plan }
+        | Command::DryRun { plan }
+        | Command::Activate { plan }
+        | Command::Rollback { plan } => Some(*plan),
+        _ => None,
+    }
+}
+
+/// The plan that the command is about, or that it stages.
+pub fn named_plan<A: Allocator + Copy>(command: &Command<A>) -> Option<Name>
+    ensures { result ≡ plan_named command.now }
+{
+    match command {
+        Command::Stage { plan, .. } => Some(*plan),
+        _ => plan_of(command),
+    }
+}
+
+/// What paths follow from in the world.
+pub fn view_of<A: Allocator + Copy>(world: &World<A>) -> View<'_, A>
+    ensures { seen result ≡ records_of world.now }
+{
+    View::of(&world.inventory, &world.config)
+}
+
+/// The plan of this name, where there is one.
+pub fn plan_at<'a, A: Allocator + Copy>(world: &'a World<A>, name: &Name) -> Option<&'a KeptPlan<A>>
+    ensures { option_copied result ≡ map.get world.now.plans name.now }
+{
+    world.plans.get(name)
+}
+
+/// The steps of the plan of this name, where there is one.
+fn steps_under<'a, A: Allocator + Copy>(world: &'a World<A>, name: &Name) -> &'a [Step<A>]
+    ensures { (s : PlanStep) → Contains result.now s ↔ commands.PlanHasStep world.now (Some name.now) s }
+{
+    let Some(kept) = plan_at(world, name) else {
+        return &[];
+    };
+    let plan = kept.plan();
+    plan.steps.as_slice()
+}
+
+/// The steps of the command's plan: of the one that it stages, or of the one that it is about.
+pub fn steps_of<'a, A: Allocator + Copy>(
+    world: &'a World<A>,
+    command: &'a Command<A>,
+) -> &'a [Step<A>]
+    ensures { (s : PlanStep) → Contains result.now s ↔ commands.HasStep world.now command.now s }
+{
+    if let Command::Stage { steps, .. } = command {
+        return steps.as_slice();
+    }
+    match plan_of(command) {
+        Some(name) => steps_under(world, &name),
+        None => &[],
+    }
+}

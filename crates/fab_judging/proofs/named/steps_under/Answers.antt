@@ -1,7 +1,0 @@
-use Rattle.std.proofs.Common.{sym, ap, ◌∙◌}
-use Rattle.fab_plans.specs.Plans.{PlanRows}
-use Rattle.fab_judging.proofs.PlansNamed.{steps_found}
-use Rattle.fab_judging.proofs.named.steps_under.Goals as goal
-
-pub returns : goal.returns
-returns g c = steps_found c.args.world.now c.args.name.now c.in-Some.kept.now c.as_slice.result.now (sym c.in-Some.ensures) (c.as_slice.ensures.value ∙ ap (λ (p : PlanRows). p.steps) c.plan-plan.ensures)

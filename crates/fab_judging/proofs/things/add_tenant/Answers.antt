@@ -1,6 +1,0 @@
-use Rattle.fab_names.proofs.OrderLaws.{name_total, name_exact}
-use Rattle.fab_reach.proofs.Sets.{adds_insert}
-use Rattle.fab_judging.proofs.things.add_tenant.Goals as goal
-
-pub returns : goal.returns
-returns g c = adds_insert name_total name_exact c.args.tenants.now c.insert.new.self c.args.tenant.now c.in_ok-insert.ensures.updates.0

@@ -1,8 +1,0 @@
-use Rattle.fab_lines.proofs.UniqueConfig.{one_approval, one_approval_line}
-use Rattle.fab_lines.proofs.laws.approvals.Goals as goal
-
-pub returns-clause-row : goal.returns-clause-row
-returns-clause-row c = one_approval
-
-pub returns-clause-line : goal.returns-clause-line
-returns-clause-line c = one_approval_line

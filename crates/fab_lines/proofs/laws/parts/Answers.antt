@@ -1,8 +1,0 @@
-use Rattle.fab_lines.proofs.UniqueConfig.{one_part, one_part_line}
-use Rattle.fab_lines.proofs.laws.parts.Goals as goal
-
-pub returns-clause-row : goal.returns-clause-row
-returns-clause-row c = one_part
-
-pub returns-clause-line : goal.returns-clause-line
-returns-clause-line c = one_part_line

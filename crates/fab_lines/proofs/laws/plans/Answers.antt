@@ -1,8 +1,0 @@
-use Rattle.fab_lines.proofs.UniquePlan.{one_plan, one_plan_line}
-use Rattle.fab_lines.proofs.laws.plans.Goals as goal
-
-pub returns-clause-row : goal.returns-clause-row
-returns-clause-row c = one_plan
-
-pub returns-clause-line : goal.returns-clause-line
-returns-clause-line c = one_plan_line

@@ -1,4 +1,0 @@
-use Rattle.fab_next_changes.proofs.parts.same_inventory.Goals as goal
-
-pub returns : goal.returns
-returns g c = λ v. record { takes = c.no_lists.ensures v; adds = c.no_lists-2.ensures v }

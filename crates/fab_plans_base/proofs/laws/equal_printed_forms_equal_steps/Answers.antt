@@ -1,7 +1,0 @@
-use Rattle.std.proofs.lemmas.List.Elements.{recursion_from_All}
-use Rattle.fab_steps.specs.Plans.{IsStep}
-use Rattle.fab_plans_base.proofs.Printed.{one_printed}
-use Rattle.fab_plans_base.proofs.laws.equal_printed_forms_equal_steps.Goals as goal
-
-pub returns : goal.returns
-returns c steps others h k e = one_printed steps others (recursion_from_All IsStep steps h) (recursion_from_All IsStep others k) e

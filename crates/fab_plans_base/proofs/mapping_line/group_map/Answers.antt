@@ -1,6 +1,0 @@
-use Rattle.fab_steps.specs.Steps.{group_map}
-use Rattle.fab_plans_base.proofs.Words.{is_step}
-use Rattle.fab_plans_base.proofs.mapping_line.group_map.Goals as goal
-
-pub new-requires : goal.new-requires
-new-requires g c = is_step c.args.words.now (group_map c.in_ok-group.group c.in_ok-group.unit c.in_ok-group.volume) c.requires c.in_ok-group.ensures

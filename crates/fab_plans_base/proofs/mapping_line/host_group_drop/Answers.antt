@@ -1,6 +1,0 @@
-use Rattle.fab_steps.specs.Steps.{host_group_drop}
-use Rattle.fab_plans_base.proofs.Words.{is_step}
-use Rattle.fab_plans_base.proofs.mapping_line.host_group_drop.Goals as goal
-
-pub new-requires : goal.new-requires
-new-requires g c = is_step c.args.words.now (host_group_drop c.in_ok-name.name) c.requires c.in_ok-name.ensures

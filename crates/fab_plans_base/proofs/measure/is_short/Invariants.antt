@@ -1,7 +1,0 @@
-use Rattle.std.proofs.Common.{◌≡◌, ◌+◌, length, take}
-use Rattle.fab_steps.specs.Limits.{most_bytes}
-use Rattle.fab_steps.specs.Plans.{plan_text}
-use Rattle.fab_plans_base.proofs.measure.is_short.Given as goal
-
-abbrev pub invariant-loop-step : goal.invariant-loop-step
-invariant-loop-step g l = l.left + length (plan_text (take l.step-index l.steps)) ≡ most_bytes

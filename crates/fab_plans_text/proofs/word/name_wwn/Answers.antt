@@ -1,0 +1,13 @@
+use Rattle.std.proofs.Common.{inl, inr}
+use Rattle.std.proofs.lemmas.Result.{err_from_is_err_and}
+use Rattle.fab_plans_steps.specs.Values.{of_name}
+use Rattle.fab_plans_text.proofs.Words.{two_texts, of_kind}
+use Rattle.fab_plans_text.proofs.word.name_wwn.Goals as goal
+
+pub returns-in_err-wwn : goal.returns-in_err-wwn
+returns-in_err-wwn c =
+    let p = err_from_is_err_and c.from_residual-in_err-wwn.result c.from_residual-in_err-wwn.ensures.1 in
+    rw (p.1, p.2, two_texts c.args.words.now c.requires) (inr (of_kind _ (of_name c.in_ok-name.name) c.in_ok-name.ensures, inl c.in_err-wwn.ensures))
+
+pub returns : goal.returns
+returns c = rw (two_texts c.args.words.now c.requires) (c.in_ok-name.ensures, (c.in_ok-wwn.ensures, tt))

@@ -1,0 +1,24 @@
+//! Plans: their steps, and the texts that spell them, read and printed.
+//!
+//! A plan text has 1 to 200 lines, each of which spells a step. `read_plan` accepts exactly these
+//! texts, and `print_plan` gives a text that is read again as the same steps.
+#![tactic(auto)]
+
+mod fault;
+pub mod laws;
+mod line;
+mod mapping_line;
+mod measure;
+mod plan;
+mod print;
+mod word;
+mod zoning_line;
+
+pub use fab_plans_steps::{
+    Action, Keyword, LAST_UNIT, MOST_BYTES, MOST_ITEMS, MOST_STEPS, MappingAction, MappingKeyword,
+    Step, ZoningAction, ZoningKeyword,
+};
+pub use fault::{PlanFault, PlanFaultKind};
+pub use measure::is_within_limits;
+pub use plan::read_plan;
+pub use print::print_plan;

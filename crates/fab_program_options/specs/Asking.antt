@@ -1,0 +1,111 @@
+-- What the words of a command line ask for.
+use Rattle.std.specs.Prelude.{◌≡◌, List, [], Option, Some, None}
+use Rattle.clap.specs.Words.{Row, Text, fault_of, subcommand_of}
+use Rattle.fab_names.specs.Names.{SpellsName}
+use Rattle.fab_names.specs.Fabrics.{SpellsFabric}
+use Rattle.fab_program_options.specs.CommandLine.{desk_app, subcommand_name, value_of}
+use Rattle.fab_program_options.specs.Values.{Has, MayHave, SpellsText, SpellsToken, SpellsNumber64}
+use Rattle.fab_program_options.specs.declared.options.OptionKind.TheVariants as option
+use Rattle.fab_program_options.specs.declared.subcommands.Subcommand.{Subcommand}
+use Rattle.fab_program_options.specs.declared.subcommands.Subcommand.TheVariants as subcommand
+use Rattle.fab_program_options.specs.declared.reading.WordsFault.{WordsFault}
+use Rattle.fab_program_options.specs.declared.reading.WordsFault.TheVariants.{Refused, BadText, Memory}
+use Rattle.fab_program_options.specs.declared.words.Access.{Access}
+use Rattle.fab_program_options.specs.declared.words.Init.{Init}
+use Rattle.fab_program_options.specs.declared.words.Serve.{Serve}
+use Rattle.fab_program_options.specs.declared.words.Over.{Over}
+use Rattle.fab_program_options.specs.declared.words.Over.TheVariants as over
+use Rattle.fab_program_options.specs.declared.words.Once.{Once}
+use Rattle.fab_program_options.specs.declared.words.Import.{Import}
+use Rattle.fab_program_options.specs.declared.words.Paths.{Paths}
+use Rattle.fab_program_options.specs.declared.words.Export.{Export}
+use Rattle.fab_program_options.specs.declared.words.DryRun.{DryRun}
+use Rattle.fab_program_options.specs.declared.words.Words.{Words}
+use Rattle.fab_program_options.specs.declared.words.Words.TheVariants as words
+
+-- ---- what the values of a subcommand's options ask for
+
+pub record IsAccess (rows : List Row) (w : Access) : Type 0 where
+  pub db : Has SpellsText (value_of option.Db rows) w.db.now
+  pub policy : Has SpellsText (value_of option.Policy rows) w.policy.now
+  pub token : Has SpellsToken (value_of option.Token rows) w.token.now
+
+pub record IsInit (rows : List Row) (w : Init) : Type 0 where
+  pub db : Has SpellsText (value_of option.Db rows) w.db.now
+
+pub record IsServe (rows : List Row) (w : Serve) : Type 0 where
+  pub db : Has SpellsText (value_of option.Db rows) w.db.now
+  pub policy : Has SpellsText (value_of option.Policy rows) w.policy.now
+  pub listen : Has SpellsText (value_of option.Listen rows) w.listen.now
+  pub count : MayHave SpellsNumber64 (value_of option.Count rows) w.count
+
+-- a new desk in memory, under the sample policy or another, or the desk of a database under a policy
+abbrev pub IsOver : List Row → Over → Type 0
+IsOver rows over.Trial = (value_of option.Policy rows ≡ None) × (value_of option.Db rows ≡ None)
+IsOver rows (over.Memory policy) = Has SpellsText (value_of option.Policy rows) policy.now × (value_of option.Db rows ≡ None)
+IsOver rows (over.Database policy db) = Has SpellsText (value_of option.Policy rows) policy.now × Has SpellsText (value_of option.Db rows) db.now
+
+pub record IsOnce (rows : List Row) (w : Once) : Type 0 where
+  pub over : IsOver rows w.over
+  pub now : MayHave SpellsNumber64 (value_of option.Now rows) w.now
+
+pub record IsImport (rows : List Row) (w : Import) : Type 0 where
+  pub access : IsAccess rows w.access
+  pub fabric : Has SpellsFabric (value_of option.Fabric rows) w.fabric
+  pub file : Has SpellsText (value_of option.File rows) w.file.now
+  pub now : MayHave SpellsNumber64 (value_of option.Now rows) w.now
+
+pub record IsPaths (rows : List Row) (w : Paths) : Type 0 where
+  pub access : IsAccess rows w.access
+  pub host : Has SpellsName (value_of option.Host rows) w.host
+
+pub record IsExport (rows : List Row) (w : Export) : Type 0 where
+  pub access : IsAccess rows w.access
+  pub fabric : Has SpellsFabric (value_of option.Fabric rows) w.fabric
+
+pub record IsDryRun (rows : List Row) (w : DryRun) : Type 0 where
+  pub access : IsAccess rows w.access
+  pub plan : Has SpellsName (value_of option.Plan rows) w.plan
+  pub now : MayHave SpellsNumber64 (value_of option.Now rows) w.now
+
+-- ---- what the words ask for
+
+abbrev pub subcommand_in : Words → Subcommand
+subcommand_in (words.Init w) = subcommand.Init
+subcommand_in (words.Serve w) = subcommand.Serve
+subcommand_in (words.Once w) = subcommand.Once
+subcommand_in (words.Import w) = subcommand.Import
+subcommand_in (words.Paths w) = subcommand.Paths
+subcommand_in (words.Report w) = subcommand.Report
+subcommand_in (words.Export w) = subcommand.Export
+subcommand_in (words.DryRun w) = subcommand.DryRun
+
+abbrev pub HasValues : List Row → Words → Type 0
+HasValues rows (words.Init w) = IsInit rows w
+HasValues rows (words.Serve w) = IsServe rows w
+HasValues rows (words.Once w) = IsOnce rows w
+HasValues rows (words.Import w) = IsImport rows w
+HasValues rows (words.Paths w) = IsPaths rows w
+HasValues rows (words.Report w) = IsPaths rows w
+HasValues rows (words.Export w) = IsExport rows w
+HasValues rows (words.DryRun w) = IsDryRun rows w
+
+-- the subcommand that clap found, and its options, ask for w
+abbrev pub IsAsked : Option (Text × List Row) → Words → Type 0
+IsAsked None w = ⊥
+IsAsked (Some found) w = (found.0 ≡ subcommand_name (subcommand_in w)) × HasValues found.1 w
+
+-- the words, of which the first is the program's name, are understood: clap finds no fault in them
+abbrev pub AreUnderstood : List Text → Type 0
+AreUnderstood line = fault_of desk_app line ≡ []
+
+-- the words are understood, and ask for w
+pub record Asks (line : List Text) (w : Words) : Type 0 where
+  pub understood : AreUnderstood line
+  pub asked : IsAsked (subcommand_of desk_app line) w
+
+-- why the words ask for nothing: they are not understood, or they are and a value has not its text form
+abbrev pub IsReason : List Text → WordsFault → Type 0
+IsReason line (Refused error) = ¬ AreUnderstood line
+IsReason line BadText = AreUnderstood line × ((w : Words) → ¬ IsAsked (subcommand_of desk_app line) w)
+IsReason line Memory = Unit {0}

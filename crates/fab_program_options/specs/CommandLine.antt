@@ -1,0 +1,91 @@
+-- The command line of the program: its subcommands and their options.
+use Rattle.std.specs.Prelude.{Bool, true, false, List, [], ◌∷◌, ◌++◌, Option, Some, map, codes}
+use Rattle.clap.specs.Words.{App, Row, Rule, Shape, Text, first_of, new_app, new_rule, with_subcommand}
+use Rattle.clap.specs.declared.builder.action.ArgAction.TheVariants.{Set}
+use Rattle.fab_program_options.specs.declared.options.OptionKind.{OptionKind}
+use Rattle.fab_program_options.specs.declared.options.OptionKind.TheVariants.{Db, Policy, Listen, Count, Now, Token, Fabric, File, Host, Plan}
+use Rattle.fab_program_options.specs.declared.subcommands.Subcommand.{Subcommand}
+use Rattle.fab_program_options.specs.declared.subcommands.Subcommand.TheVariants.{Init, Serve, Once, Import, Paths, Report, Export, DryRun}
+
+-- ---- the words
+
+abbrev pub option_name : OptionKind → Text
+option_name Db = codes "db"
+option_name Policy = codes "policy"
+option_name Listen = codes "listen"
+option_name Count = codes "count"
+option_name Now = codes "now"
+option_name Token = codes "token"
+option_name Fabric = codes "fabric"
+option_name File = codes "file"
+option_name Host = codes "host"
+option_name Plan = codes "plan"
+
+abbrev pub subcommand_name : Subcommand → Text
+subcommand_name Init = codes "init"
+subcommand_name Serve = codes "serve"
+subcommand_name Once = codes "once"
+subcommand_name Import = codes "import"
+subcommand_name Paths = codes "paths"
+subcommand_name Report = codes "report"
+subcommand_name Export = codes "export"
+subcommand_name DryRun = codes "dryrun"
+
+-- every subcommand
+abbrev pub all_subcommands : List Subcommand
+all_subcommands = Init ∷ Serve ∷ Once ∷ Import ∷ Paths ∷ Report ∷ Export ∷ DryRun ∷ []
+
+-- the options that a subcommand must have
+abbrev pub required_of : Subcommand → List OptionKind
+required_of Init = Db ∷ []
+required_of Serve = Db ∷ Policy ∷ Listen ∷ []
+required_of Once = []
+required_of Import = Db ∷ Policy ∷ Token ∷ Fabric ∷ File ∷ []
+required_of Paths = Db ∷ Policy ∷ Token ∷ Host ∷ []
+required_of Report = Db ∷ Policy ∷ Token ∷ Host ∷ []
+required_of Export = Db ∷ Policy ∷ Token ∷ Fabric ∷ []
+required_of DryRun = Db ∷ Policy ∷ Token ∷ Plan ∷ []
+
+-- the options that it may have
+abbrev pub optional_of : Subcommand → List OptionKind
+optional_of Init = []
+optional_of Serve = Count ∷ []
+optional_of Once = Policy ∷ Db ∷ Now ∷ []
+optional_of Import = Now ∷ []
+optional_of Paths = []
+optional_of Report = []
+optional_of Export = []
+optional_of DryRun = Now ∷ []
+
+-- ---- the same, as clap reads it
+
+-- an option behind --, with one value, at most once
+unfoldable pub option_rule : Bool → OptionKind → Rule
+option_rule is_required option =
+    record (new_rule (option_name option)) { long = Some (option_name option); action = Some Set; required = is_required; value_names = 1 }
+
+abbrev pub option_rules : Bool → List OptionKind → List Rule
+option_rules is_required options = map (option_rule is_required) options
+
+abbrev pub subcommand_shape : Subcommand → Shape
+subcommand_shape s = record (new_app (subcommand_name s)).top { rules = option_rules true (required_of s) ++ option_rules false (optional_of s) }
+
+unfoldable pub subcommand_app : Subcommand → App
+subcommand_app s = record { top = subcommand_shape s; subs = [] }
+
+-- the program, without which no subcommand no words are understood
+unfoldable pub program_app : App
+program_app = let app = new_app (codes "sandesk") in record app { top = record app.top { subcommand_required = true } }
+
+abbrev pub with_subcommands : App → List Shape → App
+with_subcommands app [] = app
+with_subcommands app (s ∷ rest) = with_subcommands (with_subcommand app s) rest
+
+unfoldable pub desk_app : App
+desk_app = with_subcommands program_app (map (λ s. (subcommand_app s).top) all_subcommands)
+
+-- ---- what it finds
+
+-- the value of an option
+abbrev pub value_of : OptionKind → List Row → Option Text
+value_of option rows = first_of (option_name option) rows

@@ -1,0 +1,81 @@
+//! The options of the subcommands.
+ghost use Rattle.std.specs.Prelude.{◌≡◌};
+ghost use Rattle.fab_program_options.specs.CommandLine.{option_name};
+
+/// An option of a subcommand. Each takes a value.
+#[derive(Clone, Copy, PartialEq, Eq)]
+pub enum OptionKind {
+    /// The file of the database.
+    Db,
+    /// The file of the policy.
+    Policy,
+    /// The address and the port to listen at.
+    Listen,
+    /// How many connections are served.
+    Count,
+    /// The moment that stands for the clock's.
+    Now,
+    /// The caller's token.
+    Token,
+    /// A fabric.
+    Fabric,
+    /// The file of a port list.
+    File,
+    /// A host.
+    Host,
+    /// A plan.
+    Plan,
+}
+
+impl OptionKind {
+    /// The name, which stands behind `--`.
+    pub fn name<'a>(self) -> &'a str
+        ensures { result.now ≡ option_name self }
+    {
+        match self {
+            OptionKind::Db => "db",
+            OptionKind::Policy => "policy",
+            OptionKind::Listen => "listen",
+            OptionKind::Count => "count",
+            OptionKind::Now => "now",
+            OptionKind::Token => "token",
+            OptionKind::Fabric => "fabric",
+            OptionKind::File => "file",
+            OptionKind::Host => "host",
+            OptionKind::Plan => "plan",
+        }
+    }
+
+    /// What help calls the value.
+    pub fn value_name<'a>(self) -> &'a str {
+        match self {
+            OptionKind::Db | OptionKind::Policy | OptionKind::File => "PATH",
+            OptionKind::Listen => "ADDR:PORT",
+            OptionKind::Count => "N",
+            OptionKind::Now => "SECONDS",
+            OptionKind::Token => "TOKEN",
+            OptionKind::Fabric => "A|B",
+            OptionKind::Host | OptionKind::Plan => "NAME",
+        }
+    }
+
+    /// What help says of the option.
+    pub fn help<'a>(self) -> &'a str {
+        match self {
+            OptionKind::Db => "The file of the database, which `sandesk init` makes",
+            OptionKind::Policy => "The policy in TOML: callers, windows and rules",
+            OptionKind::Listen => "Where to listen, as 127.0.0.1:8080",
+            OptionKind::Count => "How many connections to serve [default: no end]",
+            OptionKind::Now => {
+                "The moment in seconds since 1970-01-01T00:00:00Z [default: the clock's]"
+            }
+            OptionKind::Token => "The token of the caller, as the policy lists it",
+            OptionKind::Fabric => "The fabric, A or B",
+            OptionKind::File => {
+                "The ports of the fabric: CSV lines port_name,node_name,domain,port"
+            }
+            OptionKind::Host => "The name of the host",
+            OptionKind::Plan => "The name of the plan",
+        }
+    }
+}

@@ -1,0 +1,275 @@
+//! Reads the words of a command line.
+ghost use Rattle.std.specs.Prelude.{MatchOption, IfOk, IfErr, map, option_map, string_bytes};
+ghost use Rattle.clap.specs.Words.{found_of, rows_of, subcommand_rows_of};
+ghost use Rattle.fab_program_options.specs.Asking.{Asks, IsReason, IsAccess, IsInit, IsServe, IsOver, IsOnce, IsImport, IsPaths, IsExport, IsDryRun};
+ghost use Rattle.fab_program_options.specs.Reading.{IsFaultOf, IsFound, IsRead, IsInMemory};
+ghost use Rattle.fab_program_options.specs.declared.words.Access.{Access};
+ghost use Rattle.fab_program_options.specs.declared.words.Init.{Init};
+ghost use Rattle.fab_program_options.specs.declared.words.Serve.{Serve};
+ghost use Rattle.fab_program_options.specs.declared.words.Over.{Over};
+ghost use Rattle.fab_program_options.specs.declared.words.Once.{Once};
+ghost use Rattle.fab_program_options.specs.declared.words.Import.{Import};
+ghost use Rattle.fab_program_options.specs.declared.words.Paths.{Paths};
+ghost use Rattle.fab_program_options.specs.declared.words.Export.{Export};
+ghost use Rattle.fab_program_options.specs.declared.words.DryRun.{DryRun};
+
+use crate::commands::command_line;
+use crate::options::OptionKind;
+use crate::subcommands::Subcommand;
+use crate::values::{fabric_in, name_in, number_in, text_in, token_in};
+use crate::words::{Access, DryRun, Export, Import, Init, Once, Over, Paths, Serve, Words};
+use clap::error::ErrorKind;
+use clap::{ArgMatches, Error};
+use std::alloc::Global;
+
+/// Why words ask for nothing.
+#[derive(Debug, Drop)]
+pub enum WordsFault {
+    /// They are wrong, or ask for help: `clap` says what.
+    Refused(Error),
+    /// The value of an option has not its text form, or `once` has a database without a policy.
+    BadText,
+    /// There was no memory.
+    Memory,
+}
+
+/// Reads the words of a command line, of which the first is the program's name.
+///
+/// # Errors
+/// `Refused` where `clap` finds a fault in the words, or they ask for help; `BadText` where a
+/// token, a name, a fabric, a count or a moment is not of its text form, or `once` has a database
+/// without a policy; `Memory` where there is no memory.
+pub fn read_words<'a>(alloc: Global, words: &'a [String]) -> Result<Words<'a>, WordsFault>
+    ensures ok { IfOk result (Asks (map string_bytes words.entry.now)) }
+    ensures err { IfErr result (IsReason (map string_bytes words.entry.now)) }
+{
+    let Ok(command) = command_line(alloc) else {
+        return Err(WordsFault::Memory);
+    };
+    match command.try_get_matches_from(words) {
+        Ok(matches) => match words_in(&matches) {
+            Some(words) => Ok(words),
+            None => Err(WordsFault::BadText),
+        },
+        Err(error) => Err(fault_of(error)),
+    }
+}
+
+/// What a parse that failed says of the words.
+fn fault_of(error: Error) -> WordsFault
+    ensures { IsFaultOf error result }
+{
+    if error.kind() == ErrorKind::OutOfMemory {
+        WordsFault::Memory
+    } else {
+        WordsFault::Refused(error)
+    }
+}
+
+/// What the matches of the program ask for.
+fn words_in<'a>(matches: &ArgMatches<'a>) -> Option<Words<'a>>
+    ensures { IsFound (subcommand_rows_of matches.now) result }
+{
+    let Some(found) = matches.subcommand() else {
+        return None;
+    };
+    let Some(subcommand) = Subcommand::from_name(found.0) else {
+        return None;
+    };
+    words_of(subcommand, found.1)
+}
+
+/// What the matches of a subcommand ask for.
+fn words_of<'a>(subcommand: Subcommand, given: &ArgMatches<'a>) -> Option<Words<'a>>
+    ensures { IsRead subcommand (rows_of (found_of given.now)) result }
+{
+    match subcommand {
+        Subcommand::Init => match init_in(given) {
+            Some(asked) => Some(Words::Init(asked)),
+            None => None,
+        },
+        Subcommand::Serve => match serve_in(given) {
+            Some(asked) => Some(Words::Serve(asked)),
+            None => None,
+        },
+        Subcommand::Once => match once_in(given) {
+            Some(asked) => Some(Words::Once(asked)),
+            None => None,
+        },
+        Subcommand::Import => match import_in(given) {
+            Some(asked) => Some(Words::Import(asked)),
+            None => None,
+        },
+        Subcommand::Paths => match paths_in(given) {
+            Some(asked) => Some(Words::Paths(asked)),
+            None => None,
+        },
+        Subcommand::Report => match paths_in(given) {
+            Some(asked) => Some(Words::Report(asked)),
+            None => None,
+        },
+        Subcommand::Export => match export_in(given) {
+            Some(asked) => Some(Words::Export(asked)),
+            None => None,
+        },
+        Subcommand::DryRun => match dry_run_in(given) {
+            Some(asked) => Some(Words::DryRun(asked)),
+            None => None,
+        },
+    }
+}
+
+/// The caller and the database.
+fn access_in<'a>(given: &ArgMatches<'a>) -> Option<Access<'a>>
+    ensures { MatchOption result ((w : Access) → ¬ IsAccess (rows_of (found_of given.now)) w)
+        (IsAccess (rows_of (found_of given.now))) }
+{
+    let Some(db) = text_in(given, OptionKind::Db) else {
+        return None;
+    };
+    let Some(policy) = text_in(given, OptionKind::Policy) else {
+        return None;
+    };
+    let Some(token) = token_in(given, OptionKind::Token) else {
+        return None;
+    };
+    Some(Access { db, policy, token })
+}
+
+fn init_in<'a>(given: &ArgMatches<'a>) -> Option<Init<'a>>
+    ensures { MatchOption result ((w : Init) → ¬ IsInit (rows_of (found_of given.now)) w)
+        (IsInit (rows_of (found_of given.now))) }
+{
+    let Some(db) = text_in(given, OptionKind::Db) else {
+        return None;
+    };
+    Some(Init { db })
+}
+
+fn serve_in<'a>(given: &ArgMatches<'a>) -> Option<Serve<'a>>
+    ensures { MatchOption result ((w : Serve) → ¬ IsServe (rows_of (found_of given.now)) w)
+        (IsServe (rows_of (found_of given.now))) }
+{
+    let Some(db) = text_in(given, OptionKind::Db) else {
+        return None;
+    };
+    let Some(policy) = text_in(given, OptionKind::Policy) else {
+        return None;
+    };
+    let Some(listen) = text_in(given, OptionKind::Listen) else {
+        return None;
+    };
+    let Some(count) = number_in(given, OptionKind::Count) else {
+        return None;
+    };
+    Some(Serve {
+        db,
+        policy,
+        listen,
+        count,
+    })
+}
+
+/// The desk that answers one request, or none for a database without a policy.
+fn over_in<'a>(given: &ArgMatches<'a>) -> Option<Over<'a>>
+    ensures { MatchOption result ((w : Over) → ¬ IsOver (rows_of (found_of given.now)) w)
+        (IsOver (rows_of (found_of given.now))) }
+{
+    let policy = text_in(given, OptionKind::Policy);
+    let Some(db) = text_in(given, OptionKind::Db) else {
+        return Some(in_memory(policy));
+    };
+    match policy {
+        Some(policy) => Some(Over::Database { policy, db }),
+        None => None,
+    }
+}
+
+/// A new desk in memory.
+fn in_memory(policy: Option<&str>) -> Over<'_>
+    ensures { IsInMemory (option_map (λ text. text.now) policy.entry) result }
+{
+    match policy {
+        Some(policy) => Over::Memory { policy },
+        None => Over::Trial,
+    }
+}
+
+fn once_in<'a>(given: &ArgMatches<'a>) -> Option<Once<'a>>
+    ensures { MatchOption result ((w : Once) → ¬ IsOnce (rows_of (found_of given.now)) w)
+        (IsOnce (rows_of (found_of given.now))) }
+{
+    let Some(over) = over_in(given) else {
+        return None;
+    };
+    let Some(now) = number_in(given, OptionKind::Now) else {
+        return None;
+    };
+    Some(Once { over, now })
+}
+
+fn import_in<'a>(given: &ArgMatches<'a>) -> Option<Import<'a>>
+    ensures { MatchOption result ((w : Import) → ¬ IsImport (rows_of (found_of given.now)) w)
+        (IsImport (rows_of (found_of given.now))) }
+{
+    let Some(access) = access_in(given) else {
+        return None;
+    };
+    let Some(fabric) = fabric_in(given, OptionKind::Fabric) else {
+        return None;
+    };
+    let Some(file) = text_in(given, OptionKind::File) else {
+        return None;
+    };
+    let Some(now) = number_in(given, OptionKind::Now) else {
+        return None;
+    };
+    Some(Import {
+        access,
+        fabric,
+        file,
+        now,
+    })
+}
+
+fn paths_in<'a>(given: &ArgMatches<'a>) -> Option<Paths<'a>>
+    ensures { MatchOption result ((w : Paths) → ¬ IsPaths (rows_of (found_of given.now)) w)
+        (IsPaths (rows_of (found_of given.now))) }
+{
+    let Some(access) = access_in(given) else {
+        return None;
+    };
+    let Some(host) = name_in(given, OptionKind::Host) else {
+        return None;
+    };
+    Some(Paths { access, host })
+}
+
+fn export_in<'a>(given: &ArgMatches<'a>) -> Option<Export<'a>>
+    ensures { MatchOption result ((w : Export) → ¬ IsExport (rows_of (found_of given.now)) w)
+        (IsExport (rows_of (found_of given.now))) }
+{
+    let Some(access) = access_in(given) else {
+        return None;
+    };
+    let Some(fabric) = fabric_in(given, OptionKind::Fabric) else {
+        return None;
+    };
+    Some(Export { access, fabric })
+}
+
+fn dry_run_in<'a>(given: &ArgMatches<'a>) -> Option<DryRun<'a>>
+    ensures { MatchOption result ((w : DryRun) → ¬ IsDryRun (rows_of (found_of given.now)) w)
+        (IsDryRun (rows_of (found_of given.now))) }
+{
+    let Some(access) = access_in(given) else {
+        return None;
+    };
+    let Some(plan) = name_in(given, OptionKind::Plan) else {
+        return None;
+    };
+    let Some(now) = number_in(given, OptionKind::Now) else {
+        return None;
+    };
+    Some(DryRun { access, plan, now })
+}

@@ -1,0 +1,168 @@
+//! The subcommands of the program.
+ghost use Rattle.std.specs.Prelude.{◌≡◌, ◌≢◌, MatchOption};
+ghost use Rattle.fab_program_options.specs.declared.subcommands.Subcommand.{Subcommand};
+ghost use Rattle.fab_program_options.specs.CommandLine.{subcommand_name, required_of, optional_of};
+
+use crate::options::OptionKind;
+
+/// What the program does.
+#[derive(Clone, Copy, PartialEq, Eq)]
+pub enum Subcommand {
+    /// Makes a database.
+    Init,
+    /// Serves HTTP connections.
+    Serve,
+    /// Answers one request.
+    Once,
+    /// Imports the ports of a fabric.
+    Import,
+    /// Lists the paths of a host.
+    Paths,
+    /// Reports on the volumes of a host.
+    Report,
+    /// Shows the active set of a fabric.
+    Export,
+    /// Tells what a plan would change.
+    DryRun,
+}
+
+/// Every subcommand, in the order of the help.
+pub const SUBCOMMANDS: [Subcommand; 8] = [
+    Subcommand::Init,
+    Subcommand::Serve,
+    Subcommand::Once,
+    Subcommand::Import,
+    Subcommand::Paths,
+    Subcommand::Report,
+    Subcommand::Export,
+    Subcommand::DryRun,
+];
+
+impl Subcommand {
+    /// The subcommand of this name.
+    pub fn from_name(name: &str) -> Option<Self>
+        ensures { MatchOption result ((s : Subcommand) → name.now ≢ subcommand_name s)
+            (λ s. name.now ≡ subcommand_name s) }
+    {
+        match name {
+            "init" => Some(Subcommand::Init),
+            "serve" => Some(Subcommand::Serve),
+            "once" => Some(Subcommand::Once),
+            "import" => Some(Subcommand::Import),
+            "paths" => Some(Subcommand::Paths),
+            "report" => Some(Subcommand::Report),
+            "export" => Some(Subcommand::Export),
+            "dryrun" => Some(Subcommand::DryRun),
+            _ => None,
+        }
+    }
+
+    /// The name, which is the word that asks for it.
+    pub fn name<'a>(self) -> &'a str
+        ensures { result.now ≡ subcommand_name self }
+    {
+        match self {
+            Subcommand::Init => "init",
+            Subcommand::Serve => "serve",
+            Subcommand::Once => "once",
+            Subcommand::Import => "import",
+            Subcommand::Paths => "paths",
+            Subcommand::Report => "report",
+            Subcommand::Export => "export",
+            Subcommand::DryRun => "dryrun",
+        }
+    }
+
+    /// The options that it must have.
+    pub fn required(self) -> &'static [OptionKind]
+        ensures { result.now ≡ required_of self }
+    {
+        match self {
+            Subcommand::Init => &[OptionKind::Db],
+            Subcommand::Serve => &[OptionKind::Db, OptionKind::Policy, OptionKind::Listen],
+            Subcommand::Once => &[],
+            Subcommand::Import => &[
+                OptionKind::Db,
+                OptionKind::Policy,
+                OptionKind::Token,
+                OptionKind::Fabric,
+                OptionKind::File,
+            ],
+            Subcommand::Paths | Subcommand::Report => &[
+                OptionKind::Db,
+                OptionKind::Policy,
+                OptionKind::Token,
+                OptionKind::Host,
+            ],
+            Subcommand::Export => &[
+                OptionKind::Db,
+                OptionKind::Policy,
+                OptionKind::Token,
+                OptionKind::Fabric,
+            ],
+            Subcommand::DryRun => &[
+                OptionKind::Db,
+                OptionKind::Policy,
+                OptionKind::Token,
+                OptionKind::Plan,
+            ],
+        }
+    }
+
+    /// The options that it may have.
+    pub fn optional(self) -> &'static [OptionKind]
+        ensures { result.now ≡ optional_of self }
+    {
+        match self {
+            Subcommand::Init | Subcommand::Paths | Subcommand::Report | Subcommand::Export => &[],
+            Subcommand::Serve => &[OptionKind::Count],
+            Subcommand::Once => &[OptionKind::Policy, OptionKind::Db, OptionKind::Now],
+            Subcommand::Import | Subcommand::DryRun => &[OptionKind::Now],
+        }
+    }
+
+    /// What help says of it.
+    pub fn about<'a>(self) -> &'a str {
+        match self {
+            Subcommand::Init => "Makes an empty database, where no file or an empty one is",
+            Subcommand::Serve => "Serves HTTP connections, one after the other",
+            Subcommand::Once => {
+                "Answers one HTTP request from standard input on standard output. Without --db the \
+                 desk is a new one in memory; without --policy it is a trial under a sample policy"
+            }
+            Subcommand::Import => "Imports the list of all ports that are logged in to a fabric",
+            Subcommand::Paths => "Lists the paths of a host as CSV",
+            Subcommand::Report => "Reports how many paths a host has to each of its volumes",
+            Subcommand::Export => "Shows the active zone set of a fabric",
+            Subcommand::DryRun =>
+                "Tells which paths a plan would add and remove, and changes nothing",
+        }
+    }
+
+    /// An example of its use, which help shows.
+    pub fn example<'a>(self) -> &'a str {
+        match self {
+            Subcommand::Init => "Example: sandesk init --db desk.db",
+            Subcommand::Serve => {
+                "Example: sandesk serve --db desk.db --policy policy.toml --listen 127.0.0.1:8080"
+            }
+            Subcommand::Once => "Example: sandesk once --now 349200 < request.http",
+            Subcommand::Import => {
+                "Example: sandesk import --db desk.db --policy policy.toml --token t-ada --fabric A \
+                 --file ports.csv"
+            }
+            Subcommand::Paths => {
+                "Example: sandesk paths --db desk.db --policy policy.toml --token t-ada --host db1"
+            }
+            Subcommand::Report => {
+                "Example: sandesk report --db desk.db --policy policy.toml --token t-ada --host db1"
+            }
+            Subcommand::Export => {
+                "Example: sandesk export --db desk.db --policy policy.toml --token t-ada --fabric A"
+            }
+            Subcommand::DryRun => {
+                "Example: sandesk dryrun --db desk.db --policy policy.toml --token t-ada --plan p1"
+            }
+        }
+    }
+}

@@ -1,0 +1,86 @@
+//! The values of options.
+ghost use Rattle.std.specs.Prelude.{◌≡◌, ℕ, List, Option, option_map, MatchOption};
+ghost use Rattle.clap.specs.Words.{found_of, rows_of};
+ghost use Rattle.fab_names.specs.Names.{SpellsName};
+ghost use Rattle.fab_names.specs.Fabrics.{SpellsFabric};
+ghost use Rattle.fab_names.specs.declared.fabric.Fabric.{Fabric};
+ghost use Rattle.fab_program_options.specs.CommandLine.{value_of};
+ghost use Rattle.fab_program_options.specs.Values.{Has, MayHave, SpellsToken, SpellsNumber64};
+
+use crate::options::OptionKind;
+use clap::ArgMatches;
+use fab_names::{Fabric, Name, read_number};
+use fab_names_tokens::is_token;
+
+/// The value of an option, if it was given.
+pub fn text_in<'a>(given: &ArgMatches<'a>, option: OptionKind) -> Option<&'a str>
+    ensures { option_map (λ text. text.now) result ≡ value_of option (rows_of (found_of given.now)) }
+{
+    given.get_str(option.name())
+}
+
+/// The value of an option as a name, or none where it is no name or was not given.
+pub fn name_in(given: &ArgMatches<'_>, option: OptionKind) -> Option<Name>
+    ensures { MatchOption result
+        ((x : List ℕ) → ¬ Has SpellsName (value_of option (rows_of (found_of given.now))) x)
+        (Has SpellsName (value_of option (rows_of (found_of given.now)))) }
+{
+    let Some(text) = text_in(given, option) else {
+        return None;
+    };
+    Name::read(text).ok()
+}
+
+/// The value of an option as a fabric, or none where it is no fabric or was not given.
+pub fn fabric_in(given: &ArgMatches<'_>, option: OptionKind) -> Option<Fabric>
+    ensures { MatchOption result
+        ((x : Fabric) → ¬ Has SpellsFabric (value_of option (rows_of (found_of given.now))) x)
+        (Has SpellsFabric (value_of option (rows_of (found_of given.now)))) }
+{
+    let Some(text) = text_in(given, option) else {
+        return None;
+    };
+    Fabric::read(text).ok()
+}
+
+/// The value of an option as a token, or none where it has not the form of one or was not given.
+pub fn token_in<'a>(given: &ArgMatches<'a>, option: OptionKind) -> Option<&'a str>
+    ensures { MatchOption result
+        ((x : List ℕ) → ¬ Has SpellsToken (value_of option (rows_of (found_of given.now))) x)
+        (λ x. Has SpellsToken (value_of option (rows_of (found_of given.now))) x.now) }
+{
+    let Some(text) = text_in(given, option) else {
+        return None;
+    };
+    if is_token(text.as_bytes()) {
+        Some(text)
+    } else {
+        None
+    }
+}
+
+/// The value of an option as a number, `Some(None)` where it was not given, or none where it is no
+/// number text of 0 to 18446744073709551615.
+pub fn number_in(given: &ArgMatches<'_>, option: OptionKind) -> Option<Option<u64>>
+    ensures { MatchOption result
+        ((x : Option ℕ) → ¬ MayHave SpellsNumber64 (value_of option (rows_of (found_of given.now))) x)
+        (MayHave SpellsNumber64 (value_of option (rows_of (found_of given.now)))) }
+{
+    let Some(text) = text_in(given, option) else {
+        return Some(None);
+    };
+    match number_of(text) {
+        Some(number) => Some(Some(number)),
+        None => None,
+    }
+}
+
+/// The number that a text spells, if it is at most 18446744073709551615.
+fn number_of(text: &str) -> Option<u64>
+    ensures { MatchOption result ((x : ℕ) → ¬ SpellsNumber64 text.now x) (SpellsNumber64 text.now) }
+{
+    let Some(number) = read_number(text.as_bytes()) else {
+        return None;
+    };
+    u64::try_from(number).ok()
+}

@@ -1,5 +1,0 @@
-use Rattle.fab_reach.proofs.Lawful.{joined}
-use Rattle.fab_reach.proofs.laws.path_ports_are_joined.Goals as goal
-
-pub returns : goal.returns
-returns c = joined

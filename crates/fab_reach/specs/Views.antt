@@ -1,6 +1,0 @@
--- The records that a view lends.
-use Rattle.fab_reach.specs.Records.{Records}
-use Rattle.fab_reach.specs.declared.view.View.{View}
-
-abbrev pub seen : {A : Type 0} → View A → Records
-seen v = record { inventory = v.inventory.now; config = v.config.now }

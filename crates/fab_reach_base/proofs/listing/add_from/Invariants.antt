@@ -1,0 +1,10 @@
+use Rattle.std.proofs.Common.{◌≡◌, ℕ, List, ◌++◌}
+use Rattle.fab_reach_base.specs.Adding.{Adds}
+use Rattle.fab_reach_base.specs.Orders.{Has}
+use Rattle.fab_reach_base.specs.Views.{seen}
+use Rattle.fab_reach_base.specs.Gathering.{PathFrom}
+use Rattle.fab_reach_base.proofs.Adding.{Before}
+use Rattle.fab_reach_base.proofs.listing.add_from.Given as goal
+
+abbrev pub invariant-loop-name : goal.invariant-loop-name
+invariant-loop-name g l = (before : List ℕ) × (l.initial.name-iterator ≡ before ++ l.name-iterator) × Adds (Before (PathFrom (seen l.view)) before) (Has l.fn.paths) (Has l.paths)

@@ -1,0 +1,77 @@
+//! Laws of paths, and of books over many worlds: a law is the contract of a function that does
+//! nothing.
+ghost use Rattle.std.specs.Prelude.{◌≡◌, ◌<◌, ◌∷◌, ℕ, List, length, All, slice_index_or, IsTrue, ◌↔◌, IfErr, OnOk};
+ghost use Rattle.fab_reach_base.specs.Records.{Records};
+ghost use Rattle.fab_reach_base.specs.Orders.{path_cmp, path_order, IsListOf};
+ghost use Rattle.fab_reach_base.specs.Reach.{Reaches, AreJoined, IsOffered};
+ghost use Rattle.fab_reach_base.specs.declared.path.Path.{Path};
+ghost use Rattle.fab_reach_base.specs.Views.{seen};
+ghost use Rattle.fab_reach_base.specs.Serving.{IsServing};
+ghost use Rattle.fab_reach_base.specs.Soundness.{IsSoundBeside};
+
+use crate::View;
+use crate::book::PathBook;
+use std::alloc::Allocator;
+
+/// Paths are ordered by fabric, initiator, target, volume, unit.
+pub fn paths_in_order()
+    ensures { (x y : Path) → path_cmp x y ≡ path_order x y }
+{}
+
+/// Two listings of one world are equal.
+pub fn one_listing()
+    ensures { (w : Records) (xs ys : List Path) → IsListOf (Reaches w) xs → IsListOf (Reaches w) ys → xs ≡ ys }
+{}
+
+/// The ports of a path are known, logged in at its fabric, and may communicate there.
+pub fn path_ports_are_joined()
+    ensures { (w : Records) (x : Path) → Reaches w x → AreJoined w x }
+{}
+
+/// An exposed storage group has the target of a path, and its volume at its unit.
+pub fn path_is_offered()
+    ensures { (w : Records) (x : Path) → Reaches w x → IsOffered w x }
+{}
+
+/// A book may stand at each world whose configuration is sound beside its inventory.
+pub fn sound_worlds_serve()
+    ensures { (w : Records) → IsSoundBeside w.inventory w.config → IsServing w }
+{}
+
+/// Whether a book may stand at each of the worlds.
+pub fn are_serving<A: Allocator + Copy>(worlds: &[View<'_, A>]) -> bool
+    ensures { IsTrue result ↔ All (λ world. IsServing (seen world)) worlds.now }
+{
+    for world in worlds {
+        if !world.is_serving() {
+            return false;
+        }
+    }
+    true
+}
+
+/// Advances a book through worlds, from the first on.
+///
+/// # Errors
+/// Where there is no memory, how many worlds it has gone through: the book stands at the last of
+/// them.
+pub fn advance_all<A: Allocator + Copy, B: PathBook<A>>(
+    book: &mut B,
+    first: &View<'_, A>,
+    rest: &[View<'_, A>],
+) -> Result<(), usize>
+    requires stands { B.stands book.old (seen first.now) }
+    requires sound { All (λ world. IsServing (seen world)) rest.now }
+    ensures ok { OnOk result (B.stands book.new (seen (slice_index_or (first.now ∷ rest.now) (length rest.now) first.now))) }
+    ensures err { IfErr result (λ gone. B.stands book.new (seen (slice_index_or (first.now ∷ rest.now) gone first.now))) }
+    ensures fewer { IfErr result (λ gone. gone < length rest.now) }
+{
+    let mut before = *first;
+    for (i, after) in rest.iter().enumerate() {
+        if book.advance(&before, after).is_err() {
+            return Err(i);
+        }
+        before = *after;
+    }
+    Ok(())
+}

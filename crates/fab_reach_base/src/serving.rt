@@ -1,0 +1,99 @@
+//! Whether a world is one that a book may stand at.
+ghost use Rattle.std.specs.Prelude.{◌≡◌, ◌↔◌, IsTrue};
+ghost use Rattle.fab_inventory.specs.Inventories.{IsHost, IsArray};
+ghost use Rattle.fab_reach_base.specs.Records.{zoning_at};
+ghost use Rattle.fab_reach_base.specs.Serving.{IsArrayPort, AreHosts, AreTargets, HaveHosts, HaveTargets};
+
+use crate::Config;
+use fab_inventory::{HolderKind, Inventory};
+use fab_mapping::{HostGroup, Mapping, StorageGroup};
+use fab_names::{Fabric, Name, Wwn};
+use std::alloc::Allocator;
+
+/// Whether the name is a host's.
+fn is_host<A: Allocator + Copy>(inventory: &Inventory<A>, name: &Name) -> bool
+    ensures { IsTrue result ↔ IsHost inventory.now.holders name.now }
+{
+    match inventory.holder(name) {
+        Some(holder) => holder.kind == HolderKind::Host,
+        None => false,
+    }
+}
+
+/// Whether the name is an array's.
+fn is_array<A: Allocator + Copy>(inventory: &Inventory<A>, name: &Name) -> bool
+    ensures { IsTrue result ↔ IsArray inventory.now.holders name.now }
+{
+    match inventory.holder(name) {
+        Some(holder) => holder.kind == HolderKind::Array,
+        None => false,
+    }
+}
+
+/// Whether an array holds the port of this name.
+fn is_array_port<A: Allocator + Copy>(inventory: &Inventory<A>, name: &Wwn) -> bool
+    ensures { IsTrue result ↔ IsArrayPort inventory.now name.now }
+{
+    let Some(port) = inventory.port(name) else {
+        return false;
+    };
+    match port.holder {
+        Some(holder) => is_array(inventory, &holder),
+        None => false,
+    }
+}
+
+/// Whether the hosts of a host group are hosts.
+fn are_hosts<A: Allocator + Copy>(inventory: &Inventory<A>, group: &HostGroup<A>) -> bool
+    ensures { IsTrue result ↔ AreHosts inventory.now group.now }
+{
+    for host in group.hosts() {
+        if !is_host(inventory, host) {
+            return false;
+        }
+    }
+    true
+}
+
+/// Whether arrays hold the targets of a storage group.
+fn are_targets<A: Allocator + Copy>(inventory: &Inventory<A>, group: &StorageGroup<A>) -> bool
+    ensures { IsTrue result ↔ AreTargets inventory.now group.now }
+{
+    for target in group.targets() {
+        if !is_array_port(inventory, target) {
+            return false;
+        }
+    }
+    true
+}
+
+/// Whether the hosts of all host groups are hosts.
+pub fn have_hosts<A: Allocator + Copy>(inventory: &Inventory<A>, mapping: &Mapping<A>) -> bool
+    ensures { IsTrue result ↔ HaveHosts inventory.now mapping.now }
+{
+    for (_name, group) in mapping.host_groups() {
+        if !are_hosts(inventory, group) {
+            return false;
+        }
+    }
+    true
+}
+
+/// Whether arrays hold the targets of all storage groups.
+pub fn have_targets<A: Allocator + Copy>(inventory: &Inventory<A>, mapping: &Mapping<A>) -> bool
+    ensures { IsTrue result ↔ HaveTargets inventory.now mapping.now }
+{
+    for (_name, group) in mapping.groups() {
+        if !are_targets(inventory, group) {
+            return false;
+        }
+    }
+    true
+}
+
+/// Whether the zoning of a fabric is that fabric's.
+pub fn is_own<A: Allocator + Copy>(config: &Config<A>, fabric: Fabric) -> bool
+    ensures { IsTrue result ↔ ((zoning_at config.now fabric).fabric ≡ fabric) }
+{
+    config.zoning(fabric).fabric() == fabric
+}

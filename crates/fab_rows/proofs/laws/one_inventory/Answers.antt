@@ -1,5 +1,0 @@
-use Rattle.fab_rows.proofs.Determined.{one_inventory}
-use Rattle.fab_rows.proofs.laws.one_inventory.Goals as goal
-
-pub returns : goal.returns
-returns c = one_inventory

@@ -1,5 +1,0 @@
-use Rattle.fab_rows.proofs.OrderOfRows.{in_order}
-use Rattle.fab_rows.proofs.laws.rows_in_order.Goals as goal
-
-pub returns : goal.returns
-returns c = in_order

@@ -1,8 +1,0 @@
-use Rattle.std.proofs.Common.{sym, ap, ◌∙◌}
-use Rattle.fab_names.proofs.OrderLaws.{name_total}
-use Rattle.fab_maps.specs.MapsOfSets.{in_set}
-use Rattle.fab_maps.proofs.SeenSets.{contains_seen}
-use Rattle.fab_rows.proofs.standing.is_in_set.Goals as goal
-
-pub returns-in-Some : goal.returns-in-Some
-returns-in-Some g c = c.contains.ensures ∙ sym (contains_seen name_total c.in-Some.zones.now c.args.zone.now) ∙ ap (λ o. in_set o c.args.zone.now) c.in-Some.ensures

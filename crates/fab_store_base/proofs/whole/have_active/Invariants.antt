@@ -1,9 +1,0 @@
-use Rattle.std.proofs.Common.{take, All}
-use Rattle.std.specs.BTreeMap.{get}
-use Rattle.fab_maps.specs.Firsts.{HasAt}
-use Rattle.fab_names.specs.Orders.{name_cmp}
-use Rattle.fab_world.specs.Plans.{IsActive}
-use Rattle.fab_store_base.proofs.whole.have_active.Given as goal
-
-abbrev pub invariant-loop-row : goal.invariant-loop-row
-invariant-loop-row g l = All (λ r. HasAt (get name_cmp l.plans) IsActive r.plan) (take l.row-index l.rows)

@@ -1,0 +1,31 @@
+-- What a call of a store tells where it gives nothing.
+use Rattle.std.specs.Prelude.{◌≡◌, ◌<◌, ◌≤◌, ◌+◌, ◌^◌, ◌-◌, min, ℕ}
+use Rattle.fab_store_changes.specs.Standing.{HaveRows}
+use Rattle.fab_store_rows.specs.declared.table_rows.TheConstants.{SCHEMA}
+use Rattle.fab_store_tables.specs.Tables.{Tables}
+use Rattle.fab_world.specs.Soundness.{IsSound}
+use Rattle.fab_world.specs.Worlds.{WorldRows}
+use Rattle.fab_store_base.specs.declared.faults.OpenFault.{OpenFault}
+use Rattle.fab_store_base.specs.declared.faults.OpenFault.TheVariants.{Damaged, NewerSchema, Store, Memory}
+use Rattle.fab_store_base.specs.Worlds.{HoldsWorld, TellsSchema, IsWritten}
+
+-- the count of refused calls rises by one; at its greatest value it stays
+abbrev pub Rises : ℕ → ℕ → Type 0
+Rises old new = new ≡ min (old + 1) (2 ^ 64 - 1)
+
+-- a refused call is counted, and nothing else is
+abbrev pub IsCounted : ℕ → ℕ → OpenFault → Type 0
+IsCounted old new Store = Rises old new
+IsCounted old new _ = new ≡ old
+
+-- no setting tells a newer schema
+abbrev pub TellsNoNewer : Tables → Type 0
+TellsNoNewer t = (n : ℕ) → TellsSchema t n → n ≤ SCHEMA
+
+-- no newer schema is told, and no sound world whose rows are all written in lines has the rows; or a
+-- newer schema is told
+abbrev pub OpensNot : Tables → OpenFault → Type 0
+OpensNot t (Damaged table) = TellsNoNewer t × ((w : WorldRows) → IsWritten w → HaveRows w → HoldsWorld t w → ¬ IsSound w)
+OpensNot t (NewerSchema n) = TellsSchema t n × (SCHEMA < n)
+OpensNot t Store = Unit {0}
+OpensNot t Memory = Unit {0}

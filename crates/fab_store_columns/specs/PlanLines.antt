@@ -1,0 +1,31 @@
+-- Lines of the table of plans, and the rows that they show.
+use Rattle.std.specs.Prelude.{◌≡◌, ℕ, ℤ, List, codes}
+use Rattle.fab_names.specs.Names.{SpellsName}
+use Rattle.fab_store_rows.specs.declared.record_row.PlanState.{PlanState}
+use Rattle.fab_store_rows.specs.declared.record_row.PlanState.TheVariants.{Staged, Active, RolledBack, Withdrawn}
+use Rattle.fab_store_rows.specs.PlanEntries.{PlanEntry}
+use Rattle.fab_store_columns_base.specs.declared.limits.TheConstants.{MOST_NUMBER}
+use Rattle.fab_store_columns_base.specs.Columns.{ShowsNumber}
+
+-- the word of a state
+abbrev pub state_text : PlanState → List ℕ
+state_text Staged = codes "staged"
+state_text Active = codes "active"
+state_text RolledBack = codes "rolled-back"
+state_text Withdrawn = codes "withdrawn"
+
+-- `plans`
+pub record PlanColumns : Type 0 where
+  pub name : List ℕ
+  pub author : List ℕ
+  pub text : List ℕ
+  pub state : List ℕ
+  pub position : ℤ
+
+-- the text is the plan's as it stands
+pub record ShowsPlan (l : PlanColumns) (r : PlanEntry) : Type 0 where
+  pub name : SpellsName l.name r.name
+  pub author : SpellsName l.author r.author
+  pub text : l.text ≡ r.text
+  pub state : l.state ≡ state_text r.state
+  pub position : ShowsNumber 0 MOST_NUMBER l.position r.position

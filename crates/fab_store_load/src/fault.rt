@@ -1,0 +1,51 @@
+//! Why nothing is made of rows.
+ghost use Rattle.std.specs.Prelude.{◌≡◌};
+ghost use Rattle.fab_store_load.specs.declared.fault.LoadFault.TheVariants.{Memory};
+
+use std::alloc::AllocError;
+
+/// A table of the records.
+#[derive(Clone, Copy, Debug, PartialEq, Eq, Drop)]
+pub enum Table {
+    /// The schema, the revision, and the settings of both fabrics.
+    Meta,
+    /// The ports.
+    Ports,
+    /// The hosts and arrays.
+    Holders,
+    /// The volumes.
+    Volumes,
+    /// The items of aliases, zones and zone sets.
+    Zoning,
+    /// The rows of active zone sets.
+    Active,
+    /// The host groups and storage groups.
+    Groups,
+    /// The parts of groups.
+    GroupParts,
+    /// The plans.
+    Plans,
+    /// The approvals of plans.
+    Approvals,
+    /// What active plans took away and added.
+    Undo,
+    /// The paths.
+    Paths,
+}
+
+/// Why nothing is made of rows.
+#[derive(Clone, Copy, Debug, PartialEq, Eq, Drop)]
+pub enum LoadFault {
+    /// Nothing sound has just these rows; this table has a fault.
+    Damaged(Table),
+    /// There was no memory.
+    Memory,
+}
+
+impl From<AllocError> for LoadFault {
+    ghost from_gives = { λ _ e. e ≡ Memory };
+
+    fn from(_error: AllocError) -> LoadFault {
+        LoadFault::Memory
+    }
+}

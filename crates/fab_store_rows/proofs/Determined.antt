@@ -1,0 +1,188 @@
+-- Rows tell what they are the rows of.
+use Rattle.std.proofs.Common.{◌≡◌, ℕ, List, Option, None, Some, Bool, true, false, refl, sym, ap, ◌∙◌, subst}
+use mathlib.Core.Bool.{true≢false}
+use Rattle.std.specs.declared.cmp.Ordering.{Ordering}
+use Rattle.std.specs.Cmp.{IsTotalOrder, nat_cmp_total}
+use Rattle.std.specs.FinMap as map
+use Rattle.std.specs.FinSet as set
+use Rattle.std.specs.Option.{option_map, is_some}
+use Rattle.std.specs.List.Sorted.{IsStrictlySortedBy}
+use Rattle.std.proofs.lemmas.Map.Made.{is_member-Decides}
+use Rattle.fab_names.specs.declared.fabric.Fabric.{Fabric}
+use Rattle.fab_names.specs.declared.fabric.Fabric.TheVariants.{A, B}
+use Rattle.fab_names.proofs.OrderLaws.{name_total, name_exact, member_total, member_exact}
+use Rattle.fab_inventory.specs.declared.port.Known.{Known}
+use Rattle.fab_inventory.specs.declared.port.Port.{Port}
+use Rattle.fab_inventory.specs.declared.holder.Holder.{Holder}
+use Rattle.fab_inventory.specs.declared.holder.Volume.{Volume}
+use Rattle.fab_inventory.specs.Ports.{KnownPorts, port_at, port_of}
+use Rattle.fab_inventory.specs.Inventories.{InventoryRows}
+use Rattle.fab_lemmas.specs.MapsOfSets.{has, in_set}
+use Rattle.fab_lemmas.specs.Lists.{IsListOf}
+use Rattle.fab_lemmas.proofs.SeenSets.{tie_decides}
+use Rattle.fab_zoning.specs.Soundness.{AreListings, IsSound}
+use Rattle.fab_zoning.specs.Zonings.{NamedSets, permits, flag_of, flag_of-permits}
+use Rattle.fab_zoning.proofs.RowSets.{row_total as active_total, row_exact as active_exact}
+use Rattle.fab_zoning.proofs.Keeping.{set_at}
+use Rattle.fab_mapping_base.specs.Groups.{HostGroupRows, StorageGroupRows}
+use Rattle.fab_reach_base.specs.Records.{ConfigRows, zoning_at}
+use Rattle.fab_reach_base.specs.Soundness.{HasSoundZonings}
+use Rattle.fab_reach_base.proofs.SameLists.{same_sorted}
+use Rattle.fab_store_rows.specs.declared.config_row.SettingRow.TheVariants.{ActiveSet, DefaultZone}
+use Rattle.fab_store_rows.specs.declared.config_row.ZoningItem.TheVariants.{Alias, Zone, Set}
+use Rattle.fab_store_rows.specs.declared.config_row.GroupRow.TheVariants as group
+use Rattle.fab_store_rows.specs.declared.config_row.StoragePart.TheVariants as part
+use Rattle.fab_store_rows.specs.declared.config_row.PartRow.TheVariants as parts
+use Rattle.fab_store_rows.specs.declared.config_row.ConfigRow.{ConfigRow}
+use Rattle.fab_store_rows.specs.declared.config_row.ConfigRow.TheVariants as config
+use Rattle.fab_store_rows.specs.declared.inventory_row.InventoryRow.TheVariants as inventory
+use Rattle.fab_store_rows.specs.RowOrder.{row_order}
+use Rattle.fab_store_rows.specs.Telling.{HaveSameRows, KnowSameRows}
+use Rattle.fab_store_rows.proofs.OrderOfRows.{row_total, row_exact, same_order}
+
+-- ---- tests and answers that are one
+
+same_bool : (a b : Bool) → (a ≡ true → b ≡ true) → (b ≡ true → a ≡ true) → a ≡ b
+same_bool true b to from = sym (to refl)
+same_bool false true to from = from refl
+same_bool false false to from = refl
+
+same_option : {X : Type 0} (a b : Option X) → ((x : X) → a ≡ Some x → b ≡ Some x) → ((x : X) → b ≡ Some x → a ≡ Some x) → a ≡ b
+same_option None None to from = refl
+same_option None (Some y) to from = from y refl
+same_option (Some x) b to from = sym (to x refl)
+
+same_some : {X : Type 0} {a b : X} {o : Option X} → o ≡ Some a → o ≡ Some b → a ≡ b
+same_some {a} {b} h k = let e : Some a ≡ Some b = sym h ∙ k in cc
+
+some_is : {X : Type 0} (o : Option X) (x : X) → o ≡ Some x → is_some o ≡ true
+some_is o x e = ap is_some e
+
+turned : (c d : ConfigRows) → HaveSameRows c d → HaveSameRows d c
+turned c d same r = ((same r).1, (same r).0)
+
+-- ---- sets under names
+
+module _ {K : Type 0} {R : K → K → Ordering} (o : IsTotalOrder R) (exact : set.IsAntisymmetric R) where
+  -- no set is empty, so those with the same items are one
+  same_sets : (m n : NamedSets R) → AreListings m → AreListings n → ((q : List ℕ) (x : K) → has m q x ≡ has n q x) → m ≡ n
+  same_sets m n some_m some_n alike = map.same_map name_total name_exact m n (λ q. by q (map.get m q) (map.get n q) refl refl)
+    where
+      by : (q : List ℕ) (a b : Option (set.FinSet R)) → map.get m q ≡ a → map.get n q ≡ b → a ≡ b
+      by q None None e f = refl
+      by q (Some s) None e f = let x = set_at o exact m q (some_is (map.get m q) s e) some_m in absurd (true≢false (sym x.1 ∙ alike q x.0 ∙ ap (λ a. in_set a x.0) f))
+      by q None (Some t) e f = let x = set_at o exact n q (some_is (map.get n q) t f) some_n in absurd (true≢false (sym x.1 ∙ sym (alike q x.0) ∙ ap (λ a. in_set a x.0) e))
+      by q (Some s) (Some t) e f = ap Some (set.same_set o exact s t (λ x. ap (λ a. in_set a x) (sym e) ∙ alike q x ∙ ap (λ a. in_set a x) f))
+
+-- ---- a fabric
+
+module _ (c d : ConfigRows) (same : HaveSameRows c d) where
+  same_zoning : (f : Fabric) → (zoning_at c f).fabric ≡ f → (zoning_at d f).fabric ≡ f → IsSound (zoning_at c f) → IsSound (zoning_at d f) → zoning_at c f ≡ zoning_at d f
+  same_zoning f own_c own_d sound_c sound_d = λ i. record {
+    fabric = (own_c ∙ sym own_d) i;
+    aliases = aliases i;
+    zones = zones i;
+    sets = sets i;
+    active = sym ((same (config.Setting (ActiveSet f (zoning_at c f).active))).0 refl) i;
+    rows = rows i;
+    flag = flag i;
+  }
+    where
+      aliases : (zoning_at c f).aliases ≡ (zoning_at d f).aliases
+      aliases = same_sets member_total member_exact _ _ sound_c.definitions.listed_aliases sound_d.definitions.listed_aliases
+          (λ n m. let row = config.Zoning (record { fabric = f; item = Alias n m }) in same_bool _ _ (same row).0 (same row).1)
+
+      zones : (zoning_at c f).zones ≡ (zoning_at d f).zones
+      zones = same_sets member_total member_exact _ _ sound_c.definitions.listed_zones sound_d.definitions.listed_zones
+          (λ n m. let row = config.Zoning (record { fabric = f; item = Zone n m }) in same_bool _ _ (same row).0 (same row).1)
+
+      sets : (zoning_at c f).sets ≡ (zoning_at d f).sets
+      sets = same_sets name_total name_exact _ _ sound_c.definitions.listed_sets sound_d.definitions.listed_sets
+          (λ n z. let row = config.Zoning (record { fabric = f; item = Set n z }) in same_bool _ _ (same row).0 (same row).1)
+
+      rows : (zoning_at c f).rows ≡ (zoning_at d f).rows
+      rows = set.same_set active_total active_exact _ _ (λ r.
+          let row = config.Active (record { fabric = f; zone = r.0; member = r.1 }) in same_bool (set.contains (zoning_at c f).rows r) (set.contains (zoning_at d f).rows r) (same row).0 (same row).1)
+
+      flag : (zoning_at c f).flag ≡ (zoning_at d f).flag
+      flag =
+          let p : permits (zoning_at d f).flag ≡ permits (zoning_at c f).flag = (same (config.Setting (DefaultZone f (permits (zoning_at c f).flag)))).0 refl in
+          sym (flag_of-permits (zoning_at c f).flag) ∙ ap flag_of (sym p) ∙ flag_of-permits (zoning_at d f).flag
+
+  -- ---- groups
+
+  host_group_there : (n : List ℕ) (g : HostGroupRows) → map.get c.mapping.host_groups n ≡ Some g → map.get d.mapping.host_groups n ≡ Some g
+  host_group_there n g at =
+      let w = (same (config.Group (group.Host (record { name = n; tenant = g.tenant })))).0 (g, at, record { tenant = refl }) in
+      let hosts : w.0.hosts ≡ g.hosts = set.same_set name_total name_exact w.0.hosts g.hosts (λ h.
+      same_bool (set.contains w.0.hosts h) (set.contains g.hosts h)
+      (λ k. let v = (same (config.Part (parts.Host n h))).1 (w.0, w.1, k) in subst (λ (x : HostGroupRows). set.contains x.hosts h ≡ true) (same_some v.1 at) v.2)
+      (λ k. let v = (same (config.Part (parts.Host n h))).0 (g, at, k) in subst (λ (x : HostGroupRows). set.contains x.hosts h ≡ true) (same_some v.1 w.1) v.2)) in
+      w.1 ∙ (λ i. Some (record { tenant = w.2.tenant i; hosts = hosts i }))
+
+  group_there : (n : List ℕ) (g : StorageGroupRows) → map.get c.mapping.groups n ≡ Some g → map.get d.mapping.groups n ≡ Some g
+  group_there n g at =
+      let w = (same (config.Group (group.Storage (record { name = n; tenant = g.tenant; array = g.array; exposed = g.exposed })))).0 (g, at, record { tenant = refl; array = refl; exposed = refl }) in
+      let host_groups : w.0.host_groups ≡ g.host_groups = set.same_set name_total name_exact w.0.host_groups g.host_groups (λ h.
+      same_bool (set.contains w.0.host_groups h) (set.contains g.host_groups h)
+      (λ k. let v = (same (config.Part (parts.Storage n (part.HostGroup h)))).1 (w.0, w.1, k) in subst (λ (x : StorageGroupRows). set.contains x.host_groups h ≡ true) (same_some v.1 at) v.2)
+      (λ k. let v = (same (config.Part (parts.Storage n (part.HostGroup h)))).0 (g, at, k) in subst (λ (x : StorageGroupRows). set.contains x.host_groups h ≡ true) (same_some v.1 w.1) v.2)) in
+      let targets : w.0.targets ≡ g.targets = set.same_set nat_cmp_total set.nat_cmp-IsAntisymmetric w.0.targets g.targets (λ q.
+      same_bool (set.contains w.0.targets q) (set.contains g.targets q)
+      (λ k. let v = (same (config.Part (parts.Storage n (part.Target q)))).1 (w.0, w.1, k) in subst (λ (x : StorageGroupRows). set.contains x.targets q ≡ true) (same_some v.1 at) v.2)
+      (λ k. let v = (same (config.Part (parts.Storage n (part.Target q)))).0 (g, at, k) in subst (λ (x : StorageGroupRows). set.contains x.targets q ≡ true) (same_some v.1 w.1) v.2)) in
+      let units : w.0.units ≡ g.units = map.same_map nat_cmp_total set.nat_cmp-IsAntisymmetric w.0.units g.units (λ u.
+      same_option (map.get w.0.units u) (map.get g.units u)
+      (λ x k. let v = (same (config.Part (parts.Storage n (part.Unit u x)))).1 (w.0, w.1, k) in subst (λ (y : StorageGroupRows). map.get y.units u ≡ Some x) (same_some v.1 at) v.2)
+      (λ x k. let v = (same (config.Part (parts.Storage n (part.Unit u x)))).0 (g, at, k) in subst (λ (y : StorageGroupRows). map.get y.units u ≡ Some x) (same_some v.1 w.1) v.2)) in
+      w.1 ∙ (λ i. Some (record { tenant = w.2.tenant i; array = w.2.array i; host_groups = host_groups i; targets = targets i; units = units i; exposed = w.2.exposed i }))
+
+pub one_config : (c d : ConfigRows) → HasSoundZonings c → HasSoundZonings d → HaveSameRows c d → c ≡ d
+one_config c d sound_c sound_d same =
+    let a = same_zoning c d same A (sound_c.fabrics A) (sound_d.fabrics A) (sound_c.sound A) (sound_d.sound A) in
+    let b = same_zoning c d same B (sound_c.fabrics B) (sound_d.fabrics B) (sound_c.sound B) (sound_d.sound B) in
+    let host_groups = map.same_map name_total name_exact c.mapping.host_groups d.mapping.host_groups (λ n. same_option _ _ (host_group_there c d same n) (host_group_there d c (turned c d same) n)) in
+    let groups = map.same_map name_total name_exact c.mapping.groups d.mapping.groups (λ n. same_option _ _ (group_there c d same n) (group_there d c (turned c d same) n)) in
+    λ i. record { a = a i; b = b i; mapping = record { host_groups = host_groups i; groups = groups i } }
+
+-- ---- inventories
+
+known_of : (ports : KnownPorts) (q : ℕ) (k : Known) → map.get ports q ≡ Some k → port_at ports q ≡ Some (port_of q k)
+known_of ports q k at = ap (option_map (port_of q)) at
+
+of_known : (ports : KnownPorts) (q : ℕ) (k : Known) → port_at ports q ≡ Some (port_of q k) → map.get ports q ≡ Some k
+of_known ports q k = by (map.get ports q)
+  where
+    by : (o : Option Known) → option_map (port_of q) o ≡ Some (port_of q k) → o ≡ Some k
+    by None e = absurd cc
+    by (Some j) e =
+        let p : port_of q j ≡ port_of q k = sym (same_some e refl) in
+        λ i. Some (record { node = ap (λ (x : Port). x.node) p i; at = ap (λ (x : Port). x.at) p i; holder = ap (λ (x : Port). x.holder) p i })
+
+module _ (v w : InventoryRows) (same : KnowSameRows v w) where
+  port_there : (q : ℕ) (k : Known) → map.get v.ports q ≡ Some k → map.get w.ports q ≡ Some k
+  port_there q k at = of_known w.ports q k ((same (inventory.Port (port_of q k))).0 (known_of v.ports q k at))
+
+  holder_there : (n : List ℕ) (h : Holder) → map.get v.holders n ≡ Some h → map.get w.holders n ≡ Some h
+  holder_there n h at = (same (inventory.Holder (record { name = n; kind = h.kind; tenant = h.tenant }))).0 at
+
+  volume_there : (n : List ℕ) (x : Volume) → map.get v.volumes n ≡ Some x → map.get w.volumes n ≡ Some x
+  volume_there n x at = (same (inventory.Volume (record { name = n; array = x.array; tenant = x.tenant; bytes = x.bytes }))).0 at
+
+pub one_inventory : (v w : InventoryRows) → KnowSameRows v w → v ≡ w
+one_inventory v w same =
+    let back : KnowSameRows w v = λ r. ((same r).1, (same r).0) in
+    let ports = map.same_map nat_cmp_total set.nat_cmp-IsAntisymmetric v.ports w.ports (λ q. same_option _ _ (port_there v w same q) (port_there w v back q)) in
+    let holders = map.same_map name_total name_exact v.holders w.holders (λ n. same_option _ _ (holder_there v w same n) (holder_there w v back n)) in
+    let volumes = map.same_map name_total name_exact v.volumes w.volumes (λ n. same_option _ _ (volume_there v w same n) (volume_there w v back n)) in
+    λ i. record { ports = ports i; holders = holders i; volumes = volumes i }
+
+-- ---- lists
+
+-- two lists of all with a property are one
+pub one_list : (P : ConfigRow → Type 0) (xs ys : List ConfigRow) → IsListOf row_order P xs → IsListOf row_order P ys → xs ≡ ys
+one_list P xs ys l m = same_sorted row_total row_exact xs ys
+    (subst (λ (O : ConfigRow → ConfigRow → Ordering). IsStrictlySortedBy O xs) (sym same_order) l.sorted)
+    (subst (λ (O : ConfigRow → ConfigRow → Ordering). IsStrictlySortedBy O ys) (sym same_order) m.sorted)
+    (λ k h. (is_member-Decides (tie_decides row_total row_exact) ys k).1 (m.complete k (l.sound k ((is_member-Decides (tie_decides row_total row_exact) xs k).0 h))))
+    (λ k h. (is_member-Decides (tie_decides row_total row_exact) xs k).1 (l.complete k (m.sound k ((is_member-Decides (tie_decides row_total row_exact) ys k).0 h))))

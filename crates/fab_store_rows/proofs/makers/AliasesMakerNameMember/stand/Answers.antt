@@ -1,0 +1,16 @@
+use Rattle.std.proofs.Common.{◌≡◌, true, subst}
+use Rattle.std.specs.FinMap as map
+use Rattle.std.specs.Option.{option_copied}
+use Rattle.fab_names.proofs.OrderLaws.{member_total, member_exact}
+use Rattle.fab_lemmas.specs.MapsOfSets.{has}
+use Rattle.fab_zoning.specs.Zonings.{FabricZoning}
+use Rattle.fab_store_rows.specs.Gathering.{alias_row}
+use Rattle.fab_store_rows.specs.Standing.{Stands}
+use Rattle.fab_store_rows.proofs.Kept.{seen_has, rows_kept}
+use Rattle.fab_store_rows.proofs.makers.AliasesMakerNameMember.stand.Goals as goal
+
+pub returns : goal.returns
+returns g c = λ t.
+    let other = option_copied c.alias.result in
+    rows_kept member_total member_exact (Stands c.args.config.now) (λ k. alias_row c.args.self.now.0 (c.args.key.now, k)) other c.args.items.now (c.has_all.ensures t)
+    (λ k h. subst (λ (v : FabricZoning). has v.aliases c.args.key.now k ≡ true) c.zoning.ensures (seen_has member_total other (map.get c.zoning.result.now.aliases c.args.key.now) k c.alias.ensures h))

@@ -1,0 +1,4 @@
+pub mod Orders
+pub mod Kinds
+pub mod PlanRows
+pub mod Parts

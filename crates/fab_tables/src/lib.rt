@@ -1,9 +1,0 @@
-//! The tables of a database: their lines as rows of SQL values, and what it is to change them.
-#![tactic(auto)]
-
-mod changes;
-mod line;
-
-pub use changes::LineChanges;
-pub use fab_load::Table;
-pub use line::TableLine;

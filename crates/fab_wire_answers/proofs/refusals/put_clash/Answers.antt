@@ -1,0 +1,4 @@
+use Rattle.fab_wire_answers.proofs.refusals.put_clash.Goals as goal
+
+pub returns : goal.returns
+returns g c = rw (c.number.ensures, c.name.ensures) at c.put.ensures.text

@@ -1,0 +1,142 @@
+//! One connection over a stream.
+
+ghost use Rattle.std.specs.Prelude.{◌≡◌, ◌≤◌, ◌<◌, ◌+◌, ◌⊎◌, ℕ, true, false, IfSome};
+ghost use Rattle.std.specs.Io.Buffered.{writer_contents};
+ghost use Rattle.std.specs.Io.KnownBytes.{Keeps};
+ghost use Rattle.fab_wire_streams.specs.Counting.{inner_of, failures_of};
+ghost use Rattle.fab_wire_serving.specs.Coming.{ComesSo, IsSent, came_text, most_lingering};
+ghost use Rattle.fab_wire_serving.specs.Deadlines.{end_of, end_at, clock_of, stream_of};
+ghost use Rattle.fab_wire_serving.specs.Shown.{shown_text};
+ghost use Rattle.fab_wire_serving.specs.Sides.{begun_sides};
+
+use crate::Server;
+use crate::clock::Ticks;
+use crate::deadline::{Deadline, Timed};
+use crate::shown::Shown;
+use crate::stream::Stream;
+use fab_wire_streams::counted::Counted;
+use std::alloc::Global;
+use std::io::{BufWriter, Read, Write};
+use std::time::Duration;
+
+/// How many bytes of an answer are sent at once.
+const MOST_AT_ONCE: usize = 65536;
+
+/// How long bytes that nobody reads are waited for behind an answer, in seconds.
+const LINGERING_SECONDS: u64 = 1;
+
+/// How many times such bytes are taken.
+const MOST_TAKINGS: usize = 4096;
+
+/// What came of a connection over a stream.
+#[derive(Drop)]
+pub enum Came<O> {
+    /// What the server says of it.
+    Served(O),
+    /// The server wrote an answer, and the stream did not take the rest of it.
+    Unsent,
+}
+
+impl<O> Came<O> {
+    /// What the log shows of it.
+    pub fn shown<D: Server<Outcome = O>>(&self) -> Shown
+        ensures { shown_text result ≡ came_text D.shows self.now }
+    {
+        match self {
+            Came::Served(outcome) => D::shown(outcome),
+            Came::Unsent => Shown::Word("unsent"),
+        }
+    }
+}
+
+/// Sends what a buffer holds, and hands back its stream; none where the stream did not take all. After
+/// a failed write nothing is tried again.
+fn emptied<W: Write + Drop>(buffer: BufWriter<W>) -> Option<W>
+    ensures { IfSome result (λ stream. Keeps (writer_contents W.contents buffer) (W.contents stream)) }
+{
+    match buffer.into_inner() {
+        Ok(stream) => Some(stream),
+        Err(e) => {
+            drop(e.into_inner().into_parts());
+            None
+        }
+    }
+}
+
+/// Sends the rest of an answer, and says whether the stream has taken it. Where a write has failed, of
+/// which the outcome tells, nothing is tried again.
+fn send_rest<W: Write + Drop>(writer: Counted<BufWriter<W>>) -> bool
+    ensures sent { result ≡ true → (0 < failures_of writer) ⊎ ((last : W) × Keeps (writer_contents W.contents (inner_of writer)) (W.contents last)) }
+    ensures unsent { result ≡ false → failures_of writer ≡ 0 }
+{
+    if writer.failures() != 0 {
+        drop(writer.into_inner().into_parts());
+        return true;
+    }
+    emptied(writer.into_inner()).is_some()
+}
+
+/// Serves the connection of a stream at a moment (Unix seconds), until the deadline. The answer is
+/// sent in large pieces; where there is no memory for them, in those in which it is written.
+pub fn serve_stream<C: Ticks, D: Server, S: Stream + Copy>(
+    alloc: Global,
+    clock: &C,
+    server: &mut D,
+    moment: u64,
+    stream: S,
+    deadline: Deadline,
+) -> Came<D::Outcome>
+    ensures { ComesSo
+        (λ outcome after. D.serves server.old moment (begun_sides (S.remaining stream) (S.contents stream) (end_of deadline)) after outcome server.new)
+        (IsSent S.contents) result }
+{
+    let mut reader = Counted::new(Timed::new(clock, stream, deadline));
+    let timed = Timed::new(clock, stream, deadline);
+    match BufWriter::with_capacity(alloc, MOST_AT_ONCE, timed) {
+        Ok(buffer) => {
+            let mut writer = Counted::new(buffer);
+            let outcome = server.serve_one(moment, &mut reader, &mut writer);
+            if send_rest(writer) {
+                Came::Served(outcome)
+            } else {
+                Came::Unsent
+            }
+        }
+        Err(_) => {
+            let mut writer = Counted::new(Timed::new(clock, stream, deadline));
+            Came::Served(server.serve_one(moment, &mut reader, &mut writer))
+        }
+    }
+}
+
+/// Ends a connection in stages (RFC 9112, section 9.6): nothing more is sent, and what the other side
+/// still sends is taken for a second, or until the deadline. Closed with bytes unread, the connection
+/// would be reset, and the answer lost with it.
+pub fn let_go<C: Ticks, S: Stream>(timed: &mut Timed<'_, C, S>)
+    ensures sooner { end_at timed.new ≤ end_at timed.old }
+    ensures soon { (stream_of timed.new ≡ stream_of timed.old)
+        ⊎ ((reading : ℕ) × C.tells (clock_of timed.old) reading × (end_at timed.new ≤ reading + most_lingering)) }
+{
+    if timed
+        .hasten(Duration::from_secs(LINGERING_SECONDS))
+        .is_err()
+    {
+        return;
+    }
+    if timed.end_writing().is_ok() {
+        take_rest(timed);
+    }
+}
+
+/// Takes what a stream still gives.
+fn take_rest<C: Ticks, S: Stream>(timed: &mut Timed<'_, C, S>)
+    ensures { end_at timed.new ≡ end_at timed.old }
+{
+    let mut bytes = [0u8; 8192];
+    for _ in 0..MOST_TAKINGS {
+        match timed.read(&mut bytes) {
+            Ok(taken) if taken > 0 => {}
+            _ => return,
+        }
+    }
+}

@@ -1,0 +1,194 @@
+//! What stands in for a clock, a listener, a stream and a log.
+
+ghost use Rattle.std.specs.Prelude.{⊤};
+
+use fab_wire_serving::Listens;
+use fab_wire_serving::stream::Stream;
+use std::cell::Cell;
+use std::io;
+use std::io::{ErrorKind, Read, Write};
+use std::net::{TcpListener, TcpStream};
+use std::time::{Clock, Duration};
+
+/// A clock that has gone on by the same time whenever it is read.
+#[derive(Drop)]
+pub struct Ticking {
+    seconds: Cell<u64>,
+    step: u64,
+}
+
+impl Ticking {
+    /// It shows 0 first, and this many seconds more at each reading.
+    pub fn by(step: u64) -> Self {
+        Ticking {
+            seconds: Cell::new(0),
+            step,
+        }
+    }
+
+    /// How many seconds it shows next.
+    pub fn shows(&self) -> u64 {
+        self.seconds.get()
+    }
+
+    /// It goes on by so many seconds.
+    pub fn go_on(&self, seconds: u64) {
+        self.seconds.set(self.shows().saturating_add(seconds));
+    }
+}
+
+impl Clock for Ticking {
+    fn monotonic(&self) -> io::Result<Duration> {
+        let seconds = self.shows();
+        self.go_on(self.step);
+        Ok(Duration::from_secs(seconds))
+    }
+
+    fn since_1970(&self) -> io::Result<Duration> {
+        Ok(Duration::ZERO)
+    }
+}
+
+/// A clock that cannot be read.
+#[derive(Drop)]
+pub struct Broken;
+
+impl Clock for Broken {
+    fn monotonic(&self) -> io::Result<Duration> {
+        Err(io::Error::from(ErrorKind::Other))
+    }
+
+    fn since_1970(&self) -> io::Result<Duration> {
+        Err(io::Error::from(ErrorKind::Other))
+    }
+}
+
+/// A stream that gives and takes a byte at each call, and notes the seconds that it was last told to
+/// wait.
+#[derive(Drop)]
+pub struct Slow<'t> {
+    pub told: &'t Cell<u64>,
+}
+
+impl<'t> Stream for Slow<'t> {
+    ghost waits = { λ before most after. ⊤ };
+
+    fn read_for(&mut self, most: Duration, buf: &mut [u8]) -> io::Result<usize> {
+        self.told.set(most.as_secs());
+        match buf.first_mut() {
+            Some(byte) => {
+                *byte = b'.';
+                Ok(1)
+            }
+            None => Ok(0),
+        }
+    }
+
+    fn write_for(&mut self, most: Duration, buf: &[u8]) -> io::Result<usize> {
+        self.told.set(most.as_secs());
+        Ok(if buf.is_empty() { 0 } else { 1 })
+    }
+
+    fn end_writing(&mut self) -> io::Result<()> {
+        Ok(())
+    }
+}
+
+/// A stream that gives the same bytes at each read, and takes all that is written but at one write of
+/// some number, from 0 on, which fails alone.
+#[derive(Drop)]
+pub struct Brittle {
+    pub told: &'static [u8],
+    pub fails_at: u64,
+    writes: Cell<u64>,
+}
+
+impl Brittle {
+    pub fn new(told: &'static [u8], fails_at: u64) -> Self {
+        Brittle {
+            told,
+            fails_at,
+            writes: Cell::new(0),
+        }
+    }
+
+    /// How many writes there were.
+    pub fn writes(&self) -> u64 {
+        self.writes.get()
+    }
+}
+
+impl<'s> Stream for &'s Brittle {
+    ghost waits = { λ before most after. ⊤ };
+
+    fn read_for(&mut self, _most: Duration, buf: &mut [u8]) -> io::Result<usize> {
+        let mut told = self.told;
+        told.read(buf)
+    }
+
+    fn write_for(&mut self, _most: Duration, buf: &[u8]) -> io::Result<usize> {
+        let write = self.writes.get();
+        self.writes.set(write.saturating_add(1));
+        if write == self.fails_at {
+            return Err(io::Error::from(ErrorKind::ConnectionReset));
+        }
+        Ok(buf.len())
+    }
+
+    fn end_writing(&mut self) -> io::Result<()> {
+        Ok(())
+    }
+}
+
+/// A listener that is waited at for a thousand seconds before each connection.
+#[derive(Drop)]
+pub struct Late<'l> {
+    pub listener: &'l TcpListener,
+    pub clock: &'l Ticking,
+}
+
+impl<'l> Listens for Late<'l> {
+    ghost fails = { λ listener. ⊤ };
+
+    fn connection(&self) -> io::Result<TcpStream> {
+        self.clock.go_on(1000);
+        self.listener.connection()
+    }
+}
+
+/// A log that takes nothing.
+#[derive(Drop)]
+pub struct Full;
+
+impl Write for Full {
+    fn write(&mut self, _buf: &[u8]) -> io::Result<usize> {
+        Err(io::Error::from(ErrorKind::StorageFull))
+    }
+
+    fn flush(&mut self) -> io::Result<()> {
+        Ok(())
+    }
+}
+
+/// A log that refuses one write, of some number from 0 on, and takes all others.
+#[derive(Drop)]
+pub struct Leaky {
+    pub taken: Vec<u8>,
+    pub calls: u64,
+    pub fails_at: u64,
+}
+
+impl Write for Leaky {
+    fn write(&mut self, buf: &[u8]) -> io::Result<usize> {
+        let call = self.calls;
+        self.calls = call.saturating_add(1);
+        if call == self.fails_at {
+            return Err(io::Error::from(ErrorKind::StorageFull));
+        }
+        self.taken.write(buf)
+    }
+
+    fn flush(&mut self) -> io::Result<()> {
+        Ok(())
+    }
+}

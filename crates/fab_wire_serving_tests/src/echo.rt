@@ -1,0 +1,143 @@
+//! A server that stands in for the desk: it says again what it is told, and halts where it is told to.
+
+ghost use Rattle.std.specs.Prelude.{◌≡◌, ⊤};
+ghost use Rattle.fab_wire_serving.specs.Shown.{shown_text};
+
+use fab_wire_serving::{Bounded, Server, Shown};
+use fab_wire_streams::counted::Counted;
+use std::cell::Cell;
+use std::io;
+use std::io::{Read, Write};
+
+/// What an echo is opened over. There is one at a time: until it is dropped there can be no other.
+pub struct Held<'h> {
+    is_held: &'h Cell<bool>,
+    opens: bool,
+}
+
+impl<'h> Held<'h> {
+    /// One over which an echo is opened, or is not.
+    ///
+    /// # Errors
+    /// There is one already.
+    pub fn take(is_held: &'h Cell<bool>, opens: bool) -> Result<Self, ()> {
+        if is_held.get() {
+            return Err(());
+        }
+        is_held.set(true);
+        Ok(Held { is_held, opens })
+    }
+}
+
+impl Drop for Held<'_> {
+    fn drop(self) {
+        self.is_held.set(false);
+        let Held {
+            is_held: _,
+            opens: _,
+        } = self;
+    }
+}
+
+/// Says again what it is told in one read of up to 64 bytes. It halts at `!`, and says `halted` until
+/// it is opened anew. At `*` it says more than any socket holds.
+#[derive(Drop)]
+pub struct Echo<'h> {
+    is_halted: bool,
+    store: Option<Held<'h>>,
+}
+
+impl<'h> Echo<'h> {
+    /// One over this.
+    pub fn over(store: Option<Held<'h>>) -> Self {
+        Echo {
+            is_halted: false,
+            store,
+        }
+    }
+
+    fn answer<W: Write>(&mut self, told: &[u8], writer: &mut W) -> io::Result<Shown> {
+        if told.starts_with(b"!") {
+            self.is_halted = true;
+        }
+        if self.is_halted {
+            writer.write_all(b"halted")?;
+            return Ok(Shown::Status(503));
+        }
+        if told.starts_with(b"*") {
+            say_much(writer)?;
+        }
+        writer.write_all(told)?;
+        Ok(Shown::Status(200))
+    }
+}
+
+/// Says 64 million stars.
+fn say_much<W: Write>(writer: &mut W) -> io::Result<()> {
+    let stars = [b'*'; 16384];
+    for _ in 0..4096 {
+        writer.write_all(&stars)?;
+    }
+    Ok(())
+}
+
+impl<'h> Server for Echo<'h> {
+    type Store = Held<'h>;
+
+    type Fault = ();
+
+    type Outcome = Shown;
+
+    ghost is_halted = { λ echo. echo.is_halted };
+
+    ghost serves = { λ before moment sides sides' outcome after. ⊤ };
+
+    ghost shows = { shown_text };
+
+    ghost releases = { λ before after. ⊤ };
+
+    ghost reopens = { λ before store after. ⊤ };
+
+    ghost refuses = { λ before store fault. ⊤ };
+
+    fn halted(&self) -> bool {
+        self.is_halted
+    }
+
+    fn release(&mut self) -> Option<Held<'h>> {
+        self.store.take()
+    }
+
+    fn reopen(&mut self, store: Held<'h>) -> Result<(), ((), Held<'h>)> {
+        if store.opens {
+            self.is_halted = false;
+            self.store = Some(store);
+            Ok(())
+        } else {
+            Err(((), store))
+        }
+    }
+
+    fn serve_one<R: Read + Bounded, W: Write + Bounded>(
+        &mut self,
+        _moment: u64,
+        reader: &mut Counted<R>,
+        writer: &mut Counted<W>,
+    ) -> Shown {
+        let mut told = [0u8; 64];
+        match reader.read(&mut told) {
+            Ok(0) => Shown::Word("empty"),
+            Ok(taken) => match self.answer(&told[..taken], writer) {
+                Ok(said) => said,
+                Err(_) => Shown::Word("unsent"),
+            },
+            Err(_) => Shown::Word("unread"),
+        }
+    }
+
+    fn shown(outcome: &Shown) -> Shown
+        ensures { shown_text result ≡ shown_text outcome.now }
+    {
+        *outcome
+    }
+}
