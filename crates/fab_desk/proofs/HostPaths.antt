@@ -6,8 +6,8 @@ use Rattle.fab_store_load.specs.declared.fault.Table.TheVariants as table
 use Rattle.fab_reach_base.specs.Orders.{IsListOf}
 use Rattle.fab_reach_base.specs.Reach.{ReachesFrom}
 use Rattle.fab_reach_base.specs.declared.path.Path.{Path}
-use Rattle.fab_store_moves.proofs.Columns as columns
-use Rattle.fab_store_lists.specs.Paths.{IsPathRow}
+use Rattle.fab_store_base.proofs.Columns as columns
+use Rattle.fab_store_world.specs.Paths.{IsPathRow}
 use Rattle.fab_store_rows.specs.declared.record_row.PathRow.{PathRow}
 use Rattle.fab_store_base.specs.Worlds.{HoldsWorld, IsWritten, ArePathsIn, HasPathOf}
 use Rattle.fab_store_tables.specs.Tables.{Tables}

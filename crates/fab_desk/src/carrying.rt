@@ -5,7 +5,7 @@ ghost use Rattle.fab_desk_base.specs.declared.fault.DeskFault.TheVariants as fau
 ghost use Rattle.fab_desk_base.specs.declared.reply.Reply.TheVariants as replies;
 ghost use Rattle.fab_desk_machine.specs.Reports.{reply_of};
 ghost use Rattle.fab_desk_machine.specs.Trials.{IsStepReady};
-ghost use Rattle.fab_desk_next.specs.Nexts.{next_world, with_room, Suits};
+ghost use Rattle.fab_desk_commands.specs.Nexts.{next_world, with_room, Suits};
 ghost use Rattle.fab_reach_base.specs.declared.book.Delta.{Delta};
 ghost use Rattle.fab_store_base.specs.Calls.{Rises};
 ghost use Rattle.fab_store_base.specs.Moves.{AreMoves};
@@ -14,14 +14,14 @@ ghost use Rattle.fab_store_tables.specs.Tables.{Tables};
 ghost use Rattle.fab_world.specs.Soundness.{IsSound};
 ghost use Rattle.fab_world.specs.Worlds.{records_of};
 ghost use Rattle.fab_desk.specs.Desks.{IsTied};
-ghost use Rattle.fab_desk_laws.specs.Keeping.{KeepsHosts};
+ghost use Rattle.fab_desk_base.specs.Keeping.{KeepsHosts};
 
 use crate::moves::moves;
 use fab_desk_base::{DeskFault, Reply};
 use fab_desk_machine::{Change, lists_of, take_over};
 use fab_reach_base::PathBook;
+use fab_store_base::laws::holds_keys;
 use fab_store_base::{LineChanges, Store};
-use fab_store_moves::laws::holds_keys;
 use fab_world::World;
 use std::alloc::{AllocError, Allocator};
 

@@ -1,17 +1,16 @@
 //! The lines that a change removes and adds.
 ghost use Rattle.std.specs.Prelude.{IfOk};
 ghost use Rattle.fab_desk_base.specs.Answers.{IsMove};
-ghost use Rattle.fab_desk_laws.specs.Keeping.{KeepsHosts};
-ghost use Rattle.fab_desk_next.specs.Nexts.{next_world, Suits};
+ghost use Rattle.fab_desk_base.specs.Keeping.{KeepsHosts};
+ghost use Rattle.fab_desk_commands.specs.Nexts.{next_world, Suits};
 ghost use Rattle.fab_store_base.specs.Moves.{AreMoves};
 ghost use Rattle.fab_world.specs.Soundness.{IsSound};
 ghost use Rattle.fab_world.specs.Worlds.{records_of};
 
-use fab_desk_next::Next;
+use fab_desk_commands::Next;
 use fab_desk_rows::next_changes;
 use fab_reach_base::Delta;
-use fab_store_base::LineChanges;
-use fab_store_moves::change_lines;
+use fab_store_base::{LineChanges, change_lines};
 use fab_world::World;
 use std::alloc::{AllocError, Allocator};
 

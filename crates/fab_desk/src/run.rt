@@ -6,8 +6,7 @@ ghost use Rattle.fab_desk.specs.Desks.{IsCleanDesk, IsLeftByStop, IsTied, IsTied
 ghost use Rattle.fab_desk.specs.Handled.{AreHandled, Handles};
 
 use crate::Desk;
-use fab_desk_base::Reply;
-use fab_desk_laws::steps_are_done;
+use fab_desk_base::{Reply, steps_are_done};
 use fab_desk_machine::Asked;
 use fab_reach_base::PathBook;
 use fab_store_base::Store;

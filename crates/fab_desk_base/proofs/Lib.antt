@@ -1,1 +1,13 @@
 pub mod UsersFound
+pub mod OneInventory
+pub mod OneEffect
+pub mod Tried
+pub mod OneVerdict
+pub mod OneFault
+pub mod OneAnswer
+pub mod OneRefusal
+pub mod OneReport
+pub mod SameLists
+pub mod Ends
+pub mod Confined
+pub mod KeptHosts

@@ -4,8 +4,8 @@ use Rattle.std.specs.FinMap as map
 use Rattle.fab_names.specs.declared.fabric.Fabric.{Fabric}
 use Rattle.fab_inventory.specs.Inventories.{IsCapacity}
 use Rattle.fab_inventory.specs.Limits.{most_ports_of_holder}
-use Rattle.fab_plans_steps.specs.Plans.{IsWithinLimits}
-use Rattle.fab_plans_steps.specs.Steps.{PlanStep}
+use Rattle.fab_plans_base.specs.Plans.{IsWithinLimits}
+use Rattle.fab_plans_base.specs.Steps.{PlanStep}
 use Rattle.fab_plans.specs.Steps.{fabric_of}
 use Rattle.fab_policy_base.specs.declared.policy.Action.{Action}
 use Rattle.fab_policy_base.specs.declared.policy.Action.TheVariants as action

@@ -6,7 +6,7 @@ use Rattle.fab_inventory.specs.Inventories.{InventoryRows, IsHolderPut, IsHolder
 use Rattle.fab_inventory.specs.Ports.{KnownPorts}
 use Rattle.fab_reach_base.specs.Records.{ConfigRows}
 use Rattle.fab_store_rows.specs.Differences.{IsDifference}
-use Rattle.fab_plans_steps.specs.Steps.{PlanStep}
+use Rattle.fab_plans_base.specs.Steps.{PlanStep}
 use Rattle.fab_plans.specs.Outcomes.{IsOutcome}
 use Rattle.fab_world.specs.History.{IsEarlier}
 use Rattle.fab_world.specs.PlanRecords.{PlanRecord, staged, active, rolled_back, withdrawn}

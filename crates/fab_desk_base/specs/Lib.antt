@@ -9,3 +9,5 @@ pub mod Touching
 pub mod Acts
 pub mod Showing
 pub mod Answers
+pub mod Laws
+pub mod Keeping

@@ -16,7 +16,7 @@ use Rattle.fab_reach_base.specs.Records.{ConfigRows}
 use Rattle.fab_reach_base.specs.declared.listing.TheConstants.{MOST_PATHS}
 use Rattle.fab_store_rows.specs.declared.record_row.PlanState.{PlanState}
 use Rattle.fab_store_rows.specs.declared.record_row.PlanState.TheVariants as state
-use Rattle.fab_plans_steps.specs.Steps.{PlanStep}
+use Rattle.fab_plans_base.specs.Steps.{PlanStep}
 use Rattle.fab_plans.specs.Outcomes.{IsRefusedOutcome}
 use Rattle.fab_plans.specs.declared.fault.Item.TheVariants as item
 use Rattle.fab_plans.specs.declared.fault.Refusal.{Refusal}

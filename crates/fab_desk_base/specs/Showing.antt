@@ -20,7 +20,7 @@ use Rattle.fab_mapping_base.specs.Groups.{HostGroupRows, StorageGroupRows}
 use Rattle.fab_reach_base.specs.Orders as paths
 use Rattle.fab_reach_base.specs.Reach.{IsPort, ReachesFrom}
 use Rattle.fab_reach_base.specs.Records.{Records, zoning_at}
-use Rattle.fab_plans_steps.specs.Plans.{plan_text}
+use Rattle.fab_plans_base.specs.Plans.{plan_text}
 use Rattle.fab_policy.specs.declared.act.Approval.{Approval}
 use Rattle.fab_policy_base.specs.Callers.{sees}
 use Rattle.fab_policy_base.specs.Policies.{PolicyRows}

@@ -3,7 +3,7 @@ ghost use Rattle.std.specs.Prelude.{◌≡◌};
 
 use fab_inventory::{HolderKind, PortRow, Volume};
 use fab_names::{Fabric, Name, Wwn};
-use fab_plans_steps::Step;
+use fab_plans_base::Step;
 use std::alloc::Allocator;
 
 /// A command: a change of the world, a dry run of one, or a read.

@@ -11,8 +11,8 @@ use Rattle.fab_desk_base.specs.Tenants.{Has}
 use Rattle.fab_desk_base.specs.Touching.{MovesTenant, MovesPathOf}
 use Rattle.fab_desk_base.specs.declared.command.Command.{Command}
 use Rattle.fab_desk_base.specs.declared.fault.DeskFault.{DeskFault}
-use Rattle.fab_desk_laws.proofs.Confined.{still}
-use Rattle.fab_desk_laws.proofs.Tried.{done_not_refused, one_done}
+use Rattle.fab_desk_base.proofs.Confined.{still}
+use Rattle.fab_desk_base.proofs.Tried.{done_not_refused, one_done}
 use Rattle.fab_desk_machine.specs.Trials.{effect_world, HasEffect}
 use Rattle.fab_desk_machine.specs.declared.effects.Effect.{Effect}
 

@@ -4,9 +4,9 @@ use Rattle.fab_reach_base.specs.Books.{IsDelta}
 use Rattle.fab_reach_base.specs.Records.{Records}
 use Rattle.fab_reach_base.specs.declared.book.Delta.{Delta}
 use Rattle.fab_world.specs.Worlds.{WorldRows, records_of}
-use Rattle.fab_desk_next.specs.Nexts.{next_world, with_room, without_room, IsReadyFor, Suits}
-use Rattle.fab_desk_next.specs.declared.next.Next.{Next}
-use Rattle.fab_desk_next.proofs.Placing.{records_stay, same_next, room_made, given_back}
+use Rattle.fab_desk_commands.specs.Nexts.{next_world, with_room, without_room, IsReadyFor, Suits}
+use Rattle.fab_desk_commands.specs.declared.next.Next.{Next}
+use Rattle.fab_desk_commands.proofs.Placing.{records_stay, same_next, room_made, given_back}
 use Rattle.fab_desk_base.specs.Answers.{IsMove}
 use Rattle.fab_desk_machine.specs.Trials.{IsStepReady}
 

@@ -3,8 +3,8 @@ use Rattle.std.proofs.Common.{ℕ, ◌≡◌, List, [], Result, Ok, Err, IfOk, I
 use Rattle.fab_inventory.specs.Inventories.{InventoryRows}
 use Rattle.fab_policy_base.specs.Policies.{PolicyRows}
 use Rattle.fab_world.specs.Worlds.{WorldRows}
-use Rattle.fab_desk_next.specs.Nexts.{next_world, Suits}
-use Rattle.fab_desk_next.specs.declared.next.Next.{Next}
+use Rattle.fab_desk_commands.specs.Nexts.{next_world, Suits}
+use Rattle.fab_desk_commands.specs.declared.next.Next.{Next}
 use Rattle.fab_desk_base.specs.Answers.{IsThere}
 use Rattle.fab_desk_base.specs.Commands.{is_counted, tried}
 use Rattle.fab_desk_base.specs.Effects.{counted, with_inventory}

@@ -13,8 +13,8 @@ use Rattle.fab_desk_base.specs.declared.command.Command.{Command}
 use Rattle.fab_desk_base.specs.declared.fault.DeskFault.{DeskFault}
 use Rattle.fab_desk_base.specs.declared.fault.DeskFault.TheVariants as fault
 use Rattle.fab_desk_base.specs.declared.fault.DeskLimit.TheVariants.{Paths, Changes}
-use Rattle.fab_desk_laws.specs.Laws.{HasManyChanges}
-use Rattle.fab_desk_laws.proofs.Tried.{done_of, many_paths, many_changes}
+use Rattle.fab_desk_base.specs.Laws.{HasManyChanges}
+use Rattle.fab_desk_base.proofs.Tried.{done_of, many_paths, many_changes}
 use Rattle.fab_desk_machine.specs.Limits.{IsLimitFault}
 use Rattle.fab_desk_machine.specs.Trials.{effect_world, MayCount, IsTried, HasEffect}
 use Rattle.fab_desk_machine.specs.declared.effects.Effect.{Effect}

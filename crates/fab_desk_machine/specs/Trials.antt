@@ -8,9 +8,9 @@ use Rattle.fab_reach_base.specs.Records.{Records}
 use Rattle.fab_world.specs.Soundness.{IsSound}
 use Rattle.fab_world.specs.Worlds.{WorldRows, records_of}
 use Rattle.fab_world.specs.declared.limits.TheConstants.{MOST_CHANGES}
-use Rattle.fab_desk_next.specs.Nexts.{next_world, Suits}
-use Rattle.fab_desk_next.specs.declared.next.Next.{Next}
-use Rattle.fab_desk_next.specs.declared.next.Next.TheVariants.{Same, Stock}
+use Rattle.fab_desk_commands.specs.Nexts.{next_world, Suits}
+use Rattle.fab_desk_commands.specs.declared.next.Next.{Next}
+use Rattle.fab_desk_commands.specs.declared.next.Next.TheVariants.{Same, Stock}
 use Rattle.fab_desk_base.specs.Commands.{is_counted, tried}
 use Rattle.fab_desk_base.specs.Effects.{staged_plan, with_plan}
 use Rattle.fab_desk_base.specs.Refusals.{IsEffect}

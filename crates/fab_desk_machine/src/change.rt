@@ -4,7 +4,7 @@ ghost use Rattle.fab_reach_base.specs.Books.{IsDelta};
 ghost use Rattle.fab_reach_base.specs.Records.{Records};
 ghost use Rattle.fab_reach_base.specs.declared.book.Delta.{Delta};
 ghost use Rattle.fab_world.specs.Worlds.{records_of};
-ghost use Rattle.fab_desk_next.specs.Nexts.{next_world, IsReadyFor, Suits};
+ghost use Rattle.fab_desk_commands.specs.Nexts.{next_world, IsReadyFor, Suits};
 ghost use Rattle.fab_desk_base.specs.Answers.{IsMove};
 ghost use Rattle.fab_desk_machine.specs.Proposals.{IsMemory};
 ghost use Rattle.fab_desk_machine.specs.Reports.{reply_of};
@@ -12,7 +12,7 @@ ghost use Rattle.fab_desk_machine.specs.Trials.{IsStepReady};
 
 use crate::report::{Report, reply_with};
 use fab_desk_base::{DeskFault, Reply};
-use fab_desk_next::Next;
+use fab_desk_commands::Next;
 use fab_reach_base::{Delta, Path, PathBook};
 use fab_world::World;
 use std::alloc::{AllocError, Allocator};

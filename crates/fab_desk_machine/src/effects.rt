@@ -8,9 +8,10 @@ ghost use Rattle.fab_desk_base.specs.Trying.{IsTryFault};
 ghost use Rattle.fab_desk_machine.specs.Trials.{IsTried, stock_effect, plan_effect, staging_effect};
 
 use fab_desk_base::{Command, DeskFault};
-use fab_desk_inventory::{holder_dropped, holder_put, imported, volume_dropped, volume_put};
-use fab_desk_next::Next;
-use fab_desk_plans::{activated, approved, is_staged_already, rolled_back, withdrawn};
+use fab_desk_commands::{
+    Next, activated, approved, holder_dropped, holder_put, imported, is_staged_already,
+    rolled_back, volume_dropped, volume_put, withdrawn,
+};
 use fab_inventory::Inventory;
 use fab_names::Name;
 use fab_world::World;

@@ -11,13 +11,13 @@ ghost use Rattle.fab_desk_base.specs.Trying.{IsTryFault};
 ghost use Rattle.fab_desk_base.specs.declared.command.Command.{Command};
 ghost use Rattle.fab_desk_base.specs.declared.fault.DeskFault.TheVariants as fault;
 ghost use Rattle.fab_desk_base.specs.declared.fault.DeskLimit.TheVariants as limit;
-ghost use Rattle.fab_desk_laws.specs.Laws.{HasManyChanges};
+ghost use Rattle.fab_desk_base.specs.Laws.{HasManyChanges};
 ghost use Rattle.fab_desk_machine.specs.Limits.{IsLimitFault};
 ghost use Rattle.fab_desk_machine.specs.Trials.{AreRecordsAfter, HasEffect, IsTried, KeepsRecords, effect_world};
 
 use crate::effects::Effect;
 use fab_desk_base::{Command, DeskFault, DeskLimit};
-use fab_desk_next::Next;
+use fab_desk_commands::Next;
 use fab_names::Name;
 use fab_reach_base::View;
 use fab_world::{MOST_CHANGES, World, has_few_paths};

@@ -3,7 +3,7 @@
 //! ready is taken over without memory.
 ghost use Rattle.fab_world.specs.Soundness.{IsSound};
 ghost use Rattle.fab_world.specs.Worlds.{records_of};
-ghost use Rattle.fab_desk_next.specs.Nexts.{next_world, Suits};
+ghost use Rattle.fab_desk_commands.specs.Nexts.{next_world, Suits};
 ghost use Rattle.fab_desk_machine.specs.Trials.{IsStepReady};
 
 use crate::small::{
@@ -11,8 +11,8 @@ use crate::small::{
 };
 use fab_desk_machine::{Change, Proposal, propose, take_over};
 use fab_policy::Policy;
+use fab_reach::PortBook;
 use fab_reach_base::PathBook;
-use fab_reach_book::PortBook;
 use fab_test_alloc::Refusing;
 use fab_test_machine::{ADA, policy};
 use fab_world::World;

@@ -13,7 +13,7 @@ use fab_reach_base::PathBook;
 use fab_test_alloc::Refusing;
 use fab_test_machine::{ADA, FIRST_INITIATOR, FIRST_PLAN, FIRST_TARGET, opened};
 use fab_test_world::is_same;
-use fab_wire_port_lists::port_list::read_ports;
+use fab_wire_requests::port_list::read_ports;
 use fab_world::World;
 use std::alloc::Global;
 use std::process::Abort;

@@ -7,9 +7,9 @@ use Rattle.fab_lemmas.specs.Lists.{IsListOf}
 use Rattle.fab_store_rows.specs.declared.table_rows.CountRow.{CountRow}
 use Rattle.fab_store_rows.specs.declared.table_rows.CountRow.TheVariants.{Schema, Revision}
 use Rattle.fab_world.specs.Worlds.{WorldRows}
-use Rattle.fab_store_changes.specs.Standing.{Lacking}
-use Rattle.fab_store_changes.specs.Tables.{IsCountRow, count_order}
-use Rattle.fab_store_changes.proofs.Picked.{first_or_later}
+use Rattle.fab_store_world.specs.Standing.{Lacking}
+use Rattle.fab_store_world.specs.Tables.{IsCountRow, count_order}
+use Rattle.fab_store_world.proofs.Picked.{first_or_later}
 
 none_of : {X : Type 0} (x : X) → ¬ Contains [] x
 none_of x h = omega (arith, h.1)

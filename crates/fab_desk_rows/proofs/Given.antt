@@ -19,8 +19,8 @@ use Rattle.fab_names.proofs.OrderLaws.{name_total, name_exact}
 use Rattle.fab_store_rows.specs.declared.record_row.ApprovalRow.{ApprovalRow}
 use Rattle.fab_store_world.specs.PlanRows.{IsApprovalOf}
 use Rattle.fab_world.specs.PlanRecords.{PlanRecord}
-use Rattle.fab_store_changes.specs.Keys.{approval_order}
-use Rattle.fab_store_changes.proofs.Picked.{Picked, picked_more, picked_skip}
+use Rattle.fab_store_world.specs.Keys.{approval_order}
+use Rattle.fab_store_world.proofs.Picked.{Picked, picked_more, picked_skip}
 use Rattle.fab_desk_rows.specs.PlanMoves.{IsPushed, IsGivenOnlyIn, IsOfOne, AreApprovalsMoved}
 use Rattle.fab_desk_rows.proofs.Listed.{none_listed}
 use Rattle.fab_desk_rows.proofs.Sorted.{sorted_as}

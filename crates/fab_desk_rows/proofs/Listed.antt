@@ -4,8 +4,8 @@ use Rattle.std.specs.declared.cmp.Ordering.{Ordering}
 use Rattle.std.specs.List.Sorted.{IsStrictlySortedBy}
 use Rattle.fab_lemmas.specs.Lists.{IsListOf}
 use Rattle.fab_world.specs.Worlds.{WorldRows}
-use Rattle.fab_store_changes.specs.Standing.{Lacking}
-use Rattle.fab_store_changes.proofs.Picked.{first_or_later}
+use Rattle.fab_store_world.specs.Standing.{Lacking}
+use Rattle.fab_store_world.proofs.Picked.{first_or_later}
 use Rattle.fab_desk_rows.specs.Moves.{AreMoved}
 
 module _ {R : Type 0} (O : R → R → Ordering) where

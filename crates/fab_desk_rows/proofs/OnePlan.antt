@@ -10,7 +10,7 @@ use Rattle.fab_lemmas.proofs.Filters.{list_as}
 use Rattle.fab_inventory.specs.Holders.{same_name}
 use Rattle.fab_world.specs.PlanRecords.{PlanRecord}
 use Rattle.fab_world.specs.Worlds.{WorldRows}
-use Rattle.fab_store_changes.specs.Standing.{Lacking}
+use Rattle.fab_store_world.specs.Standing.{Lacking}
 use Rattle.fab_desk_rows.specs.Moves.{AreMoved}
 use Rattle.fab_desk_rows.specs.PlanMoves.{IsOfOne, AreOfOne}
 

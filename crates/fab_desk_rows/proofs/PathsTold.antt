@@ -18,11 +18,11 @@ use Rattle.fab_reach_base.specs.declared.path.Path.{Path}
 use Rattle.fab_reach_base.proofs.Adding.{from_none}
 use Rattle.fab_reach_base.proofs.Sets.{none_in}
 use Rattle.fab_store_rows.specs.declared.record_row.PathRow.{PathRow}
-use Rattle.fab_store_lists.specs.PathGathering.{Has, IsRowOfSome}
-use Rattle.fab_store_lists.specs.Paths.{IsPathRowOnlyIn, path_row_order, path_row_cmp}
-use Rattle.fab_store_lists.proofs.PathRowOrder.{row_total, row_exact}
-use Rattle.fab_store_lists.proofs.PathRowSets.{set_listed}
-use Rattle.fab_desk_laws.specs.Keeping.{KeepsHosts}
+use Rattle.fab_store_world.specs.PathGathering.{Has, IsRowOfSome}
+use Rattle.fab_store_world.specs.Paths.{IsPathRowOnlyIn, path_row_order, path_row_cmp}
+use Rattle.fab_store_world.proofs.PathRowOrder.{row_total, row_exact}
+use Rattle.fab_store_world.proofs.PathRowSets.{set_listed}
+use Rattle.fab_desk_base.specs.Keeping.{KeepsHosts}
 
 -- the rows of the paths, gathered from none
 pub rows_listed : (w : Records) (xs : List Path) (s t : BTreeSet PathRow) (rows : List PathRow) → s.keys ≡ [] → IsOrdered path_row_cmp t → rows ≡ t.keys → Adds (IsRowOfSome w xs) (Has s) (Has t) → IsListOf path_row_order (IsRowOfSome w xs) rows

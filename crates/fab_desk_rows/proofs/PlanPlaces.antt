@@ -11,16 +11,16 @@ use Rattle.std.proofs.lemmas.Option.{same_Some}
 use Rattle.fab_names.specs.Orders.{name_cmp}
 use Rattle.fab_names.proofs.OrderLaws.{name_total, name_exact}
 use Rattle.fab_store_rows.specs.PlanEntries.{PlanEntry}
-use Rattle.fab_plans_steps.specs.Steps.{PlanStep}
-use Rattle.fab_plans_steps.specs.Plans.{Spells, plan_text}
+use Rattle.fab_plans_base.specs.Steps.{PlanStep}
+use Rattle.fab_plans_base.specs.Plans.{Spells, plan_text}
 use Rattle.fab_world.specs.PlanRecords.{PlanRecord}
 use Rattle.fab_world.specs.Plans.{state_of}
 use Rattle.fab_world.specs.Worlds.{WorldRows}
-use Rattle.fab_store_changes.specs.Keys.{plan_order}
-use Rattle.fab_store_changes.specs.Positions.{IsPosition, IsOrder}
-use Rattle.fab_store_changes.specs.Standing.{IsPlanRow}
-use Rattle.fab_store_changes.proofs.Picked.{first_or_later, push_sorted}
-use Rattle.fab_store_changes.proofs.PlacedNames.{one_place, placed_name}
+use Rattle.fab_store_world.specs.Keys.{plan_order}
+use Rattle.fab_store_world.specs.Positions.{IsPosition, IsOrder}
+use Rattle.fab_store_world.specs.Standing.{IsPlanRow}
+use Rattle.fab_store_world.proofs.Picked.{first_or_later, push_sorted}
+use Rattle.fab_store_world.proofs.PlacedNames.{one_place, placed_name}
 use Rattle.fab_desk_rows.specs.Places.{HasName, state_at, row_at, Tells, AreTold, IsOnlyRow, IsPut, AreListedIn}
 use Rattle.fab_desk_rows.specs.declared.plan_rows.Place.{Place}
 use Rattle.fab_desk_rows.specs.declared.plan_rows.PlansAt.{PlansAt}

@@ -10,15 +10,15 @@ use Rattle.fab_names.specs.Orders.{name_cmp}
 use Rattle.fab_names.proofs.OrderLaws.{name_total, name_exact}
 use Rattle.fab_inventory.specs.Holders.{same_name}
 use Rattle.fab_store_rows.specs.PlanEntries.{PlanEntry}
-use Rattle.fab_plans_steps.specs.Plans.{Spells, plan_text}
+use Rattle.fab_plans_base.specs.Plans.{Spells, plan_text}
 use Rattle.fab_store_rows.specs.declared.record_row.PlanState.TheVariants as state
 use Rattle.fab_world.specs.PlanRecords.{Standing, staged, active, rolled_back, withdrawn, PlanRecord}
 use Rattle.fab_world.specs.Plans.{state_of, undo_of}
 use Rattle.fab_world.specs.Soundness.{IsSound}
 use Rattle.fab_world.specs.Worlds.{WorldRows}
-use Rattle.fab_store_changes.specs.Keys.{plan_order}
-use Rattle.fab_store_changes.specs.Positions.{IsPosition}
-use Rattle.fab_store_changes.specs.Standing.{IsPlanRow, IsOrdered, Lacking}
+use Rattle.fab_store_world.specs.Keys.{plan_order}
+use Rattle.fab_store_world.specs.Positions.{IsPosition}
+use Rattle.fab_store_world.specs.Standing.{IsPlanRow, IsOrdered, Lacking}
 use Rattle.fab_desk_rows.specs.Moves.{AreMoved, IsStagedTo, HaveOnePlans}
 use Rattle.fab_desk_rows.specs.Places.{HasOnePosition, row_at}
 use Rattle.fab_desk_rows.specs.declared.plan_rows.Place.{Place}

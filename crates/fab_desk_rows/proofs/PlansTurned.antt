@@ -13,11 +13,11 @@ use Rattle.fab_world.specs.PlanRecords.{PlanRecord}
 use Rattle.fab_world.specs.Plans.{state_of}
 use Rattle.fab_world.specs.Soundness.{IsSound}
 use Rattle.fab_world.specs.Worlds.{WorldRows}
-use Rattle.fab_store_changes.specs.Keys.{plan_order}
-use Rattle.fab_store_changes.specs.Standing.{IsPlanRow}
-use Rattle.fab_desk_next.specs.Nexts.{turned, plans_turned}
-use Rattle.fab_desk_next.specs.declared.next.Turn.{Turn}
-use Rattle.fab_desk_next.specs.declared.next.Turn.TheVariants.{Withdrawn, Approved, Activated, RolledBack}
+use Rattle.fab_store_world.specs.Keys.{plan_order}
+use Rattle.fab_store_world.specs.Standing.{IsPlanRow}
+use Rattle.fab_desk_commands.specs.Nexts.{turned, plans_turned}
+use Rattle.fab_desk_commands.specs.declared.next.Turn.{Turn}
+use Rattle.fab_desk_commands.specs.declared.next.Turn.TheVariants.{Withdrawn, Approved, Activated, RolledBack}
 use Rattle.fab_desk_rows.specs.Moves.{IsTurnedTo}
 use Rattle.fab_desk_rows.specs.Places.{HasName, HasOnePosition, AreMovable, state_at, IsTold, Tells, AreTold, IsOnlyRow, AreListedIn}
 use Rattle.fab_desk_rows.specs.declared.plan_rows.PlansAt.{PlansAt}

@@ -12,9 +12,9 @@ use Rattle.fab_lemmas.proofs.SeenSets.{tie_decides}
 use Rattle.fab_names.specs.Orders.{name_cmp}
 use Rattle.fab_names.proofs.OrderLaws.{name_total, name_exact}
 use Rattle.fab_store_world.specs.Orders.{numbered}
-use Rattle.fab_store_changes.specs.Positions.{IsPosition}
-use Rattle.fab_store_changes.proofs.Picked.{later}
-use Rattle.fab_store_changes.proofs.PlacedNames.{placed_name}
+use Rattle.fab_store_world.specs.Positions.{IsPosition}
+use Rattle.fab_store_world.proofs.Picked.{later}
+use Rattle.fab_store_world.proofs.PlacedNames.{placed_name}
 use Rattle.fab_desk_rows.specs.Places.{HasName, IsShared, HasOnePosition, AreMovable}
 
 -- ---- positions

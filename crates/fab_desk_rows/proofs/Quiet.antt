@@ -3,9 +3,9 @@ use Rattle.std.proofs.Common.{◌≡◌, sym, ap, ◌∙◌, subst}
 use Rattle.fab_store_rows.specs.declared.record_row.PlanState.TheVariants as state
 use Rattle.fab_world.specs.PlanRecords.{PlanRecord}
 use Rattle.fab_world.specs.Plans.{state_of}
-use Rattle.fab_desk_next.specs.Nexts.{turned, Leads}
-use Rattle.fab_desk_next.specs.declared.next.Turn.{Turn}
-use Rattle.fab_desk_next.specs.declared.next.Turn.TheVariants.{Withdrawn}
+use Rattle.fab_desk_commands.specs.Nexts.{turned, Leads}
+use Rattle.fab_desk_commands.specs.declared.next.Turn.{Turn}
+use Rattle.fab_desk_commands.specs.declared.next.Turn.TheVariants.{Withdrawn}
 
 pub staged_idle : (p : PlanRecord) → state_of p.standing ≡ state.Staged → ¬ (state_of p.standing ≡ state.Active)
 staged_idle p is h = let no : state.Staged ≡ state.Active = sym is ∙ h in absurd cc

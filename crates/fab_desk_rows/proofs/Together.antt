@@ -10,11 +10,11 @@ use Rattle.fab_store_rows.specs.declared.inventory_row.InventoryRow.TheVariants 
 use Rattle.fab_store_rows.specs.declared.record_row.PathRow.{PathRow}
 use Rattle.fab_store_rows.specs.Differences.{StandsOnlyIn}
 use Rattle.fab_store_rows.specs.RowOrder.{row_order}
-use Rattle.fab_store_lists.specs.Inventories.{IsKnownOnlyIn, port_order, holder_order, volume_order}
-use Rattle.fab_store_lists.specs.Paths.{IsPathRowOnlyIn, path_row_order}
+use Rattle.fab_store_world.specs.Inventories.{IsKnownOnlyIn, port_order, holder_order, volume_order}
+use Rattle.fab_store_world.specs.Paths.{IsPathRowOnlyIn, path_row_order}
 use Rattle.fab_world.specs.Worlds.{WorldRows, records_of}
-use Rattle.fab_store_changes.specs.Standing.{Lacking}
-use Rattle.fab_store_changes.specs.Tables.{IsPortRow, IsHolderRow, IsVolumeRow, IsConfigRow, IsRowOfPath}
+use Rattle.fab_store_world.specs.Standing.{Lacking}
+use Rattle.fab_store_world.specs.Tables.{IsPortRow, IsHolderRow, IsVolumeRow, IsConfigRow, IsRowOfPath}
 
 module _ (w v : WorldRows) where
   pub ports_only : (xs : List Port) → IsListOf port_order (λ r. IsKnownOnlyIn w.inventory v.inventory (row.Port r)) xs → IsListOf port_order (Lacking IsPortRow v w) xs

@@ -20,7 +20,7 @@ use Rattle.fab_store_rows.specs.declared.record_row.UndoRow.{UndoRow}
 use Rattle.fab_store_world.specs.PlanRows.{IsChanged, IsInOrder}
 use Rattle.fab_world.specs.PlanRecords.{Standing, staged, active, rolled_back, withdrawn, PlanRecord}
 use Rattle.fab_world.specs.Plans.{Change, state_of, undo_of}
-use Rattle.fab_store_changes.specs.Keys.{undo_order}
+use Rattle.fab_store_world.specs.Keys.{undo_order}
 use Rattle.fab_desk_rows.specs.PlanMoves.{undo_row, IsUndoOf, IsUndoRowOf, IsOfOne, AreUndoMoved}
 use Rattle.fab_desk_rows.proofs.Listed.{none_listed}
 use Rattle.fab_desk_rows.proofs.Sorted.{from_mapped, to_mapped, mapped_sorted, both_sorted}

@@ -4,14 +4,14 @@ use Rattle.std.specs.declared.cmp.Ordering.{Ordering}
 use Rattle.std.specs.FinMap as map
 use Rattle.fab_lemmas.specs.Lists.{IsListOf}
 use Rattle.fab_store_rows.specs.Differences.{IsDifference}
-use Rattle.fab_store_lists.specs.Inventories.{IsInventoryDifference}
-use Rattle.fab_store_lists.specs.Paths.{ArePathChanges}
+use Rattle.fab_store_world.specs.Inventories.{IsInventoryDifference}
+use Rattle.fab_store_world.specs.Paths.{ArePathChanges}
 use Rattle.fab_world.specs.PlanRecords.{PlanRecord}
 use Rattle.fab_world.specs.Worlds.{WorldRows, records_of}
-use Rattle.fab_store_changes.specs.Keys.{plan_order, approval_order, undo_order}
-use Rattle.fab_store_changes.specs.Standing.{IsPlanRow, IsApprovalRow, IsUndoRow, Lacking}
-use Rattle.fab_desk_next.specs.Nexts.{plans_turned}
-use Rattle.fab_desk_next.specs.declared.next.Turn.{Turn}
+use Rattle.fab_store_world.specs.Keys.{plan_order, approval_order, undo_order}
+use Rattle.fab_store_world.specs.Standing.{IsPlanRow, IsApprovalRow, IsUndoRow, Lacking}
+use Rattle.fab_desk_commands.specs.Nexts.{plans_turned}
+use Rattle.fab_desk_commands.specs.declared.next.Turn.{Turn}
 use Rattle.fab_desk_rows.specs.declared.parts.Parts.{Parts}
 use Rattle.fab_desk_rows.specs.declared.plans.PlanTables.{PlanTables}
 

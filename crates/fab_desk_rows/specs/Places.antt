@@ -9,13 +9,13 @@ use Rattle.fab_names.specs.Orders.{name_cmp}
 use Rattle.fab_inventory.specs.Holders.{same_name}
 use Rattle.fab_store_rows.specs.PlanEntries.{PlanEntry}
 use Rattle.fab_store_rows.specs.declared.record_row.PlanState.{PlanState}
-use Rattle.fab_plans_steps.specs.Plans.{IsWithinLimits, plan_text}
+use Rattle.fab_plans_base.specs.Plans.{IsWithinLimits, plan_text}
 use Rattle.fab_world.specs.PlanRecords.{PlanRecord}
 use Rattle.fab_world.specs.Plans.{state_of}
 use Rattle.fab_world.specs.Worlds.{WorldRows}
-use Rattle.fab_store_changes.specs.Keys.{plan_order}
-use Rattle.fab_store_changes.specs.Positions.{IsPosition}
-use Rattle.fab_store_changes.specs.Standing.{IsPlanRow, IsOrdered, Lacking}
+use Rattle.fab_store_world.specs.Keys.{plan_order}
+use Rattle.fab_store_world.specs.Positions.{IsPosition}
+use Rattle.fab_store_world.specs.Standing.{IsPlanRow, IsOrdered, Lacking}
 use Rattle.fab_desk_rows.specs.declared.plan_rows.Place.{Place}
 use Rattle.fab_desk_rows.specs.declared.plan_rows.PlansAt.{PlansAt}
 

@@ -9,7 +9,7 @@ use Rattle.fab_store_rows.specs.declared.record_row.UndoRow.{UndoRow}
 use Rattle.fab_store_rows.specs.declared.record_row.Sign.{Sign}
 use Rattle.fab_store_world.specs.PlanRows.{IsApprovalOf, IsChanged}
 use Rattle.fab_world.specs.PlanRecords.{PlanRecord, active}
-use Rattle.fab_store_changes.specs.Keys.{approval_order, undo_order}
+use Rattle.fab_store_world.specs.Keys.{approval_order, undo_order}
 
 -- the plan is there, and has P
 abbrev pub HasIn : Option PlanRecord → (PlanRecord → Type 0) → Type 0

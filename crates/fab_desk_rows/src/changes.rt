@@ -3,20 +3,19 @@ ghost use Rattle.std.specs.Prelude.{IfOk};
 ghost use Rattle.fab_reach_base.specs.Books.{IsDelta};
 ghost use Rattle.fab_world.specs.Soundness.{IsSound};
 ghost use Rattle.fab_world.specs.Worlds.{WorldRows, records_of};
-ghost use Rattle.fab_store_changes.specs.Tables.{AreChanges, IsCountRow, count_order};
-ghost use Rattle.fab_desk_laws.specs.Keeping.{KeepsHosts};
-ghost use Rattle.fab_desk_next.specs.Nexts.{next_world, Suits};
+ghost use Rattle.fab_store_world.specs.Tables.{AreChanges, IsCountRow, count_order};
+ghost use Rattle.fab_desk_base.specs.Keeping.{KeepsHosts};
+ghost use Rattle.fab_desk_commands.specs.Nexts.{next_world, Suits};
 ghost use Rattle.fab_desk_rows.specs.Moves.{AreMoved, ArePartsMoved, ArePlanTablesMoved};
 
 use crate::counts::counts_moved;
 use crate::moved::Moved;
 use crate::parts::{Parts, parts_moved};
 use crate::plans::{PlanTables, plan_tables_moved};
-use fab_desk_next::Next;
+use fab_desk_commands::Next;
 use fab_reach_base::Delta;
-use fab_store_changes::Changes;
-use fab_store_lists::InventoryDifference;
 use fab_store_rows::{ApprovalRow, CountRow, PlanRow, TableRows, UndoRow};
+use fab_store_world::{Changes, InventoryDifference};
 use fab_world::World;
 use std::alloc::{AllocError, Allocator};
 

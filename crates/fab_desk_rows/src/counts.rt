@@ -1,12 +1,12 @@
 //! The row that tells the revision.
 ghost use Rattle.std.specs.Prelude.{◌≡◌, [], ◌∷◌, nat_eq, cond, IfOk};
 ghost use Rattle.fab_store_rows.specs.declared.table_rows.CountRow.TheVariants as count;
-ghost use Rattle.fab_store_changes.specs.Tables.{IsCountRow, count_order};
-ghost use Rattle.fab_desk_next.specs.Nexts.{next_world, Suits};
+ghost use Rattle.fab_store_world.specs.Tables.{IsCountRow, count_order};
+ghost use Rattle.fab_desk_commands.specs.Nexts.{next_world, Suits};
 ghost use Rattle.fab_desk_rows.specs.Moves.{AreMoved};
 
 use crate::moved::Moved;
-use fab_desk_next::Next;
+use fab_desk_commands::Next;
 use fab_store_rows::CountRow;
 use fab_world::World;
 use std::alloc::{AllocError, Allocator};

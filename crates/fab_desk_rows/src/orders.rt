@@ -1,6 +1,6 @@
 //! Where names stand in two orders of the activations in force.
 ghost use Rattle.std.specs.Prelude.{◌≡◌, ◌↔◌, slice_get, Some, IsTrue, IfOk};
-ghost use Rattle.fab_store_changes.specs.Positions.{IsPosition};
+ghost use Rattle.fab_store_world.specs.Positions.{IsPosition};
 ghost use Rattle.fab_desk_rows.specs.Places.{HasName, IsShared, AreMovable};
 
 use fab_lemmas::set_of;

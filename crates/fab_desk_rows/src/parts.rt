@@ -5,19 +5,19 @@ ghost use Rattle.fab_reach_base.specs.Books.{IsDelta};
 ghost use Rattle.fab_reach_base.specs.Records.{ConfigRows};
 ghost use Rattle.fab_reach_base.specs.Views.{seen};
 ghost use Rattle.fab_store_rows.specs.Differences.{IsDifference};
-ghost use Rattle.fab_store_lists.specs.Inventories.{AreListsOf, IsKnownOnlyIn, IsInventoryDifference};
+ghost use Rattle.fab_store_world.specs.Inventories.{AreListsOf, IsKnownOnlyIn, IsInventoryDifference};
 ghost use Rattle.fab_world.specs.Worlds.{records_of};
-ghost use Rattle.fab_desk_laws.specs.Keeping.{KeepsHosts};
-ghost use Rattle.fab_desk_next.specs.Nexts.{next_world, Suits, TellsChange};
+ghost use Rattle.fab_desk_base.specs.Keeping.{KeepsHosts};
+ghost use Rattle.fab_desk_commands.specs.Nexts.{next_world, Suits, TellsChange};
 ghost use Rattle.fab_desk_rows.specs.Moves.{ArePartsMoved};
 
 use crate::paths::path_rows_moved;
-use fab_desk_next::{Next, Turn};
+use fab_desk_commands::{Next, Turn};
 use fab_reach_base::{Config, Delta, View};
-use fab_store_lists::{
+use fab_store_rows::{ConfigRow, RowDifference, difference};
+use fab_store_world::{
     InventoryDifference, InventoryLists, PathRowDifference, inventory_difference,
 };
-use fab_store_rows::{ConfigRow, RowDifference, difference};
 use fab_world::World;
 use std::alloc::{AllocError, Allocator};
 

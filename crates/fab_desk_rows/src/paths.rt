@@ -5,15 +5,15 @@ ghost use Rattle.fab_reach_base.specs.Adding.{Adds};
 ghost use Rattle.fab_reach_base.specs.Books.{IsDelta};
 ghost use Rattle.fab_reach_base.specs.Reach.{IsInitiatorOf};
 ghost use Rattle.fab_reach_base.specs.Views.{seen};
-ghost use Rattle.fab_store_lists.specs.PathGathering.{Has, IsRowOf, IsRowOfSome};
-ghost use Rattle.fab_store_lists.specs.Paths.{ArePathChanges, path_row_order};
-ghost use Rattle.fab_desk_laws.specs.Keeping.{KeepsHosts};
+ghost use Rattle.fab_store_world.specs.PathGathering.{Has, IsRowOf, IsRowOfSome};
+ghost use Rattle.fab_store_world.specs.Paths.{ArePathChanges, path_row_order};
+ghost use Rattle.fab_desk_base.specs.Keeping.{KeepsHosts};
 
 use fab_inventory::HolderKind;
 use fab_names::{Name, Wwn};
 use fab_reach_base::{Delta, Path, View};
-use fab_store_lists::PathRowDifference;
 use fab_store_rows::PathRow;
+use fab_store_world::PathRowDifference;
 use std::alloc::{AllocError, Allocator};
 use std::collections::BTreeSet;
 

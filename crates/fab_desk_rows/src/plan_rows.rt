@@ -3,11 +3,11 @@ ghost use Rattle.std.specs.Prelude.{◌≡◌, ◌↔◌, IsTrue, IfOk, OnOk};
 ghost use Rattle.std.specs.BTreeMap.{get};
 ghost use Rattle.fab_lemmas.specs.Lists.{IsListOf};
 ghost use Rattle.fab_names.specs.Orders.{name_cmp};
-ghost use Rattle.fab_plans_steps.specs.Plans.{Spells, IsWithinLimits, plan_text};
+ghost use Rattle.fab_plans_base.specs.Plans.{Spells, IsWithinLimits, plan_text};
 ghost use Rattle.fab_world.specs.Worlds.{WorldRows};
-ghost use Rattle.fab_store_changes.specs.Keys.{plan_order};
-ghost use Rattle.fab_store_changes.specs.Positions.{IsPosition};
-ghost use Rattle.fab_store_changes.specs.Standing.{IsPlanRow};
+ghost use Rattle.fab_store_world.specs.Keys.{plan_order};
+ghost use Rattle.fab_store_world.specs.Positions.{IsPosition};
+ghost use Rattle.fab_store_world.specs.Standing.{IsPlanRow};
 ghost use Rattle.fab_desk_rows.specs.Places as spec;
 
 use crate::orders::position_of;

@@ -1,14 +1,14 @@
 //! The rows that the activation of one plan changed.
 ghost use Rattle.std.specs.Prelude.{◌≡◌, ◌++◌, [], map, Some, OnOk, IfOk};
 ghost use Rattle.fab_lemmas.specs.Lists.{IsListOf};
-ghost use Rattle.fab_store_changes.specs.Keys.{undo_order};
+ghost use Rattle.fab_store_world.specs.Keys.{undo_order};
 ghost use Rattle.fab_store_world.specs.PlanRows.{IsInOrder, ChangesInOrder};
 ghost use Rattle.fab_world.specs.PlanRecords.{rolled_back};
-ghost use Rattle.fab_desk_next.specs.Nexts.{turned, Leads};
+ghost use Rattle.fab_desk_commands.specs.Nexts.{turned, Leads};
 ghost use Rattle.fab_desk_rows.specs.PlanMoves.{undo_row, IsUndoOf, AreUndoMoved};
 
 use crate::moved::{Moved, none_moved};
-use fab_desk_next::Turn;
+use fab_desk_commands::Turn;
 use fab_names::Name;
 use fab_store_rows::{ConfigRow, RowDifference, Sign, UndoRow};
 use fab_world::KeptPlan;

@@ -3,7 +3,7 @@
 use crate::lists::{List, all_turns};
 use fab_desk::Desk;
 use fab_desk_base::Reply;
-use fab_reach_book::PortBook;
+use fab_reach::PortBook;
 use fab_store::{OpenFault, SqlStore, Store};
 use fab_test_machine::{Turn, command, is_told, policy};
 use sqlite::{Alter, Connection};

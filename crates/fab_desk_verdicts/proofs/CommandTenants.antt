@@ -6,7 +6,7 @@ use Rattle.fab_names.proofs.OrderLaws.{name_total, name_exact}
 use Rattle.fab_reach_base.specs.Adding.{Adds}
 use Rattle.fab_reach_base.specs.Records.{Records}
 use Rattle.fab_reach_base.proofs.Adding.{adds_as}
-use Rattle.fab_plans_steps.specs.Steps.{PlanStep}
+use Rattle.fab_plans_base.specs.Steps.{PlanStep}
 use Rattle.fab_world.specs.Worlds.{WorldRows, records_of}
 use Rattle.fab_desk_base.specs.Commands.{HasStep}
 use Rattle.fab_desk_base.specs.Tenants.{Thing, holder, volume, IsTenantOf, Has}

@@ -3,7 +3,7 @@ use Rattle.std.proofs.Common.{◌≡◌, ◌↔◌, List, Contains, Some, Bool, 
 use Rattle.fab_names.specs.declared.fabric.Fabric.{Fabric}
 use Rattle.fab_inventory.specs.declared.port.PortRow.{PortRow}
 use Rattle.fab_plans.specs.Steps.{fabric_of}
-use Rattle.fab_plans_steps.specs.Steps.{PlanStep}
+use Rattle.fab_plans_base.specs.Steps.{PlanStep}
 use Rattle.fab_world.specs.Worlds.{WorldRows}
 use Rattle.fab_desk_base.specs.Commands.{HasStep, NamesFabric}
 use Rattle.fab_desk_base.specs.declared.command.Command.{Command}

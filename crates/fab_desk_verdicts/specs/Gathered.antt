@@ -5,7 +5,7 @@ use Rattle.fab_inventory.specs.Inventories.{InventoryRows}
 use Rattle.fab_reach_base.specs.Reach.{IsInitiatorOf}
 use Rattle.fab_reach_base.specs.Records.{Records}
 use Rattle.fab_reach_base.specs.declared.path.Path.{Path}
-use Rattle.fab_plans_steps.specs.Steps.{PlanStep}
+use Rattle.fab_plans_base.specs.Steps.{PlanStep}
 use Rattle.fab_world.specs.Worlds.{WorldRows, records_of}
 use Rattle.fab_desk_base.specs.Commands.{HasStep}
 use Rattle.fab_desk_base.specs.Tenants.{Thing, IsTenantOf, IsHolderOf, IsVolumeOf, IsPathOf}

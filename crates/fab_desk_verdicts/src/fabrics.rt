@@ -3,14 +3,14 @@ ghost use Rattle.std.specs.Prelude.{◌≡◌, ◌↔◌, Contains, IsTrue};
 ghost use Rattle.fab_names.specs.declared.fabric.Fabric.{Fabric};
 ghost use Rattle.fab_names.specs.declared.fabric.Fabric.TheVariants as fabric;
 ghost use Rattle.fab_plans.specs.Steps.{fabric_of};
-ghost use Rattle.fab_plans_steps.specs.Actions.{zoning_step};
-ghost use Rattle.fab_plans_steps.specs.Steps.{PlanStep};
+ghost use Rattle.fab_plans_base.specs.Actions.{zoning_step};
+ghost use Rattle.fab_plans_base.specs.Steps.{PlanStep};
 ghost use Rattle.fab_desk_base.specs.Commands.{NamesFabric};
 
 use crate::named::steps_of;
 use fab_desk_base::Command;
 use fab_names::Fabric;
-use fab_plans_steps::{Action, Step, ZoningAction};
+use fab_plans_base::{Action, Step, ZoningAction};
 use fab_world::World;
 use std::alloc::Allocator;
 

@@ -3,14 +3,14 @@ ghost use Rattle.std.specs.Prelude.{◌≡◌, ◌↔◌, Contains};
 ghost use Rattle.std.specs.FinMap as map;
 ghost use Rattle.std.specs.Option.{option_copied};
 ghost use Rattle.fab_reach_base.specs.Views.{seen};
-ghost use Rattle.fab_plans_steps.specs.Steps.{PlanStep};
+ghost use Rattle.fab_plans_base.specs.Steps.{PlanStep};
 ghost use Rattle.fab_world.specs.Worlds.{records_of};
 ghost use Rattle.fab_desk_base.specs.Commands as commands;
 ghost use Rattle.fab_desk_verdicts.specs.Named.{plan_named};
 
 use fab_desk_base::Command;
 use fab_names::Name;
-use fab_plans_steps::Step;
+use fab_plans_base::Step;
 use fab_policy::Action;
 use fab_reach_base::View;
 use fab_world::{KeptPlan, World};

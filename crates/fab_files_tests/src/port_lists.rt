@@ -1,6 +1,6 @@
 //! Port lists of many sizes, read with ample memory.
 
-use fab_wire_port_lists::port_list::{FileFault, read_ports};
+use fab_wire_requests::port_list::{FileFault, read_ports};
 use std::process::Abort;
 
 /// The header of a list.

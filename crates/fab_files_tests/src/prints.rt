@@ -1,7 +1,7 @@
 //! Answers are printed.
 
 use super::printed::{Kind, answer_of};
-use fab_files_printing::{End, Form, PrintFault, print};
+use fab_files::{End, Form, PrintFault, print};
 use fab_test_wire::streams::Breaking;
 use fab_wire_answers::answers::Answer;
 use std::alloc::Global;

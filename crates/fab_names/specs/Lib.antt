@@ -8,3 +8,4 @@ pub mod Members
 pub mod Faults
 pub mod Orders
 pub mod Codes
+pub mod Tokens

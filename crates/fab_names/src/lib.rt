@@ -1,5 +1,5 @@
 //! The names that zoning and mapping speak of, and their texts: names of records, world-wide
-//! names, fabrics, places in a fabric, and members of zones.
+//! names, fabrics, places in a fabric, and members of zones; and the form of a caller's token.
 //!
 //! Each type has `read`, which accepts exactly its text forms, `print`, which gives its printed
 //! form, and a `Display` that writes the same bytes without memory.
@@ -12,6 +12,7 @@ mod member;
 mod name;
 mod number;
 mod place;
+mod tokens;
 mod wwn;
 
 pub use bytes::{read_fabric, read_name, read_wwn};
@@ -20,6 +21,7 @@ pub use member::Member;
 pub use name::{MOST_CHARACTERS, Name};
 pub use number::{MOST_DIGITS, read_number};
 pub use place::{FIRST_DOMAIN, LAST_DOMAIN, LAST_SLOT, Place};
+pub use tokens::{MOST_TOKEN_BYTES, is_token};
 pub use wwn::{PlainWwn, Wwn};
 
 /// Why a text is not read. Where several faults stand in a text, any one of them is answered.

@@ -13,7 +13,7 @@ use Rattle.fab_mapping_base.specs.declared.limits.TheConstants.{MOST_HOST_GROUPS
 use Rattle.fab_mapping_base.specs.Groups.{StorageGroupRows}
 use Rattle.fab_mapping.specs.Mappings as base
 use Rattle.fab_mapping.specs.Mappings.{MappingRows, GroupHas, IsPortOf, IsVolumeOn}
-use Rattle.fab_plans_steps.specs.Steps.{PlanStep, host_group_put, host_group_drop, group_host, group_unhost, group_target, group_untarget, group_map, group_unmap}
+use Rattle.fab_plans_base.specs.Steps.{PlanStep, host_group_put, host_group_drop, group_host, group_unhost, group_target, group_untarget, group_map, group_unmap}
 use Rattle.fab_plans.specs.Checks.{PassesAll, IsFirstRefusal}
 use Rattle.fab_plans.specs.MappingSteps.{MappingFails, HasOtherVolume}
 use Rattle.fab_plans.specs.Telling.{IsFaultOf, TellsMapping}

@@ -13,7 +13,7 @@ use Rattle.fab_mapping_base.specs.declared.nexus.Nexus.{Nexus}
 use Rattle.fab_mapping.specs.Mappings.{MappingRows, IsLeastClash}
 use Rattle.fab_reach_base.proofs.PathOrder.{both_equal}
 use Rattle.fab_reach_base.specs.Records.{ConfigRows}
-use Rattle.fab_plans_steps.specs.Steps.{PlanStep}
+use Rattle.fab_plans_base.specs.Steps.{PlanStep}
 use Rattle.fab_plans.specs.Outcomes.{AllDone, IsOutcome, IsRefusedAt, IsClashAtEnd, IsRefusedOutcome}
 use Rattle.fab_plans.specs.Steps.{StepDone, StepRefused}
 use Rattle.fab_plans.specs.declared.fault.Refusal.{Refusal}

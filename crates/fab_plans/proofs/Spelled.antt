@@ -7,11 +7,11 @@ use Rattle.fab_names.specs.declared.member.Member.{Member}
 use Rattle.fab_names.specs.declared.member.Member.TheVariants as member
 use Rattle.fab_zoning.specs.Rows.{IsPlain}
 use Rattle.fab_zoning.specs.Steps.{IsListing}
-use Rattle.fab_plans_steps.specs.Texts.{words_of}
-use Rattle.fab_plans_steps.specs.Steps.{PlanStep, alias_put, zone_put, set_put, host_group_put, group_map}
-use Rattle.fab_plans_steps.specs.Values.{Value, of_fabric, of_name, of_unit, of_member, of_port_member, NamesPorts, SpellsValues}
-use Rattle.fab_plans_steps.specs.Forms.{form_of, Takes, keyword_of, values_of}
-use Rattle.fab_plans_steps.specs.Plans.{SpellsStep, IsStep}
+use Rattle.fab_plans_base.specs.Texts.{words_of}
+use Rattle.fab_plans_base.specs.Steps.{PlanStep, alias_put, zone_put, set_put, host_group_put, group_map}
+use Rattle.fab_plans_base.specs.Values.{Value, of_fabric, of_name, of_unit, of_member, of_port_member, NamesPorts, SpellsValues}
+use Rattle.fab_plans_base.specs.Forms.{form_of, Takes, keyword_of, values_of}
+use Rattle.fab_plans_base.specs.Plans.{SpellsStep, IsStep}
 
 -- as many words as values
 as_many : (words : List (List ℕ)) (vs : List Value) → SpellsValues words vs → length words ≡ length vs

@@ -9,10 +9,10 @@ use Rattle.fab_mapping.specs.Mappings.{MappingRows}
 use Rattle.fab_mapping.specs.Soundness as mappings
 use Rattle.fab_reach_base.specs.Records.{ConfigRows, zoning_at}
 use Rattle.fab_reach_base.specs.Soundness.{IsSoundBeside}
-use Rattle.fab_plans_steps.specs.Actions.{mapping_step}
-use Rattle.fab_plans_steps.specs.Steps.{PlanStep, alias_put, alias_drop, zone_put, zone_drop, set_put, set_drop, activate, deactivate, default_zone}
-use Rattle.fab_plans_steps.specs.declared.mapping_action.MappingAction.{MappingAction}
-use Rattle.fab_plans_steps.specs.declared.mapping_action.MappingAction.TheVariants as mapping
+use Rattle.fab_plans_base.specs.Actions.{mapping_step}
+use Rattle.fab_plans_base.specs.Steps.{PlanStep, alias_put, alias_drop, zone_put, zone_drop, set_put, set_drop, activate, deactivate, default_zone}
+use Rattle.fab_plans_base.specs.declared.mapping_action.MappingAction.{MappingAction}
+use Rattle.fab_plans_base.specs.declared.mapping_action.MappingAction.TheVariants as mapping
 use Rattle.fab_plans.specs.MappingSteps.{MappingFails, MappingDone}
 use Rattle.fab_plans.specs.Steps.{fabric_of, with_zoning, with_mapping, FailsIn, DoneIn, StepDone}
 use Rattle.fab_plans.specs.Telling.{IsFaultOf}

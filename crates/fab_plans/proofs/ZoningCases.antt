@@ -18,7 +18,7 @@ use Rattle.fab_zoning.specs.Zonings.{FabricZoning}
 use Rattle.fab_zoning.specs.Resolved.{IsResolved, AreResolved, MoreThan}
 use Rattle.fab_zoning.specs.Steps as base
 use Rattle.fab_zoning.proofs.RowSets.{row_total, row_exact}
-use Rattle.fab_plans_steps.specs.Steps.{alias_put, alias_drop, zone_put, zone_drop, set_put, activate}
+use Rattle.fab_plans_base.specs.Steps.{alias_put, alias_drop, zone_put, zone_drop, set_put, activate}
 use Rattle.fab_plans.specs.Checks.{PassesAll, IsFirstRefusal}
 use Rattle.fab_plans.specs.ZoningSteps.{ZoningFails}
 use Rattle.fab_plans.specs.Telling.{IsFaultOf, TellsZoning}

@@ -2,7 +2,7 @@
 use Rattle.std.specs.Prelude.{ℕ, ◌≡◌, List}
 use Rattle.std.specs.FinMap as map
 use Rattle.fab_names.specs.Orders.{name_cmp}
-use Rattle.fab_plans_steps.specs.Steps.{PlanStep}
+use Rattle.fab_plans_base.specs.Steps.{PlanStep}
 use Rattle.fab_plans.specs.declared.plan.Plan.{Plan}
 use Rattle.fab_plans.specs.declared.plan.ApprovalFault.{ApprovalFault}
 use Rattle.fab_plans.specs.declared.plan.ApprovalFault.TheVariants.{OwnPlan, Memory}

@@ -6,7 +6,7 @@ use Rattle.fab_inventory.specs.Inventories.{InventoryRows}
 use Rattle.fab_zoning.specs.Zonings.{FabricZoning}
 use Rattle.fab_mapping.specs.Mappings.{MappingRows}
 use Rattle.fab_reach_base.specs.Records.{ConfigRows, zoning_at}
-use Rattle.fab_plans_steps.specs.Steps.{PlanStep, alias_put, alias_drop, zone_put, zone_drop, set_put, set_drop, activate, deactivate, default_zone}
+use Rattle.fab_plans_base.specs.Steps.{PlanStep, alias_put, alias_drop, zone_put, zone_drop, set_put, set_drop, activate, deactivate, default_zone}
 use Rattle.fab_plans.specs.Checks.{Check, IsFirstRefusal}
 use Rattle.fab_plans.specs.ZoningSteps.{ZoningFails, ZoningDone}
 use Rattle.fab_plans.specs.MappingSteps.{MappingFails, MappingDone}

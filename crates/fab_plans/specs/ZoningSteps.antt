@@ -10,7 +10,7 @@ use Rattle.fab_zoning.specs.Limits.{most_aliases, most_zones, most_sets, most_ro
 use Rattle.fab_zoning.specs.Resolved.{IsResolved, AreResolved, MoreThan}
 use Rattle.fab_zoning.specs.Steps.{HasAlias, HasZone}
 use Rattle.fab_zoning.specs.Zonings.{FabricZoning}
-use Rattle.fab_plans_steps.specs.Steps.{PlanStep, alias_put, alias_drop, zone_put, zone_drop, set_put, set_drop, activate, deactivate, default_zone}
+use Rattle.fab_plans_base.specs.Steps.{PlanStep, alias_put, alias_drop, zone_put, zone_drop, set_put, set_drop, activate, deactivate, default_zone}
 use Rattle.fab_plans.specs.Checks.{Check, own_name, other_names, no_user, room, FailsWith, PassesAll}
 use Rattle.fab_plans.specs.declared.fault.Item.TheVariants as item
 use Rattle.fab_plans.specs.declared.fault.Refusal.{Refusal}

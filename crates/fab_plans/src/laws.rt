@@ -2,7 +2,7 @@
 ghost use Rattle.std.specs.Prelude.{◌≡◌, ℕ, List};
 ghost use Rattle.fab_inventory.specs.Inventories.{InventoryRows};
 ghost use Rattle.fab_reach_base.specs.Records.{ConfigRows};
-ghost use Rattle.fab_plans_steps.specs.Steps.{PlanStep};
+ghost use Rattle.fab_plans_base.specs.Steps.{PlanStep};
 ghost use Rattle.fab_plans.specs.Outcomes.{IsOutcome, IsRefusedOutcome};
 ghost use Rattle.fab_plans.specs.declared.fault.Refusal.{Refusal};
 

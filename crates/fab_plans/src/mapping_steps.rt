@@ -1,8 +1,8 @@
 //! The steps of mapping.
 ghost use Rattle.std.specs.Prelude.{◌≡◌, OnOk, IfErr, ⊤};
 ghost use Rattle.fab_mapping.specs.Soundness.{Keeps};
-ghost use Rattle.fab_plans_steps.specs.Actions as actions;
-ghost use Rattle.fab_plans_steps.specs.Plans.{IsStep};
+ghost use Rattle.fab_plans_base.specs.Actions as actions;
+ghost use Rattle.fab_plans_base.specs.Plans.{IsStep};
 ghost use Rattle.fab_plans.specs.MappingSteps.{MappingDone, MappingFails};
 ghost use Rattle.fab_plans.specs.Telling.{IsFaultOf, TellsMapping, first_name, added_item};
 ghost use Rattle.fab_mapping_base.specs.declared.fault.MappingFault.TheVariants as mapping;
@@ -14,7 +14,7 @@ use crate::{Item, Refusal, StepLimit};
 use fab_inventory::Inventory;
 use fab_mapping::{Mapping, MappingFault, MappingLimit};
 use fab_names::Name;
-use fab_plans_steps::MappingAction;
+use fab_plans_base::MappingAction;
 use std::alloc::Allocator;
 
 /// The first name of a step.

@@ -11,7 +11,7 @@ use crate::zoning_steps::{fabric, take_zoning_step};
 use crate::{Refusal, TrialFault};
 use fab_inventory::Inventory;
 use fab_names::Fabric;
-use fab_plans_steps::{Action, Step};
+use fab_plans_base::{Action, Step};
 use fab_reach_base::Config;
 use std::alloc::Allocator;
 

@@ -4,7 +4,7 @@ ghost use Rattle.fab_plans.specs.Plans.{seen_plan, new_plan, approved_by, IsAppr
 ghost use Rattle.fab_plans.specs.declared.plan.ApprovalFault.TheVariants.{Memory};
 
 use fab_names::Name;
-use fab_plans_steps::Step;
+use fab_plans_base::Step;
 use std::alloc::{AllocFailed, Allocator};
 use std::collections::BTreeMap;
 

@@ -8,7 +8,7 @@ ghost use Rattle.fab_reach_base.specs.Soundness.{IsSoundBeside};
 use crate::{ApprovalFault, Plan, TrialFault, trial};
 use fab_inventory::Inventory;
 use fab_names::Name;
-use fab_plans_steps::Step;
+use fab_plans_base::Step;
 use fab_reach_base::Config;
 use std::alloc::Allocator;
 

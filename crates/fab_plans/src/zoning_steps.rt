@@ -1,8 +1,8 @@
 //! The steps of zoning.
 ghost use Rattle.std.specs.Prelude.{◌≡◌, Some, OnOk, IfErr, ⊤};
 ghost use Rattle.fab_zoning.specs.Soundness.{IsSound};
-ghost use Rattle.fab_plans_steps.specs.Actions as actions;
-ghost use Rattle.fab_plans_steps.specs.Plans.{IsStep};
+ghost use Rattle.fab_plans_base.specs.Actions as actions;
+ghost use Rattle.fab_plans_base.specs.Plans.{IsStep};
 ghost use Rattle.fab_plans.specs.Steps.{fabric_of};
 ghost use Rattle.fab_plans.specs.Telling.{IsFaultOf, TellsZoning};
 ghost use Rattle.fab_plans.specs.ZoningSteps.{ZoningDone, ZoningFails};
@@ -13,7 +13,7 @@ ghost use Rattle.fab_plans.specs.declared.fault.Refusal.TheVariants as refusal;
 use crate::fault::StepFault;
 use crate::{Item, Refusal, StepLimit};
 use fab_names::Fabric;
-use fab_plans_steps::ZoningAction;
+use fab_plans_base::ZoningAction;
 use fab_zoning::{Zoning, ZoningFault, ZoningLimit};
 use std::alloc::Allocator;
 

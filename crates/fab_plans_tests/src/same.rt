@@ -1,6 +1,6 @@
 //! Which steps are the same.
 
-use fab_plans_same::are_same;
+use fab_plans_base::are_same;
 use fab_plans_text::{Step, read_plan};
 use std::alloc::Global;
 use std::process::Abort;

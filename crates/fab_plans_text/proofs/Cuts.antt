@@ -4,7 +4,7 @@ use Rattle.std.specs.List.{onto_first}
 use Rattle.std.proofs.lemmas.Str.Pattern.{IsSplitOnceResult, split_parts}
 use Rattle.std.proofs.lemmas.Bool.Decides.{nat_tests}
 use Rattle.fab_names.proofs.Splits.{Lacks}
-use Rattle.fab_plans_steps.specs.Texts.{lines_of, words_of, IsCut}
+use Rattle.fab_plans_base.specs.Texts.{lines_of, words_of, IsCut}
 
 pub lacks_tail : (c x : ℕ) (xs : List ℕ) → Lacks c (x ∷ xs) → Lacks c xs
 lacks_tail c x xs none i below = none (suc i) (omega arith)

@@ -1,10 +1,10 @@
 -- A text with a fault spells no steps.
 use Rattle.std.proofs.Common.{ℕ, ◌≡◌, List, [], ◌∷◌, ◌++◌, length, length-append, map, refl, sym, ap, ◌∙◌, subst, arith, ◌⊎◌, inl, inr}
-use Rattle.fab_plans_steps.specs.Texts.{lines_of, words_of}
-use Rattle.fab_plans_steps.specs.Values.{Value, kind_of, SpellsValues}
-use Rattle.fab_plans_steps.specs.Steps.{PlanStep}
-use Rattle.fab_plans_steps.specs.Forms.{keyword_text, form_of, keyword_of, values_of, Takes, kinds_in}
-use Rattle.fab_plans_steps.specs.Plans.{SpellsStep, SpellsLines, Spells}
+use Rattle.fab_plans_base.specs.Texts.{lines_of, words_of}
+use Rattle.fab_plans_base.specs.Values.{Value, kind_of, SpellsValues}
+use Rattle.fab_plans_base.specs.Steps.{PlanStep}
+use Rattle.fab_plans_base.specs.Forms.{keyword_text, form_of, keyword_of, values_of, Takes, kinds_in}
+use Rattle.fab_plans_base.specs.Plans.{SpellsStep, SpellsLines, Spells}
 use Rattle.fab_plans_text.specs.Faults.{IsFirstFault, IsLineFault, HasTooManyLines, HasFaultyLine}
 use Rattle.fab_plans_text.specs.declared.fault.PlanFaultKind.{PlanFaultKind}
 use Rattle.fab_plans_text.specs.declared.fault.PlanFaultKind.TheVariants as kind

@@ -3,10 +3,10 @@ use Rattle.std.proofs.Common.{ℕ, ◌≡◌, ◌<◌, ◌≤◌, ◌+◌, ◌/�
 use Rattle.std.specs.Fmt.{decimal}
 use Rattle.std.proofs.lemmas.Fmt.{decimal_step, decimal_digit, length-decimal-le}
 use Rattle.std.proofs.lemmas.List.Folds.{length-flat_map-take}
-use Rattle.fab_plans_steps.specs.Texts.{words_of}
-use Rattle.fab_plans_steps.specs.Steps.{PlanStep}
-use Rattle.fab_plans_steps.specs.Forms.{form_of, Takes, keyword_of, values_of}
-use Rattle.fab_plans_steps.specs.Plans.{SpellsStep, IsStep, step_text, plan_text}
+use Rattle.fab_plans_base.specs.Texts.{words_of}
+use Rattle.fab_plans_base.specs.Steps.{PlanStep}
+use Rattle.fab_plans_base.specs.Forms.{form_of, Takes, keyword_of, values_of}
+use Rattle.fab_plans_base.specs.Plans.{SpellsStep, IsStep, step_text, plan_text}
 use Rattle.fab_plans_text.proofs.Unique.{as_many_values}
 
 -- the digits of a number are those of a tenth of it, and one more

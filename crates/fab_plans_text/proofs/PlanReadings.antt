@@ -3,10 +3,10 @@ use Rattle.std.specs.List.{onto_first}
 use Rattle.std.proofs.Common.{ℕ, ◌≡◌, ◌≢◌, ◌≤◌, ◌+◌, suc, Bool, true, false, cond, eqb, List, [], ◌∷◌, ◌++◌, length, length-append, append_assoc, append-nil, refl, sym, ap, ◌∙◌, subst, ◌⊎◌, inl, inr, arith}
 use Rattle.std.specs.Str.{IsUtf8}
 use Rattle.std.proofs.lemmas.Bool.{false≢true, ne_eqb}
-use Rattle.fab_plans_steps.specs.Limits.{most_bytes, most_steps}
-use Rattle.fab_plans_steps.specs.Texts.{lines_of, words_of}
-use Rattle.fab_plans_steps.specs.Steps.{PlanStep}
-use Rattle.fab_plans_steps.specs.Plans.{SpellsStep, SpellsLines}
+use Rattle.fab_plans_base.specs.Limits.{most_bytes, most_steps}
+use Rattle.fab_plans_base.specs.Texts.{lines_of, words_of}
+use Rattle.fab_plans_base.specs.Steps.{PlanStep}
+use Rattle.fab_plans_base.specs.Plans.{SpellsStep, SpellsLines}
 use Rattle.fab_plans_text.specs.Faults.{IsFaultAt, HasTooManyLines, HasFaultyLine}
 use Rattle.fab_plans_text.specs.declared.fault.PlanFault.{PlanFault}
 use Rattle.fab_plans_text.specs.declared.fault.PlanFaultKind.TheVariants as kind

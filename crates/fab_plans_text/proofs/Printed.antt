@@ -19,15 +19,15 @@ use Rattle.fab_names.proofs.Numerals.{printed_number, all_digits}
 use Rattle.fab_names.proofs.Printed.{printed_spells}
 use Rattle.fab_names.proofs.Splits.{Lacks}
 use Rattle.fab_zoning.specs.declared.flag.DefaultFlag.TheVariants.{Permit, Deny}
-use Rattle.fab_plans_steps.specs.Texts.{lines_of, words_of}
-use Rattle.fab_plans_steps.specs.Values.{Value, of_fabric, of_name, of_flag, of_member, of_port_member, of_wwn, of_unit, value_text, SpellsValue, SpellsValues}
-use Rattle.fab_plans_steps.specs.Steps.{PlanStep}
-use Rattle.fab_plans_steps.specs.Forms.{keyword_text, form_of, Takes, keyword_of, values_of}
-use Rattle.fab_plans_steps.specs.Plans.{SpellsStep, IsStep, SpellsLines, IsWithinLimits, Spells, spaced, step_text, plan_text}
-use Rattle.fab_plans_steps.specs.declared.keyword.Keyword.{Keyword}
-use Rattle.fab_plans_steps.specs.declared.keyword.Keyword.TheVariants.{Zoning, Mapping}
-use Rattle.fab_plans_steps.specs.declared.zoning_keyword.ZoningKeyword.TheVariants as zoning
-use Rattle.fab_plans_steps.specs.declared.mapping_keyword.MappingKeyword.TheVariants as mapping
+use Rattle.fab_plans_base.specs.Texts.{lines_of, words_of}
+use Rattle.fab_plans_base.specs.Values.{Value, of_fabric, of_name, of_flag, of_member, of_port_member, of_wwn, of_unit, value_text, SpellsValue, SpellsValues}
+use Rattle.fab_plans_base.specs.Steps.{PlanStep}
+use Rattle.fab_plans_base.specs.Forms.{keyword_text, form_of, Takes, keyword_of, values_of}
+use Rattle.fab_plans_base.specs.Plans.{SpellsStep, IsStep, SpellsLines, IsWithinLimits, Spells, spaced, step_text, plan_text}
+use Rattle.fab_plans_base.specs.declared.keyword.Keyword.{Keyword}
+use Rattle.fab_plans_base.specs.declared.keyword.Keyword.TheVariants.{Zoning, Mapping}
+use Rattle.fab_plans_base.specs.declared.zoning_keyword.ZoningKeyword.TheVariants as zoning
+use Rattle.fab_plans_base.specs.declared.mapping_keyword.MappingKeyword.TheVariants as mapping
 use Rattle.fab_plans_text.proofs.Cuts.{first_word_cut, only_word, first_line_cut}
 use Rattle.fab_plans_text.proofs.Unique.{as_many_values, one_plan}
 

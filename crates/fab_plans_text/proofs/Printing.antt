@@ -2,8 +2,8 @@
 use Rattle.std.proofs.Common.{◌≡◌, List, [], ◌∷◌, ◌++◌, map, refl, ap}
 use Rattle.std.specs.List.{flat_map}
 use Rattle.fab_names.specs.declared.member.Member.{Member}
-use Rattle.fab_plans_steps.specs.Values.{of_member, of_port_member}
-use Rattle.fab_plans_steps.specs.Plans.{spaced}
+use Rattle.fab_plans_base.specs.Values.{of_member, of_port_member}
+use Rattle.fab_plans_base.specs.Plans.{spaced}
 
 -- members are printed the same whether they may be aliases or not
 pub printed_members : (ms : List Member) → flat_map spaced (map of_port_member ms) ≡ flat_map spaced (map of_member ms)

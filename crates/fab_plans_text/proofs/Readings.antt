@@ -3,13 +3,13 @@ use Rattle.std.proofs.Common.{ℕ, ◌≡◌, ◌-◌, List, [], ◌∷◌, leng
 use Rattle.std.proofs.lemmas.List.{take_all, length-map}
 use Rattle.std.proofs.lemmas.List.Splits.{length-slice_split}
 use Rattle.std.proofs.lemmas.Bool.{false≢true}
-use Rattle.fab_plans_steps.specs.Texts.{words_of}
-use Rattle.fab_plans_steps.specs.Values.{texts_of}
-use Rattle.fab_plans_steps.specs.Steps.{PlanStep}
-use Rattle.fab_plans_steps.specs.Forms.{keyword_text, form_of, Takes}
-use Rattle.fab_plans_steps.specs.Plans.{SpellsStep}
+use Rattle.fab_plans_base.specs.Texts.{words_of}
+use Rattle.fab_plans_base.specs.Values.{texts_of}
+use Rattle.fab_plans_base.specs.Steps.{PlanStep}
+use Rattle.fab_plans_base.specs.Forms.{keyword_text, form_of, Takes}
+use Rattle.fab_plans_base.specs.Plans.{SpellsStep}
 use Rattle.fab_plans_text.specs.Faults.{MemoryOr, ReadsWords, IsLineFault}
-use Rattle.fab_plans_steps.specs.declared.keyword.Keyword.{Keyword}
+use Rattle.fab_plans_base.specs.declared.keyword.Keyword.{Keyword}
 use Rattle.fab_plans_text.specs.declared.fault.PlanFaultKind.{PlanFaultKind}
 use Rattle.fab_plans_text.specs.declared.fault.PlanFaultKind.TheVariants.{Count}
 

@@ -1,11 +1,11 @@
 -- What the words of a line spell, one after another.
 use Rattle.std.proofs.Common.{ℕ, ◌≡◌, ◌<◌, ◌+◌, suc, zero, ◌-◌, drop, List, [], ◌∷◌, ◌++◌, length, get_or, take, map, replicate, refl, subst, arith, inl, inr, add-one, Bor}
 use Rattle.std.proofs.lemmas.List.{length-map, take_all}
-use Rattle.fab_plans_steps.specs.Steps.{PlanStep}
-use Rattle.fab_plans_steps.specs.Forms.{keyword_text, form_of, keyword_of, values_of, Takes}
-use Rattle.fab_plans_steps.specs.Plans.{SpellsWords, IsStep}
+use Rattle.fab_plans_base.specs.Steps.{PlanStep}
+use Rattle.fab_plans_base.specs.Forms.{keyword_text, form_of, keyword_of, values_of, Takes}
+use Rattle.fab_plans_base.specs.Plans.{SpellsWords, IsStep}
 use Rattle.fab_names.specs.WorldWideNames.{SpellsWwn}
-use Rattle.fab_plans_steps.specs.Values.{Kind, a_wwn, kind_of, Value, of_wwn, SpellsValue, SpellsValues, texts_of}
+use Rattle.fab_plans_base.specs.Values.{Kind, a_wwn, kind_of, Value, of_wwn, SpellsValue, SpellsValues, texts_of}
 use Rattle.fab_plans_text.specs.Faults.{IsOfKind, IsMisread, IsFirstFault, MemoryOr}
 use Rattle.fab_plans_text.specs.declared.fault.PlanFaultKind.{PlanFaultKind}
 use Rattle.fab_plans_text.proofs.Printed.{line_text, step_again}

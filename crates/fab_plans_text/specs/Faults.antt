@@ -1,12 +1,12 @@
 -- The faults of plan texts: which stands, and that it stands first.
 use Rattle.std.specs.Prelude.{ℕ, ◌≡◌, ◌+◌, ◌<◌, ◌≤◌, List, [], ◌∷◌, ◌++◌, length, ◌⊎◌, Result, MatchResult}
-use Rattle.fab_plans_steps.specs.Limits.{most_bytes, most_steps}
-use Rattle.fab_plans_steps.specs.Texts.{lines_of, words_of}
-use Rattle.fab_plans_steps.specs.Values.{Kind, kind_of, Value, SpellsValue, a_fabric, a_name, a_flag, a_member, a_port_member, a_wwn, a_unit}
-use Rattle.fab_plans_steps.specs.Steps.{PlanStep}
-use Rattle.fab_plans_steps.specs.Forms.{keyword_text, form_of, Takes, kinds_in}
-use Rattle.fab_plans_steps.specs.Plans.{SpellsStep, SpellsLines, plan_text}
-use Rattle.fab_plans_steps.specs.declared.keyword.Keyword.{Keyword}
+use Rattle.fab_plans_base.specs.Limits.{most_bytes, most_steps}
+use Rattle.fab_plans_base.specs.Texts.{lines_of, words_of}
+use Rattle.fab_plans_base.specs.Values.{Kind, kind_of, Value, SpellsValue, a_fabric, a_name, a_flag, a_member, a_port_member, a_wwn, a_unit}
+use Rattle.fab_plans_base.specs.Steps.{PlanStep}
+use Rattle.fab_plans_base.specs.Forms.{keyword_text, form_of, Takes, kinds_in}
+use Rattle.fab_plans_base.specs.Plans.{SpellsStep, SpellsLines, plan_text}
+use Rattle.fab_plans_base.specs.declared.keyword.Keyword.{Keyword}
 use Rattle.fab_plans_text.specs.declared.fault.PlanFaultKind.{PlanFaultKind}
 use Rattle.fab_plans_text.specs.declared.fault.PlanFaultKind.TheVariants as kind
 use Rattle.fab_plans_text.specs.declared.fault.PlanFault.{PlanFault}

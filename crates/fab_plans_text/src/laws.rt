@@ -1,7 +1,7 @@
 //! What holds of plan texts and of the printed forms of steps.
 ghost use Rattle.std.specs.Prelude.{◌≡◌, ℕ, List, All};
-ghost use Rattle.fab_plans_steps.specs.Steps.{PlanStep};
-ghost use Rattle.fab_plans_steps.specs.Plans.{IsStep, IsWithinLimits, Spells, plan_text};
+ghost use Rattle.fab_plans_base.specs.Steps.{PlanStep};
+ghost use Rattle.fab_plans_base.specs.Plans.{IsStep, IsWithinLimits, Spells, plan_text};
 
 /// A text spells one plan at most.
 pub fn one_plan_a_text()

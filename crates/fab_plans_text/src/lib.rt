@@ -14,7 +14,7 @@ mod print;
 mod word;
 mod zoning_line;
 
-pub use fab_plans_steps::{
+pub use fab_plans_base::{
     Action, Keyword, LAST_UNIT, MOST_BYTES, MOST_ITEMS, MOST_STEPS, MappingAction, MappingKeyword,
     Step, ZoningAction, ZoningKeyword,
 };

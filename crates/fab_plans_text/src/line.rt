@@ -1,9 +1,9 @@
 //! The lines of a plan text.
 ghost use Rattle.std.specs.Prelude.{◌≡◌, ◌==◌, count_by, ℕ, List, ◌∷◌, length, MatchResult, IfOk};
-ghost use Rattle.fab_plans_steps.specs.Texts.{words_of};
-ghost use Rattle.fab_plans_steps.specs.Values.{texts_of};
-ghost use Rattle.fab_plans_steps.specs.Forms.{form_of, Takes};
-ghost use Rattle.fab_plans_steps.specs.Plans.{SpellsStep};
+ghost use Rattle.fab_plans_base.specs.Texts.{words_of};
+ghost use Rattle.fab_plans_base.specs.Values.{texts_of};
+ghost use Rattle.fab_plans_base.specs.Forms.{form_of, Takes};
+ghost use Rattle.fab_plans_base.specs.Plans.{SpellsStep};
 ghost use Rattle.fab_plans_text.specs.Faults.{IsLineFault, MemoryOr, ReadsWords};
 
 use crate::mapping_line::mapping_words;

@@ -1,9 +1,9 @@
 //! The words of mapping lines that follow the first.
 ghost use Rattle.std.specs.Prelude.{length};
-ghost use Rattle.fab_plans_steps.specs.Values.{texts_of};
-ghost use Rattle.fab_plans_steps.specs.Forms.{form_of, Takes};
+ghost use Rattle.fab_plans_base.specs.Values.{texts_of};
+ghost use Rattle.fab_plans_base.specs.Forms.{form_of, Takes};
 ghost use Rattle.fab_plans_text.specs.Faults.{ReadsWords};
-ghost use Rattle.fab_plans_steps.specs.declared.keyword.Keyword.TheVariants.{Mapping};
+ghost use Rattle.fab_plans_base.specs.declared.keyword.Keyword.TheVariants.{Mapping};
 
 use crate::word::{name, name_unit, name_unit_name, name_wwn, names, three_names, two_names};
 use crate::{Action, MappingAction, MappingKeyword, PlanFaultKind, Step};

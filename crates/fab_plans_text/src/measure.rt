@@ -3,11 +3,11 @@ ghost use Rattle.std.specs.Prelude.{◌≡◌, ◌<◌, ◌≤◌, ◌^◌, ◌�
 ghost use Rattle.std.specs.List.{flat_map};
 ghost use Rattle.fab_names.specs.WorldWideNames.{wwn_text};
 ghost use Rattle.fab_names.specs.Members.{member_text};
-ghost use Rattle.fab_plans_steps.specs.Limits.{most_bytes, most_items};
-ghost use Rattle.fab_plans_steps.specs.Values.{of_fabric, of_name, of_member};
-ghost use Rattle.fab_plans_steps.specs.Actions.{zoning_step, mapping_step};
-ghost use Rattle.fab_plans_steps.specs.Forms.{values_of};
-ghost use Rattle.fab_plans_steps.specs.Plans.{spaced, step_text, plan_text, IsStep, IsWithinLimits};
+ghost use Rattle.fab_plans_base.specs.Limits.{most_bytes, most_items};
+ghost use Rattle.fab_plans_base.specs.Values.{of_fabric, of_name, of_member};
+ghost use Rattle.fab_plans_base.specs.Actions.{zoning_step, mapping_step};
+ghost use Rattle.fab_plans_base.specs.Forms.{values_of};
+ghost use Rattle.fab_plans_base.specs.Plans.{spaced, step_text, plan_text, IsStep, IsWithinLimits};
 
 use crate::print::flag_word;
 use crate::{Action, MOST_BYTES, MOST_STEPS, MappingAction, Step, ZoningAction};

@@ -1,10 +1,10 @@
 //! Plan texts.
 ghost use Rattle.std.specs.Prelude.{◌≡◌, ◌≢◌, ℕ, ◌<◌, ◌≤◌, List, [], ◌∷◌, length, MatchResult, IfSome, IfNone, IfOk, IfErr, ◌⊎◌};
 ghost use Rattle.std.specs.Str.{IsUtf8};
-ghost use Rattle.fab_plans_steps.specs.Limits.{most_bytes, most_steps};
-ghost use Rattle.fab_plans_steps.specs.Texts.{lines_of, words_of, IsCut};
-ghost use Rattle.fab_plans_steps.specs.Steps.{PlanStep};
-ghost use Rattle.fab_plans_steps.specs.Plans.{SpellsStep, AreRead, Spells};
+ghost use Rattle.fab_plans_base.specs.Limits.{most_bytes, most_steps};
+ghost use Rattle.fab_plans_base.specs.Texts.{lines_of, words_of, IsCut};
+ghost use Rattle.fab_plans_base.specs.Steps.{PlanStep};
+ghost use Rattle.fab_plans_base.specs.Plans.{SpellsStep, AreRead, Spells};
 ghost use Rattle.fab_plans_text.specs.Faults.{IsFaultAt, HasTooManyLines, HasFaultyLine, IsPlanFault};
 ghost use Rattle.fab_plans_text.specs.declared.fault.PlanFaultKind.TheVariants as kind;
 

@@ -2,10 +2,10 @@
 ghost use Rattle.std.specs.Prelude.{◌≡◌, ℕ, List, ◌++◌, map, OnOk, IfOk};
 ghost use Rattle.std.specs.List.{flat_map};
 ghost use Rattle.std.specs.String.{string_bytes};
-ghost use Rattle.fab_plans_steps.specs.Values.{Value, of_name, of_member, of_port_member, flag_text};
-ghost use Rattle.fab_plans_steps.specs.Actions.{zoning_step, mapping_step};
-ghost use Rattle.fab_plans_steps.specs.Forms.{values_of};
-ghost use Rattle.fab_plans_steps.specs.Plans.{spaced, step_text, plan_text, IsStep, IsWithinLimits, Spells};
+ghost use Rattle.fab_plans_base.specs.Values.{Value, of_name, of_member, of_port_member, flag_text};
+ghost use Rattle.fab_plans_base.specs.Actions.{zoning_step, mapping_step};
+ghost use Rattle.fab_plans_base.specs.Forms.{values_of};
+ghost use Rattle.fab_plans_base.specs.Plans.{spaced, step_text, plan_text, IsStep, IsWithinLimits, Spells};
 
 use crate::{Action, MappingAction, Step, ZoningAction};
 use fab_names::{Member, Name};

@@ -1,9 +1,9 @@
 //! The words of zoning lines that follow the first.
 ghost use Rattle.std.specs.Prelude.{length};
-ghost use Rattle.fab_plans_steps.specs.Values.{texts_of};
-ghost use Rattle.fab_plans_steps.specs.Forms.{form_of, Takes};
+ghost use Rattle.fab_plans_base.specs.Values.{texts_of};
+ghost use Rattle.fab_plans_base.specs.Forms.{form_of, Takes};
 ghost use Rattle.fab_plans_text.specs.Faults.{ReadsWords};
-ghost use Rattle.fab_plans_steps.specs.declared.keyword.Keyword.TheVariants.{Zoning};
+ghost use Rattle.fab_plans_base.specs.declared.keyword.Keyword.TheVariants.{Zoning};
 
 use crate::word::{fabric, fabric_flag, fabric_name, members, names, port_members};
 use crate::{Action, PlanFaultKind, Step, ZoningAction, ZoningKeyword};

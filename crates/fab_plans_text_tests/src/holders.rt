@@ -1,7 +1,7 @@
 //! Bodies of hosts and arrays.
 
 use fab_names::Wwn;
-use fab_wire_bodies::{BodyFault, HolderBody, read_holder};
+use fab_wire_requests::{BodyFault, HolderBody, read_holder};
 use std::alloc::Global;
 use std::process::Abort;
 

@@ -1,6 +1,6 @@
 //! Bodies of volumes.
 
-use fab_wire_bodies::{BodyFault, read_volume};
+use fab_wire_requests::{BodyFault, read_volume};
 use std::alloc::Global;
 
 /// What a body says: its array, its bytes, and its tenant.

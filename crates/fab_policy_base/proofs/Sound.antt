@@ -3,7 +3,7 @@ use Rattle.std.proofs.Common.{◌≡◌, ℕ, ◌<◌, ◌≤◌, List, [], ◌�
 use Rattle.std.specs.Prelude.{IsSomeAnd, IfSome, MatchOption, All, codes}
 use Rattle.std.proofs.lemmas.List.Elements.{All-nil, All-cons, All-same}
 use Rattle.toml.specs.Data.{Data, Items, no_items, item, Members, get_member, as_table}
-use Rattle.fab_names_tokens.specs.Tokens.{IsTokenText}
+use Rattle.fab_names.specs.Tokens.{IsTokenText}
 use Rattle.fab_policy_base.specs.Forms.{IsName, IsToken, AreTenants, IsWeekSpan, IsFreeze, IsRuleName, AreActions, IsCount, QuorumIn}
 use Rattle.fab_policy_base.specs.Limits.{most_callers, most_windows, most_rules, most_roles, most_tenants, most_weekly, most_freezes, most_approvals}
 use Rattle.fab_policy_base.specs.Policies.{TenantNames, CallerRow, WindowRow, RuleRow, PolicyRows}

@@ -1,7 +1,7 @@
 -- What the values of a policy's text mean.
 use Rattle.std.specs.Prelude.{◌≡◌, ℕ, ◌<◌, ◌≤◌, pos, Bool, false, List, [], Option, Some, None, IsSome, MatchOption, codes, ◌⊎◌}
 use Rattle.fab_names.specs.Names.{IsNameText}
-use Rattle.fab_names_tokens.specs.Tokens.{IsTokenText}
+use Rattle.fab_names.specs.Tokens.{IsTokenText}
 use Rattle.toml.specs.Data.{Data, Items, no_items, item, Members, get_member, as_str, as_integer, as_array, as_bool}
 use Rattle.fab_policy_base.specs.Limits.{most_tenants, most_approvals}
 use Rattle.fab_policy_base.specs.Policies.{TenantNames}

@@ -1,6 +1,6 @@
 -- What holds of every policy: names and tokens stand once, each window that a rule names is there, and no limit is passed.
 use Rattle.std.specs.Prelude.{◌≡◌, ℕ, ◌<◌, ◌≤◌, true, List, [], length, map, Option, Some, IfSome, Contains, All, slice_get, codes}
-use Rattle.fab_names_tokens.specs.Tokens.{IsTokenText}
+use Rattle.fab_names.specs.Tokens.{IsTokenText}
 use Rattle.fab_policy_base.specs.Callers.{has_name}
 use Rattle.fab_policy_base.specs.Limits.{most_callers, most_windows, most_rules, most_roles, most_tenants, most_weekly, most_freezes, most_approvals}
 use Rattle.fab_policy_base.specs.Policies.{CallerRow, WindowRow, RuleRow, PolicyRows}

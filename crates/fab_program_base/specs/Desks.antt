@@ -1,7 +1,7 @@
 -- The desk of the program.
 use Rattle.std.specs.declared.alloc.Global.{Global}
-use Rattle.fab_reach_book.specs.declared.PortBook.{PortBook}
-use Rattle.fab_reach_book.specs.declared.PortStep.{PortStep}
+use Rattle.fab_reach.specs.declared.PortBook.{PortBook}
+use Rattle.fab_reach.specs.declared.PortStep.{PortStep}
 use Rattle.fab_wire.specs.declared.Desk.{Desk}
 
 -- the desk over a store, with the book of paths by their ports

@@ -1,7 +1,7 @@
 -- How the program ends.
 use Rattle.std.specs.Prelude.{ℕ, ◌≡◌, ◌⊎◌, List, Result, Ok, Err}
-use Rattle.fab_files_printing.specs.declared.printing.End.{End}
-use Rattle.fab_files_printing.specs.declared.printing.End.TheVariants.{Done, Refused}
+use Rattle.fab_files.specs.declared.printing.End.{End}
+use Rattle.fab_files.specs.declared.printing.End.TheVariants.{Done, Refused}
 use Rattle.fab_program_outside.specs.declared.faults.Fault.{Fault}
 use Rattle.fab_program_outside.specs.declared.faults.Fault.TheVariants.{Stream, Listen, Clock}
 use Rattle.fab_wire_serving.specs.declared.serving.ServeFault.{ServeFault}

@@ -2,12 +2,12 @@
 use Rattle.std.specs.Prelude.{ℕ, ◌≡◌, ◌⊎◌, List, Option, Result, Ok, Err}
 use Rattle.std.specs.Io.KnownBytes.{Appends}
 use Rattle.fab_wire_answers.specs.declared.answers.Answer.{Answer}
-use Rattle.fab_files_printing.specs.Ends.{end_of}
-use Rattle.fab_files_printing.specs.Printed.{IsPrinted}
-use Rattle.fab_files_printing.specs.declared.forms.Form.{Form}
-use Rattle.fab_files_printing.specs.declared.printing.End.{End}
-use Rattle.fab_files_printing.specs.declared.printing.PrintFault.{PrintFault}
-use Rattle.fab_files_printing.specs.declared.printing.PrintFault.TheVariants as print
+use Rattle.fab_files.specs.Ends.{end_of}
+use Rattle.fab_files.specs.Printed.{IsPrinted}
+use Rattle.fab_files.specs.declared.forms.Form.{Form}
+use Rattle.fab_files.specs.declared.printing.End.{End}
+use Rattle.fab_files.specs.declared.printing.PrintFault.{PrintFault}
+use Rattle.fab_files.specs.declared.printing.PrintFault.TheVariants as print
 use Rattle.fab_program_outside.specs.declared.faults.Fault.{Fault}
 use Rattle.fab_program_outside.specs.declared.faults.Fault.TheVariants as fault
 

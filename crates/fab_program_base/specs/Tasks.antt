@@ -9,13 +9,13 @@ use Rattle.fab_desk_base.specs.declared.command.Command.TheVariants as command
 use Rattle.fab_desk_base.specs.declared.fault.DeskFault.TheVariants as refusal
 use Rattle.fab_desk_base.specs.declared.reply.Reply.{Reply}
 use Rattle.fab_desk_base.specs.declared.reply.Reply.TheVariants as reply
-use Rattle.fab_wire_port_lists.specs.PortLists.{ListsPorts, IsFaultAt}
+use Rattle.fab_wire_requests.specs.PortLists.{ListsPorts, IsFaultAt}
 use Rattle.fab_names.specs.declared.fabric.Fabric.{Fabric}
 use Rattle.fab_policy_base.specs.Callers.{HasToken}
 use Rattle.fab_policy_base.specs.Policies.{PolicyRows}
-use Rattle.fab_files_printing.specs.declared.forms.Form.{Form}
-use Rattle.fab_files_printing.specs.declared.forms.Form.TheVariants.{Json}
-use Rattle.fab_files_printing.specs.declared.printing.End.{End}
+use Rattle.fab_files.specs.declared.forms.Form.{Form}
+use Rattle.fab_files.specs.declared.forms.Form.TheVariants.{Json}
+use Rattle.fab_files.specs.declared.printing.End.{End}
 use Rattle.fab_program_outside.specs.Coming.{After, Then}
 use Rattle.fab_program_outside.specs.declared.faults.Fault.{Fault}
 use Rattle.fab_store.specs.declared.Store as store

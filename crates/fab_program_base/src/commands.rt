@@ -1,7 +1,7 @@
 //! The commands of one caller at a database: `import`, `paths`, `report`, `export` and `dryrun`.
 ghost use Rattle.std.specs.Prelude.{◌≡◌, ℕ, Ok};
 ghost use Rattle.fab_desk_base.specs.declared.command.Query.TheVariants as queries;
-ghost use Rattle.fab_files_printing.specs.declared.forms.Form.TheVariants as forms;
+ghost use Rattle.fab_files.specs.declared.forms.Form.TheVariants as forms;
 ghost use Rattle.fab_program_outside.specs.Coming.{After, Then};
 ghost use Rattle.fab_program_base.specs.Commands.{ComesBy, ComesIn, DryRunComes, ImportComes, ImportComesIn, ShowComes};
 ghost use Rattle.fab_program_base.specs.Tasks.{AnswersTask};
@@ -10,7 +10,7 @@ ghost use Rattle.fab_program_base.specs.Tasks as tasks;
 use crate::database::Databases;
 use crate::tasks::{Call, Task, do_over};
 use fab_desk_base::Query;
-use fab_files_printing::{End, Form};
+use fab_files::{End, Form};
 use fab_policy_base::Policy;
 use fab_program_options::{Access, DryRun, Export, Import, Paths};
 use fab_program_outside::{Fault, Files, bytes_of, policy_of};

@@ -5,7 +5,7 @@ ghost use Rattle.fab_program_base.specs.Databases.{IsAgain, IsDeskOver, IsMade, 
 
 use fab_policy_base::Policy;
 use fab_program_outside::{Fault, Files, is_free};
-use fab_reach_book::PortBook;
+use fab_reach::PortBook;
 use fab_store::{OpenFault, Store};
 use fab_wire::Desk;
 use std::alloc::Global;

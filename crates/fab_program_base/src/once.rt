@@ -12,7 +12,7 @@ ghost use Rattle.fab_program_base.specs.Once.{ComesOnce, IsServedAt, IsServedOve
 
 use crate::database::{Databases, ProgramDesk, desk_over};
 use crate::machine::new_tables;
-use fab_files_printing::End;
+use fab_files::End;
 use fab_policy_base::{Policy, TRIAL_POLICY};
 use fab_program_options::{Once, Over};
 use fab_program_outside::{Fault, Files, policy_from, policy_of};

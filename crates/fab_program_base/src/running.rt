@@ -16,7 +16,7 @@ use crate::commands::{dry_run, export, import, paths, report};
 use crate::database::{Databases, make};
 use crate::once::once;
 use crate::serving::serve;
-use fab_files_printing::End;
+use fab_files::End;
 use fab_program_options::{Words, WordsFault, read_words};
 use fab_program_outside::{Fault, Files, Machine, fail, moment_of, refuse_text};
 use fab_store::{SqlStore, Store};

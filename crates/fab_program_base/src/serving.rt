@@ -7,7 +7,7 @@ ghost use Rattle.fab_program_base.specs.Servings.{ComesServing, IsServedAt, IsSe
 use crate::addresses::Addresses;
 use crate::database::{Databases, ProgramDesk, desk_over, tables_again};
 use crate::front::Front;
-use fab_files_printing::End;
+use fab_files::End;
 use fab_policy_base::Policy;
 use fab_program_options::Serve;
 use fab_program_outside::{Fault, Files, policy_of};

@@ -8,14 +8,14 @@ ghost use Rattle.fab_program_base.specs.Tasks as tasks;
 
 use crate::database::{ProgramDesk, desk_over};
 use fab_desk_base::{Command, DeskFault, Query, Reply};
-use fab_files_printing::{End, Form, PrintFault, print};
+use fab_files::{End, Form, PrintFault, print};
 use fab_names::{Fabric, Name};
 use fab_policy_base::Policy;
 use fab_program_outside::{Fault, is_too_large};
 use fab_store::Store;
 use fab_wire_answers::answers::Answer;
 use fab_wire_base::requests::Refusal;
-use fab_wire_port_lists::port_list::{FileFault, read_ports};
+use fab_wire_requests::port_list::{FileFault, read_ports};
 use std::alloc::Global;
 use std::io::Write;
 

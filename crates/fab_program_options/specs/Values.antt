@@ -1,7 +1,7 @@
 -- The text forms of values.
 use Rattle.std.specs.Prelude.{ℕ, ◌≡◌, ◌<◌, ◌^◌, List, Option, Some, None}
 use Rattle.fab_names.specs.Numbers.{SpellsNumber}
-use Rattle.fab_names_tokens.specs.Tokens.{IsTokenText}
+use Rattle.fab_names.specs.Tokens.{IsTokenText}
 
 -- a value was given, and its text spells x
 abbrev pub Has : {X : Type 0} → (List ℕ → X → Type 0) → Option (List ℕ) → X → Type 0

@@ -9,8 +9,7 @@ ghost use Rattle.fab_program_options.specs.Values.{Has, MayHave, SpellsToken, Sp
 
 use crate::options::OptionKind;
 use clap::ArgMatches;
-use fab_names::{Fabric, Name, read_number};
-use fab_names_tokens::is_token;
+use fab_names::{Fabric, Name, is_token, read_number};
 
 /// The value of an option, if it was given.
 pub fn text_in<'a>(given: &ArgMatches<'a>, option: OptionKind) -> Option<&'a str>

@@ -7,8 +7,8 @@
 
 use super::answers::{Asking, asking_of, is_given};
 use super::desks::{Asked, Trial, desk_of, made};
+use fab_reach::PortBook;
 use fab_reach_base::PathBook;
-use fab_reach_book::PortBook;
 use fab_store::{SqlStore, Store};
 use fab_test_alloc::Refusing;
 use fab_test_wire::rows::{

@@ -3,7 +3,7 @@
 
 use super::answers::{asking_of, is_given};
 use super::desks::{Asked, Trial, desk_of, made};
-use fab_reach_book::PortBook;
+use fab_reach::PortBook;
 use fab_store::SqlStore;
 use fab_test_alloc::Refusing;
 use sqlite::{Connection, MemStore};

@@ -9,8 +9,7 @@ use fab_store_sql::{
     Line, apply, create_text, delete_text, has_tables, init, insert_text, paths_text, read_all,
     read_paths_of, select_text,
 };
-use fab_store_tables::{LineChanges, Table, TableLine};
-use fab_store_undo::UndoLine;
+use fab_store_tables::{LineChanges, Table, TableLine, UndoLine};
 use sqlite::{Connection, MemStore};
 use std::alloc::Global;
 use std::collections::BTreeSet;

@@ -4,9 +4,9 @@ use crate::steps::{Act, change, empty};
 use crate::stock::{DB1, DB2, DB9, G1, V1, name, stock};
 use crate::ways::{Ways, assert_ways};
 use fab_inventory::Inventory;
+use fab_reach::PortBook;
 use fab_reach_base::laws::{advance_all, are_serving};
 use fab_reach_base::{Config, Delta, PathBook, PlainBook, View};
-use fab_reach_book::PortBook;
 use std::alloc::Global;
 use std::process::Abort;
 

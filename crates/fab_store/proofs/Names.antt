@@ -15,8 +15,8 @@ use Rattle.std.proofs.lemmas.List.Elements.{Contains-append_left, Contains-appen
 use Rattle.std.proofs.lemmas.List.Folds.{list_any_at}
 use Rattle.std.proofs.lemmas.Map.Text.{is_eq-slice_cmp}
 use Rattle.fab_store_columns.specs.PlanLines.{PlanColumns}
-use Rattle.fab_store_moves.proofs.Distinct.{join_distinct, map_in}
-use Rattle.fab_store_listing.specs.Listing.{AreDistinct}
+use Rattle.fab_store_base.proofs.Distinct.{join_distinct, map_in}
+use Rattle.fab_store_tables.specs.Listing.{AreDistinct}
 use Rattle.fab_store.specs.Loading.{HaveNamesOnce}
 
 head_in : {X : Type 0} (x : X) (xs : List X) → Contains (x ∷ xs) x

@@ -7,7 +7,7 @@ use Rattle.fab_store_columns.specs.RecordLines.{PathColumns, ShowsPath}
 use Rattle.fab_store_load.specs.declared.fault.Table.TheVariants as table
 use Rattle.fab_reach_base.specs.Orders.{IsListOf}
 use Rattle.fab_reach_base.specs.declared.path.Path.{Path}
-use Rattle.fab_store_listing.specs.Paths.{IsPathOf}
+use Rattle.fab_store_tables.specs.Paths.{IsPathOf}
 use Rattle.fab_store_sql.specs.Reading.{AreLinesOf, IsOfHost}
 use Rattle.fab_store_base.specs.Worlds.{HasPathOf, ArePathsIn}
 use Rattle.fab_store_tables.specs.Columns.{path_row}

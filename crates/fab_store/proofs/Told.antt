@@ -4,9 +4,9 @@ use Rattle.sqlite.specs.Effect.{Database}
 use Rattle.sqlite.specs.Order.{Row}
 use Rattle.fab_store_load.specs.declared.fault.Table.{Table}
 use Rattle.fab_store_load.specs.declared.fault.Table.TheVariants as table
-use Rattle.fab_store_moves.proofs.Distinct.{in_map, map_in}
-use Rattle.fab_store_moves.specs.Opened.{tables_of}
-use Rattle.fab_store_listing.specs.declared.lines.TableLines.{TableLines}
+use Rattle.fab_store_base.proofs.Distinct.{in_map, map_in}
+use Rattle.fab_store_base.specs.Opened.{tables_of}
+use Rattle.fab_store_tables.specs.declared.lines.TableLines.{TableLines}
 use Rattle.fab_store_sql.specs.Reading.{IsAny, AreLinesOf}
 use Rattle.fab_store_sql.specs.Rows.{IsKeyed}
 use Rattle.fab_store_sql.specs.Trees.{tree_of, show_of}

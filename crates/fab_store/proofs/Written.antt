@@ -1,19 +1,19 @@
 -- Worlds whose rows are written in lines.
 use Rattle.std.proofs.Common.{ℕ, zero, suc, ◌≡◌, ◌<◌, ◌≤◌, List, [], ◌∷◌, slice_get, Some, Contains, refl, sym, ap, ◌∙◌, subst, arith}
 use Rattle.std.proofs.lemmas.Option.{slice_get_within, get_or_from_slice_get}
-use Rattle.fab_store_changes.specs.Standing.{HaveRows}
+use Rattle.fab_store_world.specs.Standing.{HaveRows}
 use Rattle.fab_store_columns.specs.MetaLines.{MetaColumns, ShowsMeta}
 use Rattle.fab_store_columns.specs.declared.meta_lines.MetaRow.{MetaRow}
 use Rattle.fab_store_columns.specs.declared.meta_lines.MetaRow.TheVariants as meta
 use Rattle.fab_store_load.specs.declared.fault.Table.{Table}
 use Rattle.fab_store_load.specs.declared.fault.Table.TheVariants as table
-use Rattle.fab_store_moves.proofs.Columns.{one_meta}
-use Rattle.fab_store_moves.proofs.Distinct.{in_map, map_in}
-use Rattle.fab_store_moves.specs.Opened.{tables_of, HasLines, HasNoWorld}
-use Rattle.fab_store_moves.specs.Standing.{StandsRow}
-use Rattle.fab_store_listing.specs.Listing.{AreDistinct}
-use Rattle.fab_store_listing.specs.Rows.{AnyRow, count, port, holder, volume, config_row, plan, approval, undo, path, ShowsRow}
-use Rattle.fab_store_listing.specs.declared.lines.TableLines.{TableLines}
+use Rattle.fab_store_base.proofs.Columns.{one_meta}
+use Rattle.fab_store_base.proofs.Distinct.{in_map, map_in}
+use Rattle.fab_store_base.specs.Opened.{tables_of, HasLines, HasNoWorld}
+use Rattle.fab_store_base.specs.Standing.{StandsRow}
+use Rattle.fab_store_tables.specs.Listing.{AreDistinct}
+use Rattle.fab_store_tables.specs.Rows.{AnyRow, count, port, holder, volume, config_row, plan, approval, undo, path, ShowsRow}
+use Rattle.fab_store_tables.specs.declared.lines.TableLines.{TableLines}
 use Rattle.fab_store_rows.specs.declared.config_row.ConfigRow.TheVariants as config
 use Rattle.fab_store_rows.specs.declared.table_rows.CountRow.TheVariants.{Schema, Revision}
 use Rattle.fab_store_rows.specs.declared.table_rows.TheConstants.{SCHEMA}
@@ -21,8 +21,8 @@ use Rattle.fab_store_base.specs.Calls.{OpensNot, TellsNoNewer}
 use Rattle.fab_store_base.specs.Worlds.{IsMetaRow, IsWritten}
 use Rattle.fab_store_base.specs.declared.faults.OpenFault.TheVariants.{Damaged, NewerSchema}
 use Rattle.fab_store_tables.specs.Columns.{meta_row}
-use Rattle.fab_store_tables.specs.declared.line.TableLine.{TableLine}
-use Rattle.fab_store_tables.specs.declared.line.TableLine.TheVariants as line
+use Rattle.fab_store_tables.specs.declared.stored_line.TableLine.{TableLine}
+use Rattle.fab_store_tables.specs.declared.stored_line.TableLine.TheVariants as line
 use Rattle.fab_world.specs.Worlds.{WorldRows}
 use Rattle.fab_store.specs.Loading.{HaveNamesOnce, TellNewer}
 use Rattle.fab_store.proofs.Names.{lines_once}

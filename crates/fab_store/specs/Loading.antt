@@ -3,7 +3,7 @@ use Rattle.std.specs.Prelude.{ℕ, ◌<◌, List, Contains, map}
 use Rattle.fab_store_columns.specs.MetaLines.{MetaColumns, ShowsMeta}
 use Rattle.fab_store_columns.specs.PlanLines.{PlanColumns}
 use Rattle.fab_store_columns.specs.declared.meta_lines.MetaRow.TheVariants as meta
-use Rattle.fab_store_listing.specs.Listing.{AreDistinct}
+use Rattle.fab_store_tables.specs.Listing.{AreDistinct}
 use Rattle.fab_store_rows.specs.declared.table_rows.TheConstants.{SCHEMA}
 
 -- the line tells this schema, which is newer

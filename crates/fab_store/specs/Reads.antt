@@ -9,8 +9,8 @@ use Rattle.fab_store_sql.specs.Reading.{IsAny, AreLinesOf, Stays}
 use Rattle.fab_store_sql.specs.Rows.{IsKeyed}
 use Rattle.fab_store_sql.specs.Schema.{desk_schema}
 use Rattle.fab_store_sql.specs.Trees.{tree_of, show_of, tables_of}
-use Rattle.fab_store_moves.specs.Opened as lines
-use Rattle.fab_store_listing.specs.declared.lines.TableLines.{TableLines}
+use Rattle.fab_store_base.specs.Opened as lines
+use Rattle.fab_store_tables.specs.declared.lines.TableLines.{TableLines}
 
 -- a crash leaves nothing that it did not leave before, and a connection with nothing pending is as it
 -- was, if it is still open

@@ -2,7 +2,7 @@
 ghost use Rattle.std.specs.Prelude.{◌≡◌, ◌↔◌, ◌<◌, ◌≤◌, ℕ, Err, IfOk, IfErr, MatchOption, OnOk, IsTrue};
 ghost use Rattle.sqlite.specs.Held.{state};
 ghost use Rattle.sqlite.specs.State.{HasCleanDisk};
-ghost use Rattle.fab_store_moves.specs.Opened as opened;
+ghost use Rattle.fab_store_base.specs.Opened as opened;
 ghost use Rattle.fab_store_rows.specs.declared.table_rows.TheConstants.{SCHEMA};
 ghost use Rattle.fab_store_sql.specs.States.{IsDesk};
 ghost use Rattle.fab_store_sql.specs.Trees.{tables_of};
@@ -14,10 +14,9 @@ ghost use Rattle.fab_store.specs.Loading.{HaveNamesOnce, TellsNewer, TellNewer};
 ghost use Rattle.fab_store.specs.Reads.{OnlyReads, SeesSame, AreTablesOf};
 
 use crate::reading::read_tables;
-use fab_store_base::OpenFault;
+use fab_store_base::{OpenFault, TableLines, world_of_lines};
 use fab_store_columns::{MetaLine, MetaRow, PlanLine};
 use fab_store_load::LoadFault;
-use fab_store_moves::{TableLines, world_of_lines};
 use fab_store_rows::SCHEMA;
 use fab_store_sql::ReadFault;
 use fab_world::World;

@@ -9,8 +9,8 @@ ghost use Rattle.fab_store.specs.Reads.{OnlyReads, SeesSame};
 use fab_names::Name;
 use fab_reach_base::Path;
 use fab_store_base::StoreFault;
-use fab_store_listing::paths_in;
 use fab_store_sql::read_paths_of;
+use fab_store_tables::paths_in;
 use sqlite::{Alter, Connection};
 use std::alloc::{Allocator, Global};
 

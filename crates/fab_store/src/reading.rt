@@ -5,13 +5,13 @@ ghost use Rattle.sqlite.specs.State.{HasCleanDisk};
 ghost use Rattle.fab_store.specs.Reads.{OnlyReads, SeesSame, AreTablesOf};
 
 use crate::lots::{Both, Lot};
+use fab_store_base::TableLines;
 use fab_store_columns::{
     ActiveLine, ApprovalLine, GroupLine, HolderLine, MetaLine, PartLine, PathLine, PlanLine,
     PortLine, VolumeLine, ZoningLine,
 };
-use fab_store_moves::TableLines;
 use fab_store_sql::ReadFault;
-use fab_store_undo::UndoLine;
+use fab_store_tables::UndoLine;
 use sqlite::{Alter, Connection};
 use std::alloc::Global;
 

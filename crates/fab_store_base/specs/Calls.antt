@@ -1,6 +1,6 @@
 -- What a call of a store tells where it gives nothing.
 use Rattle.std.specs.Prelude.{◌≡◌, ◌<◌, ◌≤◌, ◌+◌, ◌^◌, ◌-◌, min, ℕ}
-use Rattle.fab_store_changes.specs.Standing.{HaveRows}
+use Rattle.fab_store_world.specs.Standing.{HaveRows}
 use Rattle.fab_store_rows.specs.declared.table_rows.TheConstants.{SCHEMA}
 use Rattle.fab_store_tables.specs.Tables.{Tables}
 use Rattle.fab_world.specs.Soundness.{IsSound}

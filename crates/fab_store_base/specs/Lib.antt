@@ -1,3 +1,5 @@
 pub mod Worlds
 pub mod Calls
 pub mod Moves
+pub mod Standing
+pub mod Opened

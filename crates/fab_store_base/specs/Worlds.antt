@@ -1,8 +1,8 @@
 -- Tables that have the rows of a world.
 use Rattle.std.specs.Prelude.{◌≡◌, ◌↔◌, ℕ, List, Contains}
 use Rattle.sqlite.specs.Order.{Row}
-use Rattle.fab_store_changes.specs.Standing.{IsPlanRow, IsApprovalRow, IsUndoRow}
-use Rattle.fab_store_changes.specs.Tables.{IsCountRow, IsPortRow, IsHolderRow, IsVolumeRow, IsConfigRow, IsRowOfPath}
+use Rattle.fab_store_world.specs.Standing.{IsPlanRow, IsApprovalRow, IsUndoRow}
+use Rattle.fab_store_world.specs.Tables.{IsCountRow, IsPortRow, IsHolderRow, IsVolumeRow, IsConfigRow, IsRowOfPath}
 use Rattle.fab_store_columns.specs.GroupLines.{ShowsGroup, ShowsPart}
 use Rattle.fab_store_columns.specs.InventoryLines.{ShowsPort, ShowsHolder, ShowsVolume}
 use Rattle.fab_store_columns.specs.MetaLines.{ShowsMeta}
@@ -20,7 +20,7 @@ use Rattle.fab_store_rows.specs.declared.record_row.PathRow.{PathRow}
 use Rattle.fab_store_rows.specs.declared.table_rows.CountRow.TheVariants as count
 use Rattle.fab_store_tables.specs.Columns.{meta_row, port_row, holder_row, volume_row, zoning_row, active_row, group_row, part_row, plan_row, approval_row, undo_row, path_row}
 use Rattle.fab_store_tables.specs.Tables.{Tables}
-use Rattle.fab_store_undo.specs.UndoLines.{ShowsUndo}
+use Rattle.fab_store_tables.specs.UndoLines.{ShowsUndo}
 use Rattle.fab_world.specs.Worlds.{WorldRows}
 
 -- the columns are those of a line that shows something that has P

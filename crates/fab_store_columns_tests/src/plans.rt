@@ -2,7 +2,7 @@
 
 use crate::texts::{are_same, text};
 use fab_store_columns::PlanLine;
-use fab_store_undo::UndoLine;
+use fab_store_tables::UndoLine;
 use std::process::Abort;
 
 /// Names, authors, texts and states of plans, their positions, and whether they show a plan.

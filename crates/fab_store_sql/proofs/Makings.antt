@@ -11,7 +11,7 @@ use Rattle.sqlite_trees.specs.declared.store.Store as store
 use Rattle.fab_store_load.specs.declared.fault.Table.{Table}
 use Rattle.fab_store_load.specs.declared.fault.Table.TheVariants as table
 use Rattle.fab_store_tables.specs.Tables.{Tables, IsAmong, table_of, row_of}
-use Rattle.fab_store_tables.specs.declared.line.TableLine.{TableLine}
+use Rattle.fab_store_tables.specs.declared.stored_line.TableLine.{TableLine}
 use Rattle.fab_store_sql.specs.Schema.{all_tables, tree_of}
 use Rattle.fab_store_sql.specs.Trees.{show_of, tables_of}
 use Rattle.fab_store_sql.specs.Rows.{IsKeyed}

@@ -6,8 +6,8 @@ use Rattle.sqlite.specs.State.{State, ExecutesInside}
 use Rattle.sqlite.specs.Values.{bound}
 use Rattle.sqlite_value.specs.declared.value.ValueRef.{ValueRef}
 use Rattle.fab_store_tables.specs.Tables.{table_of, row_of, key_of}
-use Rattle.fab_store_tables.specs.declared.line.TableLine.{TableLine}
-use Rattle.fab_store_tables.specs.declared.line.TableLine.TheVariants as line
+use Rattle.fab_store_tables.specs.declared.stored_line.TableLine.{TableLine}
+use Rattle.fab_store_tables.specs.declared.stored_line.TableLine.TheVariants as line
 use Rattle.fab_store_sql.specs.Cells.{value_of}
 use Rattle.fab_store_sql.specs.Statements.{insert_text, delete_text}
 use Rattle.fab_store_sql.specs.Trees.{key_width}

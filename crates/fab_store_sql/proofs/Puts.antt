@@ -26,8 +26,8 @@ use Rattle.fab_store_load.specs.declared.fault.Table.{Table}
 use Rattle.fab_store_load.specs.declared.fault.Table.TheVariants as table
 use Rattle.fab_store_tables.specs.Columns.{text_or_null, number_or_null}
 use Rattle.fab_store_tables.specs.Tables.{table_of, row_of, key_of}
-use Rattle.fab_store_tables.specs.declared.line.TableLine.{TableLine}
-use Rattle.fab_store_tables.specs.declared.line.TableLine.TheVariants as line
+use Rattle.fab_store_tables.specs.declared.stored_line.TableLine.{TableLine}
+use Rattle.fab_store_tables.specs.declared.stored_line.TableLine.TheVariants as line
 use Rattle.fab_store_sql.specs.Schema.{column_of, made_of, desk_schema}
 use Rattle.fab_store_sql.specs.Statements.{insert_text, delete_text}
 use Rattle.fab_store_sql.specs.Trees.{tree_of, width_of, key_width, cells_from, show_of}

@@ -9,7 +9,7 @@ use Rattle.sqlite_rules.proofs.ListLemmas.{has_contained, contains_had}
 use Rattle.sqlite_rules.proofs.ProbeLemmas.{has_mapped, mapped_has}
 use Rattle.fab_store_load.specs.declared.fault.Table.{Table}
 use Rattle.fab_store_tables.specs.Tables.{Tables, HaveKeys, IsAmong, table_of, row_of, key_of}
-use Rattle.fab_store_tables.specs.declared.line.TableLine.{TableLine}
+use Rattle.fab_store_tables.specs.declared.stored_line.TableLine.{TableLine}
 use Rattle.fab_store_sql.specs.Rows.{Holds, Adds, Removes}
 use Rattle.fab_store_sql.specs.Trees.{tree_of, show_of, tables_of}
 use Rattle.fab_store_sql.specs.States.{Alters, IsOf, HasKey, HasKeyAmong, Loses, Gains, Walks}

@@ -7,8 +7,8 @@ use Rattle.fab_store_load.specs.declared.fault.Table.{Table}
 use Rattle.fab_store_load.specs.declared.fault.Table.TheVariants as table
 use Rattle.fab_store_columns.specs.MetaLines.{meta_line}
 use Rattle.fab_store_tables.specs.Tables.{Tables, IsAmong, row_of}
-use Rattle.fab_store_tables.specs.declared.line.TableLine.{TableLine}
-use Rattle.fab_store_tables.specs.declared.line.TableLine.TheVariants as line
+use Rattle.fab_store_tables.specs.declared.stored_line.TableLine.{TableLine}
+use Rattle.fab_store_tables.specs.declared.stored_line.TableLine.TheVariants as line
 use Rattle.fab_store_sql.specs.Schema.{all_tables, tree_of, made_of, key_index}
 
 -- the first tables of the schema

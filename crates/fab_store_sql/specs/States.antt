@@ -4,7 +4,7 @@ use Rattle.sqlite.specs.Order.{Row}
 use Rattle.sqlite.specs.Effect.{Database, IsDatabase}
 use Rattle.sqlite.specs.State.{State}
 use Rattle.fab_store_load.specs.declared.fault.Table.{Table}
-use Rattle.fab_store_tables.specs.declared.line.TableLine.{TableLine}
+use Rattle.fab_store_tables.specs.declared.stored_line.TableLine.{TableLine}
 use Rattle.fab_store_tables.specs.Tables.{Tables, table_of, row_of, key_of}
 use Rattle.fab_store_sql.specs.Schema.{desk_schema}
 use Rattle.fab_store_sql.specs.Rows.{IsKeyed}

@@ -10,8 +10,7 @@ use fab_store_columns::{
     ActiveLine, ApprovalLine, GroupLine, HolderLine, MetaLine, PartLine, PathLine, PlanLine,
     PortLine, VolumeLine, ZoningLine,
 };
-use fab_store_tables::Table;
-use fab_store_undo::UndoLine;
+use fab_store_tables::{Table, UndoLine};
 use sqlite::{Error, Row};
 use std::alloc::Global;
 

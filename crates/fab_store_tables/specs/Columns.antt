@@ -9,7 +9,7 @@ use Rattle.fab_store_columns.specs.ZoningLines.{ZoningColumns, ActiveColumns}
 use Rattle.fab_store_columns.specs.GroupLines.{GroupColumns, PartColumns}
 use Rattle.fab_store_columns.specs.PlanLines.{PlanColumns}
 use Rattle.fab_store_columns.specs.RecordLines.{ApprovalColumns, PathColumns}
-use Rattle.fab_store_undo.specs.UndoLines.{UndoColumns}
+use Rattle.fab_store_tables.specs.UndoLines.{UndoColumns}
 
 abbrev pub text_or_null : Option (List ℕ) → Value
 text_or_null None = Null

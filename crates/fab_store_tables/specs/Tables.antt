@@ -5,8 +5,8 @@ use Rattle.fab_store_load.specs.declared.fault.Table.{Table}
 use Rattle.fab_store_load.specs.declared.fault.Table.TheVariants as table
 use Rattle.fab_store_tables.specs.Columns.{meta_row, port_row, holder_row, volume_row, zoning_row, active_row, group_row, part_row, plan_row, approval_row, undo_row, path_row}
 use Rattle.fab_store_tables.specs.declared.changes.LineChanges.{LineChanges}
-use Rattle.fab_store_tables.specs.declared.line.TableLine.{TableLine}
-use Rattle.fab_store_tables.specs.declared.line.TableLine.TheVariants as line
+use Rattle.fab_store_tables.specs.declared.stored_line.TableLine.{TableLine}
+use Rattle.fab_store_tables.specs.declared.stored_line.TableLine.TheVariants as line
 
 -- the rows of each table, by their columns; only which rows there are counts
 abbrev pub Tables : Type 0

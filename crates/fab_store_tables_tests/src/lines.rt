@@ -4,8 +4,7 @@ use fab_store_columns::{
     ActiveLine, ApprovalLine, GroupLine, HolderLine, MetaLine, PartLine, PathLine, PlanLine,
     PortLine, VolumeLine, ZoningLine,
 };
-use fab_store_tables::TableLine;
-use fab_store_undo::UndoLine;
+use fab_store_tables::{TableLine, UndoLine};
 use std::alloc::Global;
 use std::process::Abort;
 

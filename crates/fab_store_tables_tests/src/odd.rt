@@ -2,12 +2,12 @@
 
 use crate::stored::{WORLD, lines, no_lines, put_line};
 use fab_names::{Name, Wwn};
-use fab_store_listing::lines_of_rows;
+use fab_store_base::{TableLines, paths_in, world_of_lines};
 use fab_store_load::{LoadFault, Table};
-use fab_store_moves::{TableLines, paths_in, world_of_lines};
 use fab_store_rows::{
     ApprovalRow, ConfigRow, CountRow, PartRow, StoragePart, TableRows, VolumeRow,
 };
+use fab_store_tables::lines_of_rows;
 use std::alloc::Global;
 use std::process::Abort;
 

@@ -1,7 +1,7 @@
 //! The lines of a small world, and lines put each into its table.
 
 use crate::lines::line_of;
-use fab_store_moves::TableLines;
+use fab_store_base::TableLines;
 use fab_store_tables::TableLine;
 use std::alloc::Global;
 use std::process::Abort;

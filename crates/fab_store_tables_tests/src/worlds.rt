@@ -1,11 +1,10 @@
 //! Worlds that are opened from lines, and rows that are written as lines.
 
 use crate::stored::{WORLD, lines, no_lines, put};
-use fab_store_changes::Changes;
-use fab_store_listing::lines_of_rows;
-use fab_store_moves::{TableLines, change_lines, rows_of_lines, world_of_lines};
+use fab_store_base::{TableLines, change_lines, rows_of_lines, world_of_lines};
 use fab_store_rows::TableRows;
-use fab_store_tables::TableLine;
+use fab_store_tables::{TableLine, lines_of_rows};
+use fab_store_world::Changes;
 use fab_test_world::is_same;
 use fab_world::World;
 use std::alloc::Global;

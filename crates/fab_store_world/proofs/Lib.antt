@@ -4,3 +4,12 @@ pub mod PlansMade
 pub mod WholePlans
 pub mod InOrder
 pub mod SoundOrder
+pub mod PathRowOrder
+pub mod PathRowSets
+pub mod NamedRows
+pub mod InventoryTables
+pub mod Picked
+pub mod PlacedNames
+pub mod KeyOrders
+pub mod OneWorld
+pub mod WorldMade

@@ -2,3 +2,12 @@ pub mod Orders
 pub mod Kinds
 pub mod PlanRows
 pub mod Parts
+pub mod Paths
+pub mod PathGathering
+pub mod Inventories
+pub mod InventoryGathering
+pub mod Keys
+pub mod Positions
+pub mod Standing
+pub mod Tables
+pub mod OpenedTables

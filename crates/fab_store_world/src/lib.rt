@@ -1,11 +1,26 @@
-//! Plans, and the order of their activations, from the rows of their tables.
+//! The world of the desk and the rows of its tables: which rows a world has, in which two worlds
+//! differ, and the world that rows are.
 #![tactic(auto)]
 
+mod counts;
+mod faulty;
+mod inventories;
 mod kinds;
+pub mod laws;
+mod made;
+pub mod opening_laws;
 mod order;
+mod paths;
 mod plans;
+mod row_tables;
+mod tables;
 mod texts;
 mod whole;
+mod world;
 
+pub use inventories::{InventoryDifference, InventoryLists, inventory_difference};
 pub use order::order_of;
+pub use paths::{PathRowDifference, are_path_rows};
+pub use tables::Changes;
 pub use whole::{Plans, plans_of};
+pub use world::world_of;

@@ -7,8 +7,8 @@ use crate::stock::{FIRST_INITIATOR, FIRST_TARGET, stock};
 use fab_inventory::Inventory;
 use fab_names::Fabric;
 use fab_reach_base::Path;
-use fab_store_lists::{InventoryLists, inventory_difference};
 use fab_store_rows::{CountRow, PathRow, PlanState, SCHEMA, TableRows};
+use fab_store_world::{InventoryLists, inventory_difference};
 use std::alloc::Global;
 use std::process::Abort;
 

@@ -2,8 +2,8 @@
 //! exposed.
 use crate::worlds::{Heap, INITIATOR, TARGET, World, name};
 use fab_names::{Fabric, Wwn};
+use fab_reach::PortBook;
 use fab_reach_base::{Delta, Path, PathBook, PlainBook, View};
-use fab_reach_book::PortBook;
 use std::process::Abort;
 
 /// Whether it is the path of the host to its volume.

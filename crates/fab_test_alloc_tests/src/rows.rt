@@ -2,8 +2,8 @@
 use crate::worlds::{Heap, World};
 use fab_inventory::Inventory;
 use fab_reach_base::Config;
-use fab_store_lists::{InventoryLists, inventory_difference};
 use fab_store_rows::difference;
+use fab_store_world::{InventoryLists, inventory_difference};
 use std::process::Abort;
 
 /// How many rows are taken away, and how many are added.

@@ -4,7 +4,7 @@ use fab_desk_base::{Command, Query};
 use fab_inventory::{HolderKind, Volume};
 use fab_names::{Fabric, Name, Wwn};
 use fab_plans_text::read_plan;
-use fab_wire_port_lists::port_list::read_ports;
+use fab_wire_requests::port_list::read_ports;
 use std::alloc::Global;
 use std::test::Fail;
 

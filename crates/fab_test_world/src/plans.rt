@@ -2,7 +2,7 @@
 
 use fab_names::Name;
 use fab_plans::Plan;
-use fab_plans_same::are_same;
+use fab_plans_base::are_same;
 use fab_store_rows::RowDifference;
 use fab_world::KeptPlan;
 use std::alloc::Allocator;

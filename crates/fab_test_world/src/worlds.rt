@@ -3,8 +3,8 @@
 use crate::plans::are_same_plans;
 use fab_inventory::Inventory;
 use fab_reach_base::Config;
-use fab_store_lists::{InventoryLists, inventory_difference};
 use fab_store_rows::difference;
+use fab_store_world::{InventoryLists, inventory_difference};
 use fab_world::World;
 use std::alloc::{AllocError, Allocator};
 

@@ -7,7 +7,7 @@ use Rattle.std.proofs.lemmas.Bool.Decides.{nat_tests}
 use Rattle.std.proofs.lemmas.List.Elements.{All-head, All-tail}
 use Rattle.std.proofs.lemmas.Str.{IsUtf8-from_ascii}
 use mathlib.Core.Bool.{true≢false}
-use Rattle.fab_names_tokens.specs.Tokens.{IsTokenText, is_token_char}
+use Rattle.fab_names.specs.Tokens.{IsTokenText, is_token_char}
 use Rattle.fab_policy_base.specs.Callers.{is_same, HasToken}
 use Rattle.fab_policy_base.specs.Policies.{CallerRow, PolicyRows}
 use Rattle.fab_policy_base.specs.Sound.{IsSound, IsCaller}

@@ -9,7 +9,7 @@ ghost use Rattle.fab_wire.specs.Runs.{LeadTo};
 use crate::outcome::Outcome;
 use crate::serving::serve_one;
 use fab_desk::Desk;
-use fab_desk_laws::steps_are_done;
+use fab_desk_base::steps_are_done;
 use fab_reach_base::PathBook;
 use fab_store_base::Store;
 use fab_wire_base::routes::Routes;

@@ -10,7 +10,7 @@ use Rattle.fab_zoning.specs.declared.flag.DefaultFlag.{DefaultFlag}
 use Rattle.fab_store_columns_base.specs.Columns.{kind_text}
 use Rattle.fab_store_columns.specs.PlanLines.{state_text}
 use Rattle.fab_store_rows.specs.declared.record_row.PlanState.TheVariants.{Withdrawn}
-use Rattle.fab_plans_steps.specs.Values.{flag_text}
+use Rattle.fab_plans_base.specs.Values.{flag_text}
 use Rattle.fab_policy.specs.Needs.{need_word}
 use Rattle.fab_reach_base.specs.declared.path.Path.{Path}
 use Rattle.fab_plans.specs.declared.fault.Refusal as plan

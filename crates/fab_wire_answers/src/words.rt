@@ -2,7 +2,7 @@
 
 ghost use Rattle.std.specs.Prelude.{◌≡◌};
 ghost use Rattle.fab_store_columns.specs.PlanLines.{state_text};
-ghost use Rattle.fab_plans_steps.specs.Values.{flag_text};
+ghost use Rattle.fab_plans_base.specs.Values.{flag_text};
 ghost use Rattle.fab_wire_answers.specs.Words.{limit_word, step_limit_word};
 
 use fab_desk_base::DeskLimit;

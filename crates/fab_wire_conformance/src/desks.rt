@@ -4,7 +4,7 @@ use crate::faults::Fault;
 use crate::scenarios::Exchange;
 use crate::sips::Sips;
 use fab_policy_base::Policy;
-use fab_reach_book::PortBook;
+use fab_reach::PortBook;
 use fab_store::SqlStore;
 use fab_wire::{Desk, serve_one};
 use fab_wire_base::routes::Routes;

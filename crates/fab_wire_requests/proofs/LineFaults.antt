@@ -1,11 +1,11 @@
 -- A text has one first faulty line as a plan, or spells steps, and never both.
 use Rattle.std.proofs.Common.{ℕ, ◌≡◌, ◌+◌, ◌<◌, ◌≤◌, List, [], ◌∷◌, ◌++◌, length, length-append, map, refl, sym, ap, ◌∙◌, subst, arith, inl, inr}
-use Rattle.fab_plans_steps.specs.Limits.{most_bytes}
-use Rattle.fab_plans_steps.specs.Texts.{lines_of, words_of}
-use Rattle.fab_plans_steps.specs.Values.{Value, kind_of, SpellsValues}
-use Rattle.fab_plans_steps.specs.Steps.{PlanStep}
-use Rattle.fab_plans_steps.specs.Forms.{keyword_text, form_of, keyword_of, values_of, Takes, kinds_in}
-use Rattle.fab_plans_steps.specs.Plans.{SpellsStep, SpellsLines, Spells, plan_text}
+use Rattle.fab_plans_base.specs.Limits.{most_bytes}
+use Rattle.fab_plans_base.specs.Texts.{lines_of, words_of}
+use Rattle.fab_plans_base.specs.Values.{Value, kind_of, SpellsValues}
+use Rattle.fab_plans_base.specs.Steps.{PlanStep}
+use Rattle.fab_plans_base.specs.Forms.{keyword_text, form_of, keyword_of, values_of, Takes, kinds_in}
+use Rattle.fab_plans_base.specs.Plans.{SpellsStep, SpellsLines, Spells, plan_text}
 use Rattle.fab_plans_text.specs.Faults.{IsFirstFault, IsLineFault, IsTooLong, IsEmptyPlan, HasTooManyLines, HasFaultyLine, PrintsTooLong, IsPlanFault}
 use Rattle.fab_plans_text.specs.declared.fault.PlanFaultKind.{PlanFaultKind}
 use Rattle.fab_plans_text.specs.declared.fault.PlanFault.{PlanFault}

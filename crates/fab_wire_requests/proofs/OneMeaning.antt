@@ -4,10 +4,10 @@ use Rattle.fab_names.specs.Names.{SpellsName}
 use Rattle.fab_names.proofs.Unique.{one_fabric, one_wwn}
 use Rattle.fab_inventory.specs.declared.holder.Volume.{Volume}
 use Rattle.fab_plans_text.proofs.Unique.{one_plan}
-use Rattle.fab_wire_bodies.specs.Bodies.{SpellsVolume, SpellsNoHolder, SpellsNoVolume}
-use Rattle.fab_wire_bodies.proofs.ReadLemmas.{one-body}
-use Rattle.fab_wire_port_lists.proofs.RecordLemmas.{one_listing}
-use Rattle.fab_wire_port_lists.proofs.FaultLemmas.{no-fault, one_fault}
+use Rattle.fab_wire_requests.specs.Bodies.{SpellsVolume, SpellsNoHolder, SpellsNoVolume}
+use Rattle.fab_wire_requests.proofs.ReadLemmas.{one-body}
+use Rattle.fab_wire_requests.proofs.RecordLemmas.{one_listing}
+use Rattle.fab_wire_requests.proofs.FaultLemmas.{no-fault, one_fault}
 use Rattle.fab_wire_base.specs.Parts.{part_at}
 use Rattle.fab_wire_base.specs.declared.kinds.Kind.{Kind}
 use Rattle.fab_wire_base.specs.declared.kinds.Form.{Form}

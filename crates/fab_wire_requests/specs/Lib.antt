@@ -1,3 +1,8 @@
+pub mod Values
+pub mod Bodies
+pub mod PortLists
+pub mod FourFields
+pub mod RecordReaders
 pub mod Subjects
 pub mod Commands
 pub mod Meanings

@@ -4,12 +4,12 @@ use Rattle.fab_names.specs.Fabrics.{SpellsFabric}
 use Rattle.fab_names.specs.Names.{SpellsName}
 use Rattle.fab_names.specs.WorldWideNames.{SpellsWwn}
 use Rattle.fab_names.specs.declared.fabric.Fabric.{Fabric}
-use Rattle.fab_plans_steps.specs.Steps.{PlanStep}
-use Rattle.fab_plans_steps.specs.Plans.{Spells}
+use Rattle.fab_plans_base.specs.Steps.{PlanStep}
+use Rattle.fab_plans_base.specs.Plans.{Spells}
 use Rattle.fab_plans_text.specs.Faults.{IsPlanFault}
 use Rattle.fab_plans_text.specs.declared.fault.PlanFault.{PlanFault}
-use Rattle.fab_wire_bodies.specs.Bodies.{SpellsHolder, SpellsVolume, SpellsNoHolder, SpellsNoVolume}
-use Rattle.fab_wire_port_lists.specs.PortLists.{ListsPorts, IsFaultAt}
+use Rattle.fab_wire_requests.specs.Bodies.{SpellsHolder, SpellsVolume, SpellsNoHolder, SpellsNoVolume}
+use Rattle.fab_wire_requests.specs.PortLists.{ListsPorts, IsFaultAt}
 use Rattle.fab_desk_base.specs.declared.command.Query.TheVariants as query
 use Rattle.fab_wire_base.specs.Parts.{part_at}
 use Rattle.fab_wire_base.specs.Table.{form_of}

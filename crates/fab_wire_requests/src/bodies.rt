@@ -6,12 +6,12 @@ ghost use Rattle.fab_wire_requests.specs.Reading.{IsPlanRead};
 
 use crate::meant::Meant;
 use crate::paths::holder_kind;
+use crate::port_list::{FileFault, read_ports};
+use crate::{BodyFault, read_holder, read_volume};
 use fab_desk_base::Command;
 use fab_plans_text::{PlanFaultKind, Step, read_plan};
 use fab_wire_base::kinds::Kind;
 use fab_wire_base::parts::{fabric_part, name_part};
-use fab_wire_bodies::{BodyFault, read_holder, read_volume};
-use fab_wire_port_lists::port_list::{FileFault, read_ports};
 use std::alloc::{Allocator, Global};
 
 /// The import of the rows of the body, at the fabric that the path names.

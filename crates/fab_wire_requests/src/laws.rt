@@ -2,7 +2,7 @@
 
 ghost use Rattle.fab_wire_requests.specs.Laws.{MeansOne};
 
-use fab_wire_bodies::laws::one_volume;
+use crate::body_laws::one_volume;
 
 /// A kind of request, a target and a body mean one thing at most.
 pub fn requests_mean_one_thing()

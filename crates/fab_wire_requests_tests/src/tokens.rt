@@ -1,6 +1,6 @@
 //! The form of a token.
 
-use fab_names_tokens::is_token;
+use fab_names::is_token;
 
 /// Texts, and whether they are tokens.
 const TEXTS: &[(&[u8], bool)] = &[

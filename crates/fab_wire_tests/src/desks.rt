@@ -1,6 +1,6 @@
 //! A new desk in memory, and what the tests ask of a desk.
 
-use fab_reach_book::PortBook;
+use fab_reach::PortBook;
 use fab_store::{SqlStore, Store};
 use fab_test_wire::streams::{Breaking, Slow};
 use fab_wire::laws::{Connection, Served, serve_all};

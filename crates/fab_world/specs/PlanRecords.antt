@@ -2,7 +2,7 @@
 use Rattle.std.specs.Prelude.{ℕ, List}
 use Rattle.std.specs.FinMap as map
 use Rattle.fab_names.specs.Orders.{name_cmp}
-use Rattle.fab_plans_steps.specs.Steps.{PlanStep}
+use Rattle.fab_plans_base.specs.Steps.{PlanStep}
 use Rattle.fab_store_rows.specs.declared.config_row.ConfigRow.{ConfigRow}
 
 -- where a plan stands; of an active one the rows that its activation took away, and those that it

@@ -12,7 +12,7 @@ use Rattle.fab_reach_base.specs.Reach.{Reaches}
 use Rattle.fab_reach_base.specs.Records.{ConfigRows}
 use Rattle.fab_reach_base.specs.Soundness.{IsSoundAlone}
 use Rattle.fab_reach_base.specs.declared.listing.TheConstants.{MOST_PATHS}
-use Rattle.fab_plans_steps.specs.Plans.{IsWithinLimits}
+use Rattle.fab_plans_base.specs.Plans.{IsWithinLimits}
 use Rattle.fab_world.specs.declared.limits.TheConstants.{MOST_PLANS, MOST_CHANGES}
 use Rattle.fab_world.specs.History.{changes_of, LeadsBack}
 use Rattle.fab_world.specs.PlanRecords.{PlanRecord}

@@ -11,8 +11,8 @@ ghost use Rattle.fab_world.specs.Soundness.{IsSoundNow};
 
 use fab_inventory::Inventory;
 use fab_names::{Fabric, Wwn};
+use fab_reach::offer_few_paths;
 use fab_reach_base::{Config, PathsFault, View, few_paths};
-use fab_reach_bounds::offer_few_paths;
 use std::alloc::{AllocError, Allocator};
 
 /// Whether the zoning of a fabric is its own, and sound.

@@ -2,7 +2,7 @@ use Rattle.std.proofs.Common.{◌∙◌, inl, inr, sym, subst}
 use Rattle.fab_desk_base.specs.Answers.{IsMove, IsStep}
 use Rattle.fab_desk_machine.specs.Proposals.{request_of}
 use Rattle.fab_desk_machine.specs.Reports.{reply_of}
-use Rattle.fab_desk_next.specs.Nexts.{next_world}
+use Rattle.fab_desk_commands.specs.Nexts.{next_world}
 use Rattle.fab_desk.proofs.Changing.{no_read}
 use Rattle.fab_desk.proofs.answering.act.Goals as goal
 

@@ -1,6 +1,6 @@
 use Rattle.std.proofs.Common.{inl, inr, refl, sym, ap, subst, ◌∙◌}
 use Rattle.fab_desk_machine.proofs.Rooms.{same_records, leads_there, room_for, ready_there, moved_there, back_there}
-use Rattle.fab_desk_next.specs.Nexts.{next_world}
+use Rattle.fab_desk_commands.specs.Nexts.{next_world}
 use Rattle.fab_store_base.specs.Worlds.{HoldsWorld}
 use Rattle.fab_store_tables.specs.Tables.{Tables, HaveKeys}
 use Rattle.fab_desk.specs.Desks.{IsTied}

@@ -1,7 +1,7 @@
 use Rattle.std.proofs.Common.{sym, subst}
 use Rattle.fab_reach_base.specs.Books.{IsDelta}
 use Rattle.fab_world.specs.Worlds.{WorldRows, records_of}
-use Rattle.fab_desk_next.specs.Nexts.{next_world}
+use Rattle.fab_desk_commands.specs.Nexts.{next_world}
 use Rattle.fab_desk_machine.proofs.change.take_over.Goals as goal
 
 pub returns-clause-reply : goal.returns-clause-reply

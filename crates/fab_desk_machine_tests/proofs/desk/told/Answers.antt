@@ -1,8 +1,8 @@
 use Rattle.std.proofs.Common.{inl, inr, sym, subst}
 use Rattle.fab_world.specs.Soundness.{IsSound}
 use Rattle.fab_world.specs.Worlds.{records_of}
-use Rattle.fab_desk_next.specs.Nexts.{next_world}
-use Rattle.fab_desk_laws.proofs.KeptHosts.{keeps_hosts}
+use Rattle.fab_desk_commands.specs.Nexts.{next_world}
+use Rattle.fab_desk_base.proofs.KeptHosts.{keeps_hosts}
 use Rattle.fab_desk_machine.specs.Proposals.{request_of}
 use Rattle.fab_desk_machine.specs.Reports.{reply_of}
 use Rattle.fab_desk_machine_tests.proofs.desk.told.Goals as goal

@@ -7,7 +7,7 @@ use Rattle.std.proofs.lemmas.Map.Iter.{rest_more, rest_all}
 use Rattle.fab_lemmas.proofs.Walks.{walked, walk_end}
 use Rattle.fab_names.specs.Orders.{name_cmp}
 use Rattle.fab_store_rows.specs.declared.record_row.ApprovalRow.{ApprovalRow}
-use Rattle.fab_store_changes.proofs.Picked.{picked_none}
+use Rattle.fab_store_world.proofs.Picked.{picked_none}
 use Rattle.fab_desk_rows.proofs.Given.{IsNew, row_at, SoFar, one_more, given_listed}
 use Rattle.fab_desk_rows.proofs.approvals.rows_only_in.Goals as goal
 

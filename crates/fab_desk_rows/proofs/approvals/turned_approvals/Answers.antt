@@ -1,5 +1,5 @@
 use Rattle.std.proofs.Common.{◌≡◌, inl, inr, sym, ap}
-use Rattle.fab_desk_next.specs.Nexts.{turned}
+use Rattle.fab_desk_commands.specs.Nexts.{turned}
 use Rattle.fab_desk_rows.proofs.Given.{approvals_stay}
 use Rattle.fab_desk_rows.proofs.approvals.turned_approvals.Goals as goal
 

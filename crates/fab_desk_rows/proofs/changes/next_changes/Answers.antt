@@ -1,4 +1,4 @@
-use Rattle.fab_desk_next.specs.Nexts.{next_world}
+use Rattle.fab_desk_commands.specs.Nexts.{next_world}
 use Rattle.fab_desk_rows.proofs.changes.next_changes.Goals as goal
 
 pub returns : goal.returns

@@ -1,6 +1,6 @@
 use Rattle.std.proofs.Common.{ap}
 use Rattle.fab_world.specs.Worlds.{WorldRows}
-use Rattle.fab_desk_next.specs.Nexts.{next_world}
+use Rattle.fab_desk_commands.specs.Nexts.{next_world}
 use Rattle.fab_desk_rows.proofs.CountRows.{new_counted}
 use Rattle.fab_desk_rows.proofs.counts.counts_moved.Goals as goal
 

@@ -1,7 +1,7 @@
 use Rattle.std.proofs.Common.{◌≡◌, IfOk, inl, inr, ap, sym, subst}
 use Rattle.fab_reach_base.specs.Records.{ConfigRows}
 use Rattle.fab_store_rows.specs.Differences.{IsDifference}
-use Rattle.fab_desk_next.specs.Nexts.{next_world}
+use Rattle.fab_desk_commands.specs.Nexts.{next_world}
 use Rattle.fab_desk_rows.proofs.parts.config_moved.Goals as goal
 
 pub returns-in-Same : goal.returns-in-Same

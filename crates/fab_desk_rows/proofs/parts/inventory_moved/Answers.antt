@@ -1,7 +1,7 @@
 use Rattle.std.proofs.Common.{◌≡◌, inl, inr, ap, sym, subst}
 use Rattle.fab_inventory.specs.Inventories.{InventoryRows}
-use Rattle.fab_store_lists.specs.Inventories.{IsInventoryDifference}
-use Rattle.fab_desk_next.specs.Nexts.{next_world}
+use Rattle.fab_store_world.specs.Inventories.{IsInventoryDifference}
+use Rattle.fab_desk_commands.specs.Nexts.{next_world}
 use Rattle.fab_desk_rows.proofs.parts.inventory_moved.Goals as goal
 
 pub returns-in-Same : goal.returns-in-Same

@@ -1,4 +1,4 @@
-use Rattle.fab_store_lists.specs.Inventories.{IsKnownOnlyIn, port_order, holder_order, volume_order}
+use Rattle.fab_store_world.specs.Inventories.{IsKnownOnlyIn, port_order, holder_order, volume_order}
 use Rattle.fab_store_rows.specs.declared.inventory_row.InventoryRow.TheVariants as row
 use Rattle.fab_desk_rows.proofs.Listed.{none_listed}
 use Rattle.fab_desk_rows.proofs.parts.no_lists.Goals as goal

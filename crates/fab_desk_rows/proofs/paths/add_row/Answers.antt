@@ -1,5 +1,5 @@
 use Rattle.fab_reach_base.specs.Views.{seen}
-use Rattle.fab_store_lists.proofs.PathRowSets.{row_added, no_row}
+use Rattle.fab_store_world.proofs.PathRowSets.{row_added, no_row}
 use Rattle.fab_desk_rows.proofs.paths.add_row.Goals as goal
 
 pub returns-in_default : goal.returns-in_default

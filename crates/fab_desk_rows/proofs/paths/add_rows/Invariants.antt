@@ -1,7 +1,7 @@
 use Rattle.std.proofs.Common.{take}
 use Rattle.fab_reach_base.specs.Adding.{Adds}
 use Rattle.fab_reach_base.specs.Views.{seen}
-use Rattle.fab_store_lists.specs.PathGathering.{Has, IsRowOfSome}
+use Rattle.fab_store_world.specs.PathGathering.{Has, IsRowOfSome}
 use Rattle.fab_desk_rows.proofs.paths.add_rows.Given as goal
 
 abbrev pub invariant-loop-path : goal.invariant-loop-path

@@ -2,8 +2,8 @@ use Rattle.std.proofs.Common.{List, subst}
 use Rattle.fab_lemmas.specs.Lists.{IsListOf}
 use Rattle.fab_reach_base.specs.Views.{seen}
 use Rattle.fab_reach_base.specs.declared.path.Path.{Path}
-use Rattle.fab_store_lists.specs.PathGathering.{IsRowOfSome}
-use Rattle.fab_store_lists.specs.Paths.{path_row_order}
+use Rattle.fab_store_world.specs.PathGathering.{IsRowOfSome}
+use Rattle.fab_store_world.specs.Paths.{path_row_order}
 use Rattle.fab_desk_rows.proofs.PathsTold.{lost_rows, gained_rows}
 use Rattle.fab_desk_rows.proofs.paths.path_rows_moved.Goals as goal
 

@@ -1,7 +1,7 @@
 use Rattle.std.proofs.Common.{◌≡◌, ℕ, List, sym, ap, ◌∙◌}
 use Rattle.std.specs.FinMap as map
-use Rattle.fab_store_changes.specs.Keys.{plan_order, approval_order, undo_order}
-use Rattle.fab_store_changes.specs.Standing.{IsPlanRow, IsApprovalRow, IsUndoRow}
+use Rattle.fab_store_world.specs.Keys.{plan_order, approval_order, undo_order}
+use Rattle.fab_store_world.specs.Standing.{IsPlanRow, IsApprovalRow, IsUndoRow}
 use Rattle.fab_desk_rows.proofs.Listed.{none_moved}
 use Rattle.fab_desk_rows.proofs.PlansPut.{rows_stay}
 use Rattle.fab_desk_rows.proofs.plans.no_tables.Goals as goal

@@ -1,7 +1,7 @@
 use Rattle.std.proofs.Common.{sym, ap, ◌∙◌, subst}
 use Rattle.std.proofs.lemmas.Option.{same_Some}
 use Rattle.fab_world.specs.Worlds.{WorldRows}
-use Rattle.fab_desk_next.specs.Nexts.{Leads}
+use Rattle.fab_desk_commands.specs.Nexts.{Leads}
 use Rattle.fab_desk_rows.proofs.WorldPlans.{look}
 use Rattle.fab_desk_rows.proofs.plans.plan_at.Goals as goal
 

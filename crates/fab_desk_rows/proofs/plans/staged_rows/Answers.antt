@@ -2,7 +2,7 @@ use Rattle.std.proofs.Common.{ℕ, List, ◌∷◌, [], ◌++◌, ap, ◌∙◌,
 use Rattle.std.specs.FinMap as map
 use Rattle.fab_store_rows.specs.PlanEntries.{PlanEntry}
 use Rattle.fab_world.specs.Worlds.{WorldRows}
-use Rattle.fab_store_changes.specs.Positions.{IsPosition}
+use Rattle.fab_store_world.specs.Positions.{IsPosition}
 use Rattle.fab_desk_rows.proofs.PlansPut.{absent, more_there, row_comes}
 use Rattle.fab_desk_rows.proofs.plans.staged_rows.Goals as goal
 

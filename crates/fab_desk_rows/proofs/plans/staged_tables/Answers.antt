@@ -1,7 +1,7 @@
 use Rattle.std.proofs.Common.{None, Some}
 use Rattle.std.specs.FinMap as map
 use Rattle.fab_store_world.specs.PlanRows.{IsApprovalOf}
-use Rattle.fab_store_changes.specs.Keys.{approval_order, undo_order}
+use Rattle.fab_store_world.specs.Keys.{approval_order, undo_order}
 use Rattle.fab_desk_rows.specs.PlanMoves.{IsUndoRowOf}
 use Rattle.fab_desk_rows.proofs.OnePlan.{all_of_one}
 use Rattle.fab_desk_rows.proofs.PlansPut.{absent, more_there, more_beside, new_idle}

@@ -1,8 +1,8 @@
 use Rattle.std.proofs.Common.{Some}
 use Rattle.fab_store_world.proofs.SoundOrder.{sound_in_order}
 use Rattle.fab_store_world.specs.PlanRows.{IsApprovalOf}
-use Rattle.fab_desk_next.specs.Nexts.{turned}
-use Rattle.fab_store_changes.specs.Keys.{approval_order, undo_order}
+use Rattle.fab_desk_commands.specs.Nexts.{turned}
+use Rattle.fab_store_world.specs.Keys.{approval_order, undo_order}
 use Rattle.fab_desk_rows.specs.PlanMoves.{IsUndoRowOf}
 use Rattle.fab_desk_rows.proofs.OnePlan.{all_of_one}
 use Rattle.fab_desk_rows.proofs.PlansTurned.{turned_there, turned_beside}

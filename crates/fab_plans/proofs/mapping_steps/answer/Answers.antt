@@ -4,9 +4,9 @@ use Rattle.fab_inventory.specs.Inventories.{InventoryRows}
 use Rattle.fab_mapping_base.specs.Groups.{host_group_of}
 use Rattle.fab_mapping.specs.Mappings.{MappingRows, CanPutHostGroup, PutHostGroupFails}
 use Rattle.fab_mapping_base.specs.declared.fault.MappingFault.{MappingFault}
-use Rattle.fab_plans_steps.specs.Actions as actions
-use Rattle.fab_plans_steps.specs.Plans.{IsStep}
-use Rattle.fab_plans_steps.specs.declared.mapping_action.MappingAction.{MappingAction}
+use Rattle.fab_plans_base.specs.Actions as actions
+use Rattle.fab_plans_base.specs.Plans.{IsStep}
+use Rattle.fab_plans_base.specs.declared.mapping_action.MappingAction.{MappingAction}
 use Rattle.fab_plans.specs.Telling.{IsFaultOf, TellsMapping}
 use Rattle.fab_plans.specs.MappingSteps.{MappingDone, MappingFails}
 use Rattle.fab_plans.proofs.Spelled.{host_listing, unit_within}

@@ -5,9 +5,9 @@ use Rattle.fab_zoning.specs.Rows.{IsPlain}
 use Rattle.fab_zoning.specs.Steps.{IsPutAliasFault, CanPutZone, IsPutZoneFault, CanPutSet, IsPutSetFault}
 use Rattle.fab_zoning.specs.Zonings.{FabricZoning}
 use Rattle.fab_zoning.specs.declared.fault.ZoningFault.{ZoningFault}
-use Rattle.fab_plans_steps.specs.Actions as actions
-use Rattle.fab_plans_steps.specs.Plans.{IsStep}
-use Rattle.fab_plans_steps.specs.declared.zoning_action.ZoningAction.{ZoningAction}
+use Rattle.fab_plans_base.specs.Actions as actions
+use Rattle.fab_plans_base.specs.Plans.{IsStep}
+use Rattle.fab_plans_base.specs.declared.zoning_action.ZoningAction.{ZoningAction}
 use Rattle.fab_plans.specs.Telling.{IsFaultOf, TellsZoning}
 use Rattle.fab_plans.specs.ZoningSteps.{ZoningDone, ZoningFails}
 use Rattle.fab_plans.proofs.Spelled.{alias_listing, zone_listing, set_listing, alias_plain}

@@ -1,5 +1,5 @@
 use Rattle.std.proofs.lemmas.List.Elements.{recursion_from_All}
-use Rattle.fab_plans_steps.specs.Plans.{IsStep}
+use Rattle.fab_plans_base.specs.Plans.{IsStep}
 use Rattle.fab_plans_text.proofs.Printed.{one_printed}
 use Rattle.fab_plans_text.proofs.laws.equal_printed_forms_equal_steps.Goals as goal
 

@@ -1,5 +1,5 @@
 use Rattle.std.proofs.lemmas.List.Elements.{All-from_recursion}
-use Rattle.fab_plans_steps.specs.Plans.{IsStep}
+use Rattle.fab_plans_base.specs.Plans.{IsStep}
 use Rattle.fab_plans_text.proofs.Printed.{spelled_steps}
 use Rattle.fab_plans_text.proofs.laws.plans_have_steps.Goals as goal
 

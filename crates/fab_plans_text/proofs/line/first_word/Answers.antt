@@ -1,6 +1,6 @@
 use Rattle.std.proofs.Common.{◌∙◌, ap, Some, None, lit<}
 use Rattle.std.proofs.lemmas.Str.Pattern.{split_parts}
-use Rattle.fab_plans_steps.specs.Texts.{words_of}
+use Rattle.fab_plans_base.specs.Texts.{words_of}
 use Rattle.fab_plans_text.proofs.Cuts.{first_word_cut, only_word}
 use Rattle.fab_plans_text.proofs.line.first_word.Goals as goal
 

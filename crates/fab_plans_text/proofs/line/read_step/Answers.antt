@@ -1,6 +1,6 @@
 use Rattle.std.proofs.Common.{◌∙◌, ap, sym, subst, count_by, eqb}
-use Rattle.fab_plans_steps.specs.Values.{texts_of}
-use Rattle.fab_plans_steps.specs.Forms.{form_of, Takes}
+use Rattle.fab_plans_base.specs.Values.{texts_of}
+use Rattle.fab_plans_base.specs.Forms.{form_of, Takes}
 use Rattle.fab_plans_text.specs.Faults.{ReadsWords}
 use Rattle.fab_plans_text.proofs.Readings.{begins, miscounted, counted, texts_after_one, length_after_one, line_read}
 use Rattle.fab_plans_text.proofs.line.read_step.Goals as goal

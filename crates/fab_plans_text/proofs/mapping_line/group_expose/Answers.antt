@@ -1,4 +1,4 @@
-use Rattle.fab_plans_steps.specs.Steps.{group_expose}
+use Rattle.fab_plans_base.specs.Steps.{group_expose}
 use Rattle.fab_plans_text.proofs.Words.{is_step}
 use Rattle.fab_plans_text.proofs.mapping_line.group_expose.Goals as goal
 

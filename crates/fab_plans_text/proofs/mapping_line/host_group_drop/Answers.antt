@@ -1,4 +1,4 @@
-use Rattle.fab_plans_steps.specs.Steps.{host_group_drop}
+use Rattle.fab_plans_base.specs.Steps.{host_group_drop}
 use Rattle.fab_plans_text.proofs.Words.{is_step}
 use Rattle.fab_plans_text.proofs.mapping_line.host_group_drop.Goals as goal
 

@@ -1,7 +1,7 @@
 use Rattle.std.proofs.Common.{refl, map}
 use Rattle.std.proofs.lemmas.Result.{err_from_is_err_and}
-use Rattle.fab_plans_steps.specs.Values.{a_name, of_name}
-use Rattle.fab_plans_steps.specs.Steps.{host_group_put}
+use Rattle.fab_plans_base.specs.Values.{a_name, of_name}
+use Rattle.fab_plans_base.specs.Steps.{host_group_put}
 use Rattle.fab_plans_text.proofs.Words.{listed_values, listed_fault, spelled, is_step}
 use Rattle.fab_plans_text.proofs.mapping_line.host_group_put.Goals as goal
 

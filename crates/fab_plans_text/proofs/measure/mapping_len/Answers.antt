@@ -1,7 +1,7 @@
 use Rattle.std.proofs.Common.{ap, length, arith}
 use Rattle.std.proofs.lemmas.List.{length-map}
-use Rattle.fab_plans_steps.specs.Values.{of_name}
-use Rattle.fab_plans_steps.specs.Steps.{host_group_put}
+use Rattle.fab_plans_base.specs.Values.{of_name}
+use Rattle.fab_plans_base.specs.Steps.{host_group_put}
 use Rattle.fab_plans_text.proofs.Measures.{words_taken}
 use Rattle.fab_plans_text.proofs.measure.mapping_len.Goals as goal
 

@@ -1,7 +1,7 @@
 use Rattle.std.proofs.Common.{◌≡◌, ◌*◌, ◌≤◌, length, take, map}
 use Rattle.std.specs.List.{flat_map}
-use Rattle.fab_plans_steps.specs.Values.{of_name}
-use Rattle.fab_plans_steps.specs.Plans.{spaced}
+use Rattle.fab_plans_base.specs.Values.{of_name}
+use Rattle.fab_plans_base.specs.Plans.{spaced}
 use Rattle.fab_plans_text.proofs.measure.names_len.Given as goal
 
 abbrev pub invariant-loop-name : goal.invariant-loop-name

@@ -1,8 +1,8 @@
 use Rattle.std.proofs.Common.{ap, length, arith, inl, inr}
 use Rattle.std.proofs.lemmas.Grind.{common_steps}
 use Rattle.std.proofs.lemmas.List.{length-map}
-use Rattle.fab_plans_steps.specs.Values.{of_name, of_member, of_port_member}
-use Rattle.fab_plans_steps.specs.Steps.{alias_put, zone_put, set_put}
+use Rattle.fab_plans_base.specs.Values.{of_name, of_member, of_port_member}
+use Rattle.fab_plans_base.specs.Steps.{alias_put, zone_put, set_put}
 use Rattle.fab_plans_text.proofs.Measures.{words_taken}
 use Rattle.fab_plans_text.proofs.Printing.{printed_members}
 use Rattle.fab_plans_text.proofs.measure.zoning_len.Goals as goal

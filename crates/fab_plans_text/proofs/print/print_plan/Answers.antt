@@ -2,7 +2,7 @@ use Rattle.std.proofs.Common.{◌≡◌, take, subst, sym, arith, ap, ◌∙◌}
 use Rattle.std.proofs.lemmas.List.{take_all}
 use Rattle.std.proofs.lemmas.List.Elements.{All-more, recursion_from_All}
 use Rattle.std.proofs.lemmas.Grind.{common_steps}
-use Rattle.fab_plans_steps.specs.Plans.{IsStep, Spells, plan_text}
+use Rattle.fab_plans_base.specs.Plans.{IsStep, Spells, plan_text}
 use Rattle.fab_plans_text.proofs.Printed.{printed_again}
 use Rattle.fab_plans_text.proofs.print.print_plan.Goals as goal
 

@@ -1,6 +1,6 @@
 use Rattle.std.proofs.Common.{◌≡◌, take, All}
 use Rattle.std.specs.String.{string_bytes}
-use Rattle.fab_plans_steps.specs.Plans.{plan_text, IsStep}
+use Rattle.fab_plans_base.specs.Plans.{plan_text, IsStep}
 use Rattle.fab_plans_text.proofs.print.print_plan.Given as goal
 
 abbrev pub invariant-loop-step : goal.invariant-loop-step

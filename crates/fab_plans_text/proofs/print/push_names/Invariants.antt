@@ -1,8 +1,8 @@
 use Rattle.std.proofs.Common.{◌≡◌, ◌++◌, take, map}
 use Rattle.std.specs.List.{flat_map}
 use Rattle.std.specs.String.{string_bytes}
-use Rattle.fab_plans_steps.specs.Values.{of_name}
-use Rattle.fab_plans_steps.specs.Plans.{spaced}
+use Rattle.fab_plans_base.specs.Values.{of_name}
+use Rattle.fab_plans_base.specs.Plans.{spaced}
 use Rattle.fab_plans_text.proofs.print.push_names.Given as goal
 
 abbrev pub invariant-loop-name : goal.invariant-loop-name

@@ -1,6 +1,6 @@
 use Rattle.std.proofs.Common.{inl, inr}
 use Rattle.std.proofs.lemmas.Result.{err_from_is_err_and}
-use Rattle.fab_plans_steps.specs.Values.{of_name}
+use Rattle.fab_plans_base.specs.Values.{of_name}
 use Rattle.fab_plans_text.proofs.Words.{two_texts, of_kind}
 use Rattle.fab_plans_text.proofs.word.name_wwn.Goals as goal
 

@@ -1,6 +1,6 @@
 use Rattle.std.proofs.Common.{refl, inr}
 use Rattle.std.proofs.lemmas.Result.{err_from_is_err_and}
-use Rattle.fab_plans_steps.specs.Values.{a_name, of_name}
+use Rattle.fab_plans_base.specs.Values.{a_name, of_name}
 use Rattle.fab_plans_text.proofs.Words.{list_more, list_fault}
 use Rattle.fab_plans_text.proofs.word.names.Goals as goal
 

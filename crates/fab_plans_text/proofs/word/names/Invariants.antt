@@ -1,5 +1,5 @@
 use Rattle.std.proofs.Common.{take, map}
-use Rattle.fab_plans_steps.specs.Values.{SpellsValues, texts_of, of_name}
+use Rattle.fab_plans_base.specs.Values.{SpellsValues, texts_of, of_name}
 use Rattle.fab_plans_text.proofs.word.names.Given as goal
 
 abbrev pub invariant-loop-word : goal.invariant-loop-word

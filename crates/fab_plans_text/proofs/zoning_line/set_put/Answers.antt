@@ -1,7 +1,7 @@
 use Rattle.std.proofs.Common.{refl, map}
 use Rattle.std.proofs.lemmas.Result.{err_from_is_err_and}
-use Rattle.fab_plans_steps.specs.Values.{a_fabric, a_name, of_fabric, of_name}
-use Rattle.fab_plans_steps.specs.Steps.{set_put}
+use Rattle.fab_plans_base.specs.Values.{a_fabric, a_name, of_fabric, of_name}
+use Rattle.fab_plans_base.specs.Steps.{set_put}
 use Rattle.fab_plans_text.proofs.Words.{listed_values, listed_fault, spelled, is_step}
 use Rattle.fab_plans_text.proofs.zoning_line.set_put.Goals as goal
 

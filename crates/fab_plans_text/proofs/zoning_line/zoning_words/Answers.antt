@@ -1,4 +1,4 @@
-use Rattle.fab_plans_steps.specs.Steps.{alias_drop, zone_drop, set_drop, activate, deactivate, default_zone}
+use Rattle.fab_plans_base.specs.Steps.{alias_drop, zone_drop, set_drop, activate, deactivate, default_zone}
 use Rattle.fab_plans_text.proofs.Words.{is_step}
 use Rattle.fab_plans_text.proofs.zoning_line.zoning_words.Goals as goal
 

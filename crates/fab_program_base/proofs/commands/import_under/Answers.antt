@@ -1,5 +1,5 @@
 use Rattle.std.proofs.Common.{ℕ, List, Ok, Err, refl, subst}
-use Rattle.fab_files_printing.specs.declared.forms.Form.TheVariants as forms
+use Rattle.fab_files.specs.declared.forms.Form.TheVariants as forms
 use Rattle.fab_program_base.specs.Commands.{ComesIn}
 use Rattle.fab_program_base.specs.Tasks.{ImportsAt}
 use Rattle.fab_program_base.proofs.commands.import_under.Goals as goal

@@ -1,5 +1,5 @@
 use Rattle.std.proofs.Common.{subst}
-use Rattle.fab_files_printing.specs.declared.forms.Form.{Form}
+use Rattle.fab_files.specs.declared.forms.Form.{Form}
 use Rattle.fab_program_base.specs.Prints.{IsPrintedTo}
 use Rattle.fab_program_base.proofs.tasks.do_at.Goals as goal
 

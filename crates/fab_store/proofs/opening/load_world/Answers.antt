@@ -1,6 +1,6 @@
 use Rattle.std.proofs.lemmas.Result.{IfOk-weaker, IfErr-weaker}
 use Rattle.sqlite.specs.Held.{state}
-use Rattle.fab_store_moves.specs.Opened as opened
+use Rattle.fab_store_base.specs.Opened as opened
 use Rattle.fab_store_sql.specs.Trees.{tables_of}
 use Rattle.fab_store.proofs.Told.{holds_there, opens_there}
 use Rattle.fab_store.proofs.opening.load_world.Goals as goal

@@ -2,7 +2,7 @@ use Rattle.std.proofs.Common.{subst}
 use Rattle.sqlite.specs.Held.{state}
 use Rattle.fab_store_load.specs.declared.fault.Table.TheVariants as table
 use Rattle.fab_reach_base.specs.Orders.{IsListOf}
-use Rattle.fab_store_listing.specs.Paths.{IsPathOf}
+use Rattle.fab_store_tables.specs.Paths.{IsPathOf}
 use Rattle.fab_store_sql.specs.Reading.{AreLinesOf, IsOfHost}
 use Rattle.fab_store_sql.specs.Trees.{tables_of}
 use Rattle.fab_store_tables.specs.Columns.{path_row}

@@ -4,7 +4,7 @@ use Rattle.sqlite.specs.State.{HasCleanDisk}
 use Rattle.sqlite.specs.Held.{state}
 use Rattle.sqlite.proofs.InsideLemmas.{keeps_then}
 use Rattle.sqlite.proofs.StateLemmas.{survives_then}
-use Rattle.fab_store_tables.specs.declared.line.TableLine.{TableLine}
+use Rattle.fab_store_tables.specs.declared.stored_line.TableLine.{TableLine}
 use Rattle.fab_store_sql.specs.States.{HasKeyAmong}
 use Rattle.fab_store_sql.specs.States.{HasKey, Loses, Walks}
 use Rattle.fab_store_sql.proofs.Walks.{walks_more, loses_more, joins_keys}

@@ -1,5 +1,5 @@
 use Rattle.std.proofs.Common.{List, MatchOption, sym, ap, ◌∙◌, subst}
-use Rattle.fab_plans_steps.specs.Steps.{PlanStep}
+use Rattle.fab_plans_base.specs.Steps.{PlanStep}
 use Rattle.fab_world.specs.PlanRecords.{PlanRecord}
 use Rattle.fab_store_world.specs.Parts.{standing_in, IsMadeOf}
 use Rattle.fab_store_world.specs.PlanRows.{IsTextOf}

@@ -1,5 +1,5 @@
 use Rattle.std.proofs.Common.{◌∙◌}
-use Rattle.fab_plans_steps.specs.Plans.{plan_text}
+use Rattle.fab_plans_base.specs.Plans.{plan_text}
 use Rattle.fab_store_world.proofs.PrintedTexts.{same_text}
 use Rattle.fab_store_world.proofs.texts.is_printed.Goals as goal
 

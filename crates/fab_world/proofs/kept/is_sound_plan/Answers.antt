@@ -3,7 +3,7 @@ use Rattle.fab_lemmas.proofs.SeenMaps.{same_look_ups}
 use Rattle.fab_mapping.specs.Soundness.{Each}
 use Rattle.fab_names.proofs.OrderLaws.{name_total}
 use Rattle.fab_plans.specs.Plans.{PlanRows}
-use Rattle.fab_plans_steps.specs.Plans.{IsWithinLimits}
+use Rattle.fab_plans_base.specs.Plans.{IsWithinLimits}
 use Rattle.fab_world.specs.declared.limits.TheConstants.{MOST_CHANGES}
 use Rattle.fab_world.proofs.kept.is_sound_plan.Goals as goal
 

@@ -1,0 +1,85 @@
+-- Room for the parts of a change: over it they make the same world, and given back it leaves the world
+-- as it was.
+use Rattle.std.proofs.Common.{◌≡◌, ℕ, List, Bool, true, false, cond, Option, None, Some, is_some, refl, sym, ap, ◌∙◌}
+use mathlib.Core.Bool.{true≢false}
+use Rattle.std.specs.Cmp.{Equal-is, tied_itself}
+use Rattle.std.specs.FinMap as map
+use Rattle.std.specs.Ordering.{eq_by_cmp, is_eq}
+use Rattle.fab_names.specs.Orders.{name_cmp}
+use Rattle.fab_names.proofs.OrderLaws.{name_total, name_exact}
+use Rattle.fab_world.specs.PlanRecords.{PlanRecord}
+use Rattle.fab_world.specs.Worlds.{WorldRows, records_of}
+use Rattle.fab_desk_commands.specs.Nexts.{blank_plan, next_world, with_room, without_room, IsReadyFor, Suits}
+use Rattle.fab_desk_commands.specs.declared.next.Next.{Next}
+use Rattle.fab_desk_commands.specs.declared.next.Next.TheVariants.{Same, Stock, Staged, Turned, Reconfigured}
+
+abbrev Plans : Type 0
+Plans = map.FinMap name_cmp PlanRecord
+
+put_over : (b : Bool) (p q : PlanRecord) (old : Option PlanRecord) → cond b (Some q) (cond b (Some p) old) ≡ cond b (Some q) old
+put_over true p q old = refl
+put_over false p q old = refl
+
+-- a plan put in the place of another
+twice : (plans : Plans) (n : List ℕ) (p q : PlanRecord) → map.insert (map.insert plans n p) n q ≡ map.insert plans n q
+twice plans n p q = map.same_map name_total name_exact _ _ (λ k.
+    map.get-insert name_total (map.insert plans n p) n q k
+    ∙ ap (cond (eq_by_cmp name_cmp k n) (Some q)) (map.get-insert name_total plans n p k)
+    ∙ put_over (eq_by_cmp name_cmp k n) p q (map.get plans k)
+    ∙ sym (map.get-insert name_total plans n q k))
+
+none_at : (o : Option PlanRecord) → is_some o ≡ false → o ≡ None
+none_at None none = refl
+none_at (Some p) none = absurd (true≢false none)
+
+put_and_taken : (b : Bool) (p : PlanRecord) (old : Option PlanRecord) → (b ≡ true → old ≡ None) → cond b None (cond b (Some p) old) ≡ old
+put_and_taken true p old none = sym (none refl)
+put_and_taken false p old none = refl
+
+-- a plan put where there is none, and taken away
+taken_back : (plans : Plans) (n : List ℕ) (p : PlanRecord) → map.contains_key plans n ≡ false → map.remove (map.insert plans n p) n ≡ plans
+taken_back plans n p absent = map.same_map name_total name_exact _ _ (λ k.
+    let none : eq_by_cmp name_cmp k n ≡ true → map.get plans k ≡ None = λ at. ap (map.get plans) (name_exact k n ((Equal-is (name_cmp k n)).0 at)) ∙ none_at (map.get plans n) absent in
+    map.get-remove name_total (map.insert plans n p) n k
+    ∙ ap (cond (eq_by_cmp name_cmp k n) None) (map.get-insert name_total plans n p k)
+    ∙ put_and_taken (eq_by_cmp name_cmp k n) p (map.get plans k) none)
+
+-- a plan that is put is there
+put_there : (plans : Plans) (n : List ℕ) (p : PlanRecord) → map.contains_key (map.insert plans n p) n ≡ true
+put_there plans n p = ap is_some (map.get-insert name_total plans n p n ∙ ap (λ b. cond b (Some p) (map.get plans n)) (ap is_eq (tied_itself name_total n)))
+
+abbrev with_plans : WorldRows → Plans → WorldRows
+with_plans w plans = record w { plans = plans }
+
+module _ {A : Type 0} (w : WorldRows) where
+  -- room is no port, no holder, no volume, and nothing of the configuration
+  pub records_stay : (next : Next A) → records_of (with_room w next) ≡ records_of w
+  records_stay Same = refl
+  records_stay (Stock v) = refl
+  records_stay (Staged n p) = refl
+  records_stay (Turned n t) = refl
+  records_stay (Reconfigured c n t order) = refl
+
+  -- over the room the parts make the same world
+  pub same_next : (next : Next A) → next_world (with_room w next) next ≡ next_world w next
+  same_next Same = refl
+  same_next (Stock v) = refl
+  same_next (Staged n p) = ap (with_plans w) (twice w.plans n (blank_plan n) p)
+  same_next (Turned n t) = refl
+  same_next (Reconfigured c n t order) = refl
+
+  -- the parts are for the world with room for them
+  pub room_made : (next : Next A) → Suits w next → IsReadyFor (with_room w next) next
+  room_made Same h = h
+  room_made (Stock v) h = h
+  room_made (Staged n p) h = put_there w.plans n (blank_plan n)
+  room_made (Turned n t) h = h
+  room_made (Reconfigured c n t order) h = h
+
+  -- room that is given back
+  pub given_back : (next : Next A) → Suits w next → without_room (with_room w next) next ≡ w
+  given_back Same h = refl
+  given_back (Stock v) h = refl
+  given_back (Staged n p) h = ap (with_plans w) (taken_back w.plans n (blank_plan n) h)
+  given_back (Turned n t) h = refl
+  given_back (Reconfigured c n t order) h = refl

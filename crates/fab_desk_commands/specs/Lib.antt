@@ -1,0 +1,5 @@
+pub mod Nexts
+pub mod Answered
+pub mod Keeping
+pub mod Kinds
+pub mod Trials

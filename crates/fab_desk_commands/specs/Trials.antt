@@ -1,0 +1,57 @@
+-- What the calls that try a command give one another.
+use Rattle.std.specs.Prelude.{ℕ, ◌≡◌, ◌++◌, List, [], ◌∷◌, Some}
+use Rattle.fab_mapping.specs.Gone.{IsFirstGone}
+use Rattle.fab_reach_base.specs.Records.{ConfigRows}
+use Rattle.fab_store_rows.specs.Differences.{IsDifference}
+use Rattle.fab_plans_base.specs.Steps.{PlanStep}
+use Rattle.fab_plans.specs.Outcomes.{IsRefusedOutcome}
+use Rattle.fab_world.specs.History.{IsEarlier, IsOnlyEarlier}
+use Rattle.fab_world.specs.PlanRecords.{PlanRecord}
+use Rattle.fab_world.specs.Plans.{Change, undo_of}
+use Rattle.fab_world.specs.Worlds.{WorldRows}
+use Rattle.fab_desk_base.specs.declared.fault.DeskFault.{DeskFault}
+use Rattle.fab_desk_base.specs.declared.fault.DeskFault.TheVariants.{Gone, Memory, Plan}
+use Rattle.fab_desk_commands.specs.declared.next.Next.{Next}
+use Rattle.fab_desk_commands.specs.declared.next.Next.TheVariants.{Reconfigured}
+use Rattle.fab_desk_commands.specs.declared.next.Turn.{Turn}
+use Rattle.fab_desk_commands.specs.declared.next.Turn.TheVariants.{Activated, RolledBack}
+
+-- ---- activation
+
+-- why steps have no outcome: they are refused, or there is no memory
+abbrev pub IsOutcomeFault : WorldRows → List PlanStep → DeskFault → Type 0
+IsOutcomeFault w steps (Plan number refusal) = IsRefusedOutcome w.inventory steps w.config number refusal
+IsOutcomeFault w steps Memory = Unit {0}
+IsOutcomeFault w steps _ = ⊥
+
+-- the turn is an activation that changes the configuration just so
+abbrev pub Activates : {A : Type 0} → ConfigRows → ConfigRows → Turn A → Type 0
+Activates before after (Activated change) = IsDifference before after change.taken.items change.added.items
+Activates before after _ = ⊥
+
+-- the parts are those of an activation that leads to the configuration
+abbrev pub IsActivation : {A : Type 0} → WorldRows → List ℕ → ConfigRows → Next A → Type 0
+IsActivation w n c (Reconfigured config m turn order) = (config ≡ c) × (m ≡ n) × Activates w.config c turn × (order.items ≡ w.order ++ (n ∷ []))
+IsActivation w n c _ = ⊥
+
+-- ---- rollback
+
+-- what undoes the plan leads back to a configuration
+abbrev pub HasEarlier : WorldRows → PlanRecord → Type 0
+HasEarlier w p = (change : Change) × (undo_of p.standing ≡ Some change) × ((before : ConfigRows) × IsEarlier w.config change before)
+
+-- what undoes the plan leads back to this configuration, and to no other
+abbrev pub IsBeforePlan : WorldRows → PlanRecord → ConfigRows → Type 0
+IsBeforePlan w p before = (change : Change) × (undo_of p.standing ≡ Some change) × IsOnlyEarlier w.config change before
+
+-- the parts are those of a rollback that leads to the configuration, and leaves these in force
+abbrev pub IsRollback : {A : Type 0} → List ℕ → ConfigRows → List (List ℕ) → Next A → Type 0
+IsRollback n c rest (Reconfigured config m RolledBack order) = (config ≡ c) × (m ≡ n) × (order.items ≡ rest)
+IsRollback n c rest _ = ⊥
+
+-- why there is no way back: something is gone that the configuration from before the plan names, or
+-- there is no memory
+abbrev pub IsRestoreFault : WorldRows → PlanRecord → DeskFault → Type 0
+IsRestoreFault w p (Gone g) = (before : ConfigRows) × IsBeforePlan w p before × IsFirstGone w.inventory before.mapping g
+IsRestoreFault w p Memory = Unit {0}
+IsRestoreFault w p _ = ⊥

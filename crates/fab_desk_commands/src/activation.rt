@@ -1,0 +1,109 @@
+//! The activation of a staged plan.
+ghost use Rattle.std.specs.Prelude.{◌≡◌, ◌<◌, ◌++◌, ℕ, List, [], ◌∷◌, IfOk, IfErr};
+ghost use Rattle.fab_reach_base.specs.Soundness.{IsSoundBeside};
+ghost use Rattle.fab_plans.specs.Outcomes.{IsOutcome};
+ghost use Rattle.fab_world.specs.Soundness.{IsSound};
+ghost use Rattle.fab_world.specs.declared.limits.TheConstants.{MOST_CHANGES};
+ghost use Rattle.fab_desk_base.specs.Answers.{HasPlan};
+ghost use Rattle.fab_desk_base.specs.Trying.{IsMade, StaysSound, IsTryFault};
+ghost use Rattle.fab_desk_base.specs.declared.command.Command.TheVariants.{Activate};
+ghost use Rattle.fab_desk_commands.specs.Nexts.{next_world, Suits};
+ghost use Rattle.fab_desk_commands.specs.Kinds.{IsReconfiguration};
+ghost use Rattle.fab_desk_commands.specs.Trials.{IsOutcomeFault, IsActivation};
+
+use crate::found::staged_at;
+use crate::{Next, Turn};
+use fab_desk_base::DeskFault;
+use fab_names::Name;
+use fab_plans::{TrialFault, trial};
+use fab_reach_base::Config;
+use fab_store_rows::difference;
+use fab_world::{KeptPlan, World};
+use std::alloc::{AllocError, Allocator};
+
+/// The configuration that the plan's steps make of the world's.
+///
+/// # Errors
+/// `Plan` with the number and the refusal of the first step that is refused, or 0 and the least
+/// clash; `Memory`.
+fn outcome<A: Allocator + Copy>(
+    world: &World<A>,
+    kept: &KeptPlan<A>,
+) -> Result<Config<A>, DeskFault>
+    ensures ok { IfOk result (IsOutcome world.now.inventory kept.now.steps world.now.config) }
+    ensures sound { IfOk result (λ after. IsSoundBeside world.now.inventory world.now.config → IsSoundBeside world.now.inventory after) }
+    ensures err { IfErr result (IsOutcomeFault world.now kept.now.steps) }
+{
+    let plan = kept.plan();
+    match trial(&world.config, &world.inventory, plan.steps.as_slice()) {
+        Ok(after) => Ok(after),
+        Err(TrialFault::Refused { step, refusal }) => Err(DeskFault::Plan { step, refusal }),
+        Err(TrialFault::Memory) => Err(DeskFault::Memory),
+    }
+}
+
+/// The names of the plans in force, and this one behind them.
+fn order_with<A: Allocator + Copy>(
+    alloc: A,
+    world: &World<A>,
+    plan: &Name,
+) -> Result<Vec<Name, A>, AllocError>
+    ensures { IfOk result (λ order. order.items ≡ world.now.order ++ (plan.now ∷ [])) }
+{
+    let mut order = Vec::new(alloc);
+    order.extend_from_slice(world.order.as_slice())?;
+    order.push(*plan)?;
+    Ok(order)
+}
+
+/// The parts of the world after the activation of the plan, which makes this configuration.
+fn activation<A: Allocator + Copy>(
+    alloc: A,
+    world: &World<A>,
+    plan: &Name,
+    config: Config<A>,
+) -> Result<Next<A>, AllocError>
+    ensures { IfOk result (IsActivation world.now plan.now config) }
+{
+    let change = difference(alloc, &world.config, &config)?;
+    let order = order_with(alloc, world, plan)?;
+    Ok(Next::Reconfigured {
+        config,
+        name: *plan,
+        turn: Turn::Activated(change),
+        order,
+    })
+}
+
+/// What the activation of the plan would make: the configuration that its steps make, the plan,
+/// active, with what it changes, and the plan as the last in force.
+///
+/// # Errors
+/// `WrongState` with its state, where the plan is not staged; `Plan` with the number and the refusal
+/// of the first step that is refused, or 0 and the least clash; `Memory`. The world stays as it is.
+pub fn activated<A: Allocator + Copy>(
+    alloc: A,
+    world: &World<A>,
+    plan: &Name,
+) -> Result<Next<A>, DeskFault>
+    requires there { HasPlan world.now plan.now }
+    requires sound { IsSound world.now }
+    ensures ok { (caller : List ℕ) → IfOk result (λ next. IsMade {A = A.row.Denot} world.now caller (Activate plan.now) (next_world world.now next)) }
+    ensures kind { IfOk result (IsReconfiguration plan.now) }
+    ensures suits { IfOk result (λ next. world.now.revision < MOST_CHANGES → Suits world.now next) }
+    ensures sound { IfOk result (λ next. StaysSound {A = A.row.Denot} world.now (Activate plan.now) (next_world world.now next)) }
+    ensures err { (caller : List ℕ) → IfErr result (IsTryFault {A = A.row.Denot} world.now caller (Activate plan.now)) }
+{
+    let kept = match staged_at(world, plan) {
+        Ok(kept) => kept,
+        Err(fault) => return Err(fault),
+    };
+    let config = match outcome(world, kept) {
+        Ok(config) => config,
+        Err(fault) => return Err(fault),
+    };
+    match activation(alloc, world, plan, config) {
+        Ok(next) => Ok(next),
+        Err(_) => Err(DeskFault::Memory),
+    }
+}

@@ -1,0 +1,184 @@
+//! The parts of the world after a change.
+ghost use Rattle.std.specs.Prelude.{◌≡◌, ◌<◌, OnOk, OnErr, true};
+ghost use Rattle.std.specs.FinMap as map;
+ghost use Rattle.fab_world.specs.declared.limits.TheConstants.{MOST_CHANGES};
+ghost use Rattle.fab_desk_base.specs.Effects.{counted, with_inventory, with_plan};
+ghost use Rattle.fab_desk_commands.specs.Nexts.{blank_plan, next_world, turned_at, with_room, without_room, IsReadyFor, LeadsAt};
+
+use crate::rooms::{make_place, put_in_place, remove_place};
+use crate::turns::turn_at;
+use fab_inventory::Inventory;
+use fab_names::Name;
+use fab_reach_base::Config;
+use fab_store_rows::RowDifference;
+use fab_world::{KeptPlan, World};
+use std::alloc::{AllocError, Allocator};
+use std::collections::BTreeMap;
+
+/// What becomes of a plan.
+#[derive(Drop)]
+pub enum Turn<A: Allocator + Copy> {
+    /// A staged plan is withdrawn.
+    Withdrawn,
+    /// A staged plan has these approvals: each caller with the revision of the last time.
+    Approved(BTreeMap<Name, u64, A>),
+    /// A staged plan is active, and its activation made this difference.
+    Activated(RowDifference<A>),
+    /// An active plan is rolled back.
+    RolledBack,
+}
+
+/// The parts of the world that a change leaves others than they were. All memory for them is taken,
+/// but for the place of a plan that is new: `make_room` takes that.
+pub enum Next<A: Allocator + Copy> {
+    /// The world stays as it is.
+    Same,
+    /// Another inventory, by one change more.
+    Stock(Inventory<A>),
+    /// One plan more, under a name that no plan has.
+    Staged {
+        name: Name,
+        plan: KeptPlan<A>,
+    },
+    /// A plan in another state, or with other approvals.
+    Turned {
+        name: Name,
+        turn: Turn<A>,
+    },
+    /// Another configuration, by one change more: the plan that led to it, or from it, and the
+    /// plans whose activation is in force then, the oldest first.
+    Reconfigured {
+        config: Config<A>,
+        name: Name,
+        turn: Turn<A>,
+        order: Vec<Name, A>,
+    },
+}
+
+// It is written out, so that a caller does not prove again how each part is dropped.
+impl<A: Allocator + Copy> Drop for Next<A> {
+    fn drop(self) {
+        match self {
+            Next::Same => {}
+            Next::Stock(_) => {}
+            Next::Staged { name: _, plan: _ } => {}
+            Next::Turned { name: _, turn: _ } => {}
+            Next::Reconfigured {
+                config: _,
+                name: _,
+                turn: _,
+                order: _,
+            } => {}
+        }
+    }
+}
+
+/// Counts one change more.
+fn count<A: Allocator + Copy>(world: &mut World<A>)
+    requires { world.old.revision < MOST_CHANGES }
+    ensures { world.new ≡ counted world.old }
+{
+    world.revision += 1;
+}
+
+/// Takes over an inventory, by one change more.
+fn stock<A: Allocator + Copy>(world: &mut World<A>, inventory: Inventory<A>)
+    requires { world.old.revision < MOST_CHANGES }
+    ensures { world.new ≡ counted (with_inventory inventory world.old) }
+{
+    world.inventory = inventory;
+    count(world);
+}
+
+/// Takes over a configuration and an order, by one change more.
+fn reconfigure<A: Allocator + Copy>(world: &mut World<A>, config: Config<A>, order: Vec<Name, A>)
+    requires { world.old.revision < MOST_CHANGES }
+    ensures { world.new ≡ counted (record world.old { config = config; order = order.items }) }
+{
+    world.config = config;
+    world.order = order;
+    count(world);
+}
+
+/// Makes a place for a plan.
+fn place<A: Allocator + Copy>(alloc: A, world: &mut World<A>, name: Name) -> Result<(), AllocError>
+    ensures ok { OnOk result (world.new ≡ with_plan name (blank_plan name) world.old) }
+    ensures err { OnErr result (world.new ≡ world.old) }
+{
+    make_place(alloc, &mut world.plans, name)
+}
+
+/// Takes the place of a plan away.
+fn displace<A: Allocator + Copy>(world: &mut World<A>, name: &Name)
+    ensures { world.new ≡ record world.old { plans = map.remove world.old.plans name.now } }
+{
+    remove_place(&mut world.plans, name);
+}
+
+/// Takes over a plan in its place.
+fn put_plan<A: Allocator + Copy>(world: &mut World<A>, name: &Name, plan: KeptPlan<A>)
+    requires { map.contains_key world.old.plans name.now ≡ true }
+    ensures { world.new ≡ with_plan name.now plan world.old }
+{
+    put_in_place(&mut world.plans, name, plan);
+}
+
+/// Turns a plan in its place.
+fn turn_in<A: Allocator + Copy>(alloc: A, world: &mut World<A>, name: &Name, turn: Turn<A>)
+    requires { LeadsAt world.old name.now turn }
+    ensures { world.new ≡ turned_at name.now turn world.old }
+{
+    turn_at(alloc, &mut world.plans, name, turn);
+}
+
+impl<A: Allocator + Copy> Next<A> {
+    /// Makes room for the parts: a plan that is new has its place then, where a plan without steps
+    /// stands until it is taken over, or the room is given back.
+    ///
+    /// # Errors
+    /// `AllocError` where there is no memory: the world is as it was.
+    pub fn make_room(&self, alloc: A, world: &mut World<A>) -> Result<(), AllocError>
+        ensures ok { OnOk result (world.new ≡ with_room world.old self.now) }
+        ensures err { OnErr result (world.new ≡ world.old) }
+    {
+        match self {
+            Next::Staged { name, .. } => place(alloc, world, *name),
+            _ => Ok(()),
+        }
+    }
+
+    /// Gives the room back that was made for the parts. It takes no memory.
+    pub fn give_back(&self, world: &mut World<A>)
+        ensures { world.new ≡ without_room world.old self.now }
+    {
+        match self {
+            Next::Staged { name, .. } => displace(world, name),
+            _ => {}
+        }
+    }
+
+    /// Takes over the parts: the world is the next one then. It asks that the parts are for this
+    /// world, which has room for them: a plan that is new has its place, one that takes a turn is
+    /// there, in the state that the turn leads from, and one change more may be counted where one
+    /// is. It takes no memory and can not fail.
+    pub fn take_over(self, alloc: A, world: &mut World<A>)
+        requires { IsReadyFor world.old self }
+        ensures { world.new ≡ next_world world.old self }
+    {
+        match self {
+            Next::Same => {}
+            Next::Stock(inventory) => stock(world, inventory),
+            Next::Staged { name, plan } => put_plan(world, &name, plan),
+            Next::Turned { name, turn } => turn_in(alloc, world, &name, turn),
+            Next::Reconfigured {
+                config,
+                name,
+                turn,
+                order,
+            } => {
+                turn_in(alloc, world, &name, turn);
+                reconfigure(world, config, order);
+            }
+        }
+    }
+}

@@ -1,0 +1,151 @@
+//! The rollback of the last plan in force.
+ghost use Rattle.std.specs.Prelude.{◌<◌, ℕ, List, length, IfOk, IfErr, MatchOption};
+ghost use Rattle.fab_mapping.specs.Gone.{IsFirstGone};
+ghost use Rattle.fab_mapping.specs.Soundness.{Fits};
+ghost use Rattle.fab_world.specs.Soundness.{IsSound};
+ghost use Rattle.fab_world.specs.declared.limits.TheConstants.{MOST_CHANGES};
+ghost use Rattle.fab_desk_base.specs.Answers.{HasPlan};
+ghost use Rattle.fab_desk_base.specs.Effects.{IsLastAfter};
+ghost use Rattle.fab_desk_base.specs.Refusals.{FailsWith, IsOtherLast};
+ghost use Rattle.fab_desk_base.specs.Trying.{IsMade, StaysSound, IsTryFault};
+ghost use Rattle.fab_desk_base.specs.declared.command.Command.TheVariants.{Rollback};
+ghost use Rattle.fab_desk_base.specs.declared.fault.DeskFault.TheVariants as fault;
+ghost use Rattle.fab_desk_commands.specs.Nexts.{next_world, Suits};
+ghost use Rattle.fab_desk_commands.specs.Kinds.{IsReconfiguration};
+ghost use Rattle.fab_desk_commands.specs.Trials.{HasEarlier, IsBeforePlan, IsRollback, IsRestoreFault};
+
+use crate::found::active_at;
+use crate::{Next, Turn};
+use fab_desk_base::DeskFault;
+use fab_mapping::Gone;
+use fab_names::Name;
+use fab_reach_base::Config;
+use fab_world::{KeptPlan, World, earlier};
+use std::alloc::{AllocError, Allocator};
+
+/// The plans in force before this one, where it is the last of them; some plan is.
+///
+/// # Errors
+/// `NotLast` with the last one, where it is another.
+fn plans_before<'a, A: Allocator + Copy>(
+    world: &'a World<A>,
+    plan: &Name,
+) -> Result<&'a [Name], DeskFault>
+    requires { 0 < length world.now.order }
+    ensures ok { IfOk result (λ rest. IsLastAfter world.now rest.now plan.now) }
+    ensures err { IfErr result (λ r. (last : List ℕ) × FailsWith (fault.NotLast last) (IsOtherLast world.now plan.now last) r) }
+{
+    let Some(pair) = world.order.as_slice().split_last() else {
+        unreachable!();
+    };
+    let (last, rest) = pair;
+    if last != plan {
+        return Err(DeskFault::NotLast(*last));
+    }
+    Ok(rest)
+}
+
+/// The configuration from before the activation of the plan, which is there.
+fn config_before<A: Allocator + Copy>(
+    alloc: A,
+    world: &World<A>,
+    kept: &KeptPlan<A>,
+) -> Result<Config<A>, AllocError>
+    requires { HasEarlier world.now kept.now }
+    ensures { IfOk result (IsBeforePlan world.now kept.now) }
+{
+    let Some(undo) = kept.undo() else {
+        unreachable!();
+    };
+    match earlier(alloc, &world.config, undo)? {
+        Some(before) => Ok(before),
+        None => unreachable!(),
+    }
+}
+
+/// The first that the configuration names and the inventory has not, if there is any.
+fn gone_of<A: Allocator + Copy>(world: &World<A>, config: &Config<A>) -> Option<Gone>
+    ensures { MatchOption result (Fits world.now.inventory config.now.mapping) (IsFirstGone world.now.inventory config.now.mapping) }
+{
+    config.mapping().first_gone(&world.inventory)
+}
+
+/// The configuration from before the activation of the plan, where all is there that it names.
+///
+/// # Errors
+/// `Gone` with the first that it names and the inventory has not; `Memory`.
+fn restored<A: Allocator + Copy>(
+    alloc: A,
+    world: &World<A>,
+    kept: &KeptPlan<A>,
+) -> Result<Config<A>, DeskFault>
+    requires { HasEarlier world.now kept.now }
+    ensures ok { IfOk result (λ before. IsBeforePlan world.now kept.now before × Fits world.now.inventory before.mapping) }
+    ensures err { IfErr result (IsRestoreFault world.now kept.now) }
+{
+    let Ok(before) = config_before(alloc, world, kept) else {
+        return Err(DeskFault::Memory);
+    };
+    match gone_of(world, &before) {
+        Some(gone) => Err(DeskFault::Gone(gone)),
+        None => Ok(before),
+    }
+}
+
+/// The parts of the world after the rollback of the plan, which leads to this configuration and
+/// leaves these plans in force.
+fn parts_before<A: Allocator + Copy>(
+    alloc: A,
+    plan: &Name,
+    config: Config<A>,
+    rest: &[Name],
+) -> Result<Next<A>, AllocError>
+    ensures { IfOk result (IsRollback plan.now config rest.now) }
+{
+    let mut order = Vec::new(alloc);
+    order.extend_from_slice(rest)?;
+    Ok(Next::Reconfigured {
+        config,
+        name: *plan,
+        turn: Turn::RolledBack,
+        order,
+    })
+}
+
+/// What the rollback of the plan would make: the configuration from before its activation, the
+/// plan, rolled back, and the plans in force without it. The inventory stays.
+///
+/// # Errors
+/// `WrongState` with its state, where the plan is not active; `NotLast` with the last plan in
+/// force, where it is another; `Gone` with the first that the earlier configuration names and the
+/// inventory has not; `Memory`. The world stays as it is.
+pub fn rolled_back<A: Allocator + Copy>(
+    alloc: A,
+    world: &World<A>,
+    plan: &Name,
+) -> Result<Next<A>, DeskFault>
+    requires there { HasPlan world.now plan.now }
+    requires sound { IsSound world.now }
+    ensures ok { (caller : List ℕ) → IfOk result (λ next. IsMade {A = A.row.Denot} world.now caller (Rollback plan.now) (next_world world.now next)) }
+    ensures kind { IfOk result (IsReconfiguration plan.now) }
+    ensures suits { IfOk result (λ next. world.now.revision < MOST_CHANGES → Suits world.now next) }
+    ensures sound { IfOk result (λ next. StaysSound {A = A.row.Denot} world.now (Rollback plan.now) (next_world world.now next)) }
+    ensures err { (caller : List ℕ) → IfErr result (IsTryFault {A = A.row.Denot} world.now caller (Rollback plan.now)) }
+{
+    let kept = match active_at(world, plan) {
+        Ok(kept) => kept,
+        Err(fault) => return Err(fault),
+    };
+    let rest = match plans_before(world, plan) {
+        Ok(rest) => rest,
+        Err(fault) => return Err(fault),
+    };
+    let config = match restored(alloc, world, kept) {
+        Ok(config) => config,
+        Err(fault) => return Err(fault),
+    };
+    match parts_before(alloc, plan, config, rest) {
+        Ok(next) => Ok(next),
+        Err(_) => Err(DeskFault::Memory),
+    }
+}

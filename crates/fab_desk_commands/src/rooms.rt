@@ -1,0 +1,58 @@
+//! Places of plans: made before a plan comes, so that it needs no memory then.
+ghost use Rattle.std.specs.Prelude.{◌≡◌, OnOk, OnErr, IsSome};
+ghost use Rattle.std.specs.BTreeMap.{get};
+ghost use Rattle.std.specs.FinMap as map;
+ghost use Rattle.fab_names.specs.Orders.{name_cmp};
+ghost use Rattle.fab_desk_commands.specs.Nexts.{blank_plan};
+
+use fab_names::Name;
+use fab_plans::Staged;
+use fab_world::{AnyPlan, KeptPlan};
+use std::alloc::{AllocError, Allocator};
+use std::collections::BTreeMap;
+
+/// A plan without steps, which keeps a place. It takes no memory.
+pub fn blank<A: Allocator + Copy>(alloc: A, author: Name) -> KeptPlan<A>
+    ensures { result ≡ blank_plan author }
+{
+    KeptPlan {
+        inner: AnyPlan::Staged(Staged::new(alloc, author, Vec::new(alloc))),
+    }
+}
+
+/// Makes a place for a plan: a blank one stands under its name.
+///
+/// # Errors
+/// `AllocError` where there is no memory: the plans are as they were.
+pub fn make_place<A: Allocator + Copy>(
+    alloc: A,
+    plans: &mut BTreeMap<Name, KeptPlan<A>, A>,
+    name: Name,
+) -> Result<(), AllocError>
+    ensures ok { OnOk result (map.from_entries {R = name_cmp} plans.new.entries ≡ map.insert (map.from_entries {R = name_cmp} plans.old.entries) name (blank_plan name)) }
+    ensures err { OnErr result (map.from_entries {R = name_cmp} plans.new.entries ≡ map.from_entries {R = name_cmp} plans.old.entries) }
+{
+    let _former = plans.insert(name, blank(alloc, name))?;
+    Ok(())
+}
+
+/// Takes the place of a plan away, with what stands there. It takes no memory.
+pub fn remove_place<A: Allocator + Copy>(plans: &mut BTreeMap<Name, KeptPlan<A>, A>, name: &Name)
+    ensures { map.from_entries {R = name_cmp} plans.new.entries ≡ map.remove (map.from_entries {R = name_cmp} plans.old.entries) name.now }
+{
+    plans.remove(name);
+}
+
+/// Puts a plan in its place, which is there. It takes no memory.
+pub fn put_in_place<A: Allocator + Copy>(
+    plans: &mut BTreeMap<Name, KeptPlan<A>, A>,
+    name: &Name,
+    plan: KeptPlan<A>,
+)
+    requires { IsSome (get name_cmp plans.old name.now) }
+    ensures { map.from_entries {R = name_cmp} plans.new.entries ≡ map.insert (map.from_entries {R = name_cmp} plans.old.entries) name.now plan }
+{
+    if let Some(place) = plans.get_mut(name) {
+        *place = plan;
+    }
+}

@@ -1,0 +1,74 @@
+//! The staging of a plan.
+ghost use Rattle.std.specs.Prelude.{◌≡◌, ◌↔◌, IsTrue, IfOk, IfErr, false};
+ghost use Rattle.std.specs.Bool.{OnTrue, OnFalse};
+ghost use Rattle.std.specs.FinMap as map;
+ghost use Rattle.fab_lemmas.specs.Room.{IsFull, HasRoom};
+ghost use Rattle.fab_world.specs.declared.limits.TheConstants.{MOST_PLANS};
+ghost use Rattle.fab_desk_base.specs.Commands.{IsGiven};
+ghost use Rattle.fab_desk_base.specs.Effects.{with_plan, staged_plan};
+ghost use Rattle.fab_desk_base.specs.Trying.{IsMade, StaysSound, IsTryFault};
+ghost use Rattle.fab_desk_base.specs.declared.command.Command.TheVariants.{Stage};
+
+use crate::found::is_author;
+use fab_desk_base::{DeskFault, DeskLimit};
+use fab_lemmas::is_full;
+use fab_names::Name;
+use fab_plans_base::{Step, are_same};
+use fab_world::{KeptPlan, MOST_PLANS, World};
+use std::alloc::Allocator;
+
+/// Whether the plan has these steps.
+fn has_steps<A: Allocator + Copy>(kept: &KeptPlan<A>, steps: &[Step<A>]) -> bool
+    ensures { IsTrue result ↔ (kept.now.steps ≡ steps.now) }
+{
+    let plan = kept.plan();
+    are_same(plan.steps.as_slice(), steps)
+}
+
+/// Whether this caller staged the plan, with these steps.
+fn is_same_plan<A: Allocator + Copy>(kept: &KeptPlan<A>, caller: &Name, steps: &[Step<A>]) -> bool
+    ensures { IsTrue result ↔ (caller.now ≡ kept.now.author) × (kept.now.steps ≡ steps.now) }
+{
+    if !is_author(kept, caller) {
+        return false;
+    }
+    has_steps(kept, steps)
+}
+
+/// Whether the name is new, and there are as many plans as there may be.
+fn has_no_room<A: Allocator + Copy>(world: &World<A>, name: &Name) -> bool
+    ensures full { OnTrue result (IsFull world.now.plans name.now MOST_PLANS) }
+    ensures room { OnFalse result (HasRoom world.now.plans name.now MOST_PLANS) }
+{
+    is_full(&world.plans, name, MOST_PLANS)
+}
+
+/// Whether the caller staged just this plan before, and nothing is to do. Else the name is free, and
+/// there is room for one plan more. It takes no memory.
+///
+/// # Errors
+/// `Exists` with the name, where it is another plan's, of another author or with other steps;
+/// `Limit` where there are 100000 plans. The world stays as it is.
+pub fn is_staged_already<A: Allocator + Copy>(
+    world: &World<A>,
+    caller: &Name,
+    plan: &Name,
+    steps: &Vec<Step<A>, A>,
+) -> Result<bool, DeskFault>
+    requires { IsGiven (Stage plan.now steps.now) }
+    ensures same { IfOk result (λ b. IsTrue b → IsMade world.now caller.now (Stage plan.now steps.now) world.now) }
+    ensures new { IfOk result (λ b. b ≡ false → (map.contains_key world.now.plans plan.now ≡ false) × IsMade world.now caller.now (Stage plan.now steps.now) (with_plan plan.now (staged_plan caller.now steps.now.items) world.now)) }
+    ensures sound { IfOk result (λ b. b ≡ false → StaysSound world.now (Stage plan.now steps.now) (with_plan plan.now (staged_plan caller.now steps.now.items) world.now)) }
+    ensures err { IfErr result (IsTryFault world.now caller.now (Stage plan.now steps.now)) }
+{
+    if let Some(kept) = world.plans.get(plan) {
+        if is_same_plan(kept, caller, steps.as_slice()) {
+            return Ok(true);
+        }
+        return Err(DeskFault::Exists(*plan));
+    }
+    if has_no_room(world, plan) {
+        return Err(DeskFault::Limit(DeskLimit::Plans));
+    }
+    Ok(false)
+}

@@ -1,5 +1,0 @@
-use Rattle.fab_desk_laws.proofs.OneAnswer.{one_denial}
-use Rattle.fab_desk_laws.proofs.answers.one_denial.Goals as goal
-
-pub returns : goal.returns
-returns g c p w id caller moment f k h j = one_denial w p id caller moment c.args.command.now f k h j

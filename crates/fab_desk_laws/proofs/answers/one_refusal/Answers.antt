@@ -1,5 +1,0 @@
-use Rattle.fab_desk_laws.proofs.OneRefusal as refusals
-use Rattle.fab_desk_laws.proofs.answers.one_refusal.Goals as goal
-
-pub returns : goal.returns
-returns g c p w q f e a b h k = refusals.one_refusal w p q f e a b h k

@@ -1,5 +1,0 @@
-use Rattle.fab_desk_laws.proofs.KeptHosts.{keeps_hosts}
-use Rattle.fab_desk_laws.proofs.keeping.holders_are_kept.Goals as goal
-
-pub returns : goal.returns
-returns g c p w q r new is = keeps_hosts p w q r new is

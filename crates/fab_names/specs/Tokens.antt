@@ -1,0 +1,15 @@
+-- The form of a token: that of a bearer token (RFC 6750, b64token), with `=` at any place.
+use Rattle.std.specs.Prelude.{◌≡◌, ℕ, ◌≤◌, Bool, true, ◌||◌, ◌==◌, List, length, codes}
+use Rattle.std.specs.List.{list_all, list_any}
+use Rattle.std.specs.Char.{is_ascii_alphanumeric}
+use Rattle.fab_names.specs.declared.tokens.TheConstants.{MOST_TOKEN_BYTES}
+
+-- a letter, a digit, or one of these marks
+abbrev pub is_token_char : ℕ → Bool
+is_token_char c = is_ascii_alphanumeric c || list_any (λ mark. mark == c) (codes "-._~+/=")
+
+-- some such characters, and no more than there may be
+pub record IsTokenText (text : List ℕ) : Type 0 where
+  pub some : 1 ≤ length text
+  pub short : length text ≤ MOST_TOKEN_BYTES
+  pub chars : list_all is_token_char text ≡ true

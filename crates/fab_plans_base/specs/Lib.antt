@@ -1,0 +1,8 @@
+pub mod Limits
+pub mod Texts
+pub mod Values
+pub mod Steps
+pub mod Actions
+pub mod Forms
+pub mod Plans
+pub mod Parts

@@ -1,7 +1,0 @@
-pub mod Limits
-pub mod Texts
-pub mod Values
-pub mod Steps
-pub mod Actions
-pub mod Forms
-pub mod Plans

@@ -1,0 +1,11 @@
+pub mod Telling
+pub mod Reached
+pub mod Pairs
+pub mod Bounding
+pub mod Holding
+pub mod Offering
+pub mod Covering
+pub mod Keeping
+pub mod BookPaths
+pub mod Staying
+pub mod Zones

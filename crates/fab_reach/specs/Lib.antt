@@ -1,0 +1,4 @@
+pub mod Counting
+pub mod Offers
+pub mod Changes
+pub mod Covering

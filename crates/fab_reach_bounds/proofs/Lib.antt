@@ -1,4 +1,0 @@
-pub mod Pairs
-pub mod Bounding
-pub mod Holding
-pub mod Offering

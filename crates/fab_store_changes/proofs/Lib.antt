@@ -1,3 +1,0 @@
-pub mod Picked
-pub mod PlacedNames
-pub mod KeyOrders

@@ -1,4 +1,0 @@
-pub mod Keys
-pub mod Positions
-pub mod Standing
-pub mod Tables

@@ -1,4 +1,0 @@
-pub mod Rows
-pub mod Listing
-pub mod Reading
-pub mod Paths

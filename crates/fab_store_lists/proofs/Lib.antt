@@ -1,4 +1,0 @@
-pub mod PathRowOrder
-pub mod PathRowSets
-pub mod NamedRows
-pub mod InventoryTables

@@ -1,4 +1,0 @@
-pub mod Paths
-pub mod PathGathering
-pub mod Inventories
-pub mod InventoryGathering

@@ -1,2 +1,0 @@
-pub mod OneWorld
-pub mod WorldMade

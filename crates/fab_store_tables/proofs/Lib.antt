@@ -1,0 +1,15 @@
+pub mod Cuts
+pub mod Digits
+pub mod Clear
+pub mod Entries
+pub mod Written
+pub mod Unique
+pub mod Range
+pub mod LinesOfTables
+pub mod OneRow
+pub mod LinesAdded
+pub mod Ranges
+pub mod RowsAdded
+pub mod OddLines
+pub mod RowsRead
+pub mod PathsAdded

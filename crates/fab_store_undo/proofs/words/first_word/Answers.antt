@@ -1,5 +1,0 @@
-use Rattle.fab_store_undo.proofs.Cuts.{cut_at_space}
-use Rattle.fab_store_undo.proofs.words.first_word.Goals as goal
-
-pub returns : goal.returns
-returns c = cut_at_space c.args.text.now c.split_once.result c.split_once.ensures.cases

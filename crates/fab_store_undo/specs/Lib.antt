@@ -1,2 +1,0 @@
-pub mod UndoLines
-pub mod Words

@@ -1,0 +1,50 @@
+-- Rows of inventories as lists, and what one inventory has and another has not.
+use Rattle.std.specs.Prelude.{ℕ, List}
+use Rattle.std.specs.declared.cmp.Ordering.{Ordering}
+use Rattle.std.specs.Ordering.{nat_cmp}
+use Rattle.fab_lemmas.specs.Lists.{IsListOf}
+use Rattle.fab_names.specs.Orders.{name_cmp}
+use Rattle.fab_inventory.specs.declared.holder.Holder.{Holder}
+use Rattle.fab_inventory.specs.declared.holder.Volume.{Volume}
+use Rattle.fab_inventory.specs.declared.port.Port.{Port}
+use Rattle.fab_inventory.specs.Inventories.{InventoryRows}
+use Rattle.fab_store_rows.specs.declared.inventory_row.HolderRow.{HolderRow}
+use Rattle.fab_store_rows.specs.declared.inventory_row.VolumeRow.{VolumeRow}
+use Rattle.fab_store_rows.specs.declared.inventory_row.InventoryRow.{InventoryRow}
+use Rattle.fab_store_rows.specs.declared.inventory_row.InventoryRow.TheVariants as row
+use Rattle.fab_store_rows.specs.Standing.{IsKnown}
+use Rattle.fab_store_world.specs.declared.inventories.InventoryLists.{InventoryLists}
+use Rattle.fab_store_world.specs.declared.inventories.InventoryDifference.{InventoryDifference}
+
+-- the row of a holder, and of a volume, of this name
+abbrev pub holder_row : List ℕ → Holder → HolderRow
+holder_row name h = record { name = name; kind = h.kind; tenant = h.tenant }
+
+abbrev pub volume_row : List ℕ → Volume → VolumeRow
+volume_row name x = record { name = name; array = x.array; tenant = x.tenant; bytes = x.bytes }
+
+-- by name
+abbrev pub port_order : Port → Port → Ordering
+port_order a b = nat_cmp a.name b.name
+
+abbrev pub holder_order : HolderRow → HolderRow → Ordering
+holder_order a b = name_cmp a.name b.name
+
+abbrev pub volume_order : VolumeRow → VolumeRow → Ordering
+volume_order a b = name_cmp a.name b.name
+
+-- the lists have the rows with P, each once, by name, and no other
+pub record AreListsOf {A : Type 0} (P : InventoryRow → Type 0) (lists : InventoryLists A) : Type 0 where
+  pub ports : IsListOf port_order (λ r. P (row.Port r)) lists.ports.items
+  pub holders : IsListOf holder_order (λ r. P (row.Holder r)) lists.holders.items
+  pub volumes : IsListOf volume_order (λ r. P (row.Volume r)) lists.volumes.items
+
+-- the row stands in the first inventory, and not in the second
+pub record IsKnownOnlyIn (v w : InventoryRows) (r : InventoryRow) : Type 0 where
+  pub there : IsKnown v r
+  pub not_there : ¬ IsKnown w r
+
+-- the lists are the rows that a change of an inventory takes away, and those that it adds
+pub record IsInventoryDifference {A : Type 0} (before after : InventoryRows) (change : InventoryDifference A) : Type 0 where
+  pub takes : AreListsOf (IsKnownOnlyIn before after) change.taken
+  pub adds : AreListsOf (IsKnownOnlyIn after before) change.added

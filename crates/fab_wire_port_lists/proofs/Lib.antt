@@ -1,3 +1,0 @@
-pub mod PortListLemmas
-pub mod RecordLemmas
-pub mod FaultLemmas

@@ -1,3 +1,0 @@
-pub mod PortLists
-pub mod FourFields
-pub mod RecordReaders
