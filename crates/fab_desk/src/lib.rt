@@ -15,4 +15,8 @@ mod reading;
 mod run;
 
 pub use desk::Desk;
+pub use fab_desk_base::{
+    Command, DeskFault, DeskLimit, Joint, Query, Reply, Shown, ShownGroup, ShownHolder, ShownPlan,
+    ZoneMembers,
+};
 pub use run::handle_all;

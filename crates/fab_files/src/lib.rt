@@ -15,6 +15,7 @@ mod reports;
 
 pub use active::active_text;
 pub use columns::{COUNT_WIDTH, NAME_WIDTH};
+pub use fab_wire_requests::port_list::{FileFault, read_ports};
 pub use forms::Form;
 pub use paths::paths_csv;
 pub use printing::{End, PrintFault, print};

@@ -16,4 +16,8 @@ mod offers;
 mod ports;
 
 pub use book::{PortBook, PortStep};
+pub use fab_reach_base::{
+    Config, Delta, MOST_PATHS, Path, PathBook, PathsFault, PlainBook, PlainStep, View, all_paths,
+    few_paths, initiators, paths_from, paths_of, plain_paths, without,
+};
 pub use offers::offer_few_paths;

@@ -9,5 +9,6 @@ mod serving;
 
 pub use callers::KnownTo;
 pub use fab_desk::Desk;
+pub use fab_wire_streams::counted::Counted;
 pub use outcome::Outcome;
 pub use serving::serve_one;
