@@ -6,6 +6,4 @@ abbrev pub invariant-loop-turn : goal.invariant-loop-turn
 invariant-loop-turn g l = record {
   sound : IsSound l.world;
   stands : g.B.PathBook.stands l.book (records_of l.world);
-  behind_sound : IsSound l.behind;
-  behind_stands : g.B.PathBook.stands l.second (records_of l.behind);
 }
