@@ -9,8 +9,8 @@ use Rattle.std.proofs.lemmas.Option.{same_Some}
 use Rattle.fab_names.specs.declared.fabric.Fabric.{Fabric}
 use Rattle.fab_policy_base.specs.Policies.{CallerRow, RuleRow, PolicyRows}
 use Rattle.fab_policy_base.specs.declared.policy.Quorum.{Quorum}
-use Rattle.fab_policy_base.specs.Callers.{is_same, has_tenant}
-use Rattle.fab_policy.specs.Verdicts.{Applies, has_role, meets_role, is_own, is_approval_of, has_approved, counts, has_quorum, meets_approvals, meets_window, meets, Holds, FailsFirst, IsVerdict}
+use Rattle.fab_policy_base.specs.Callers.{is_same, has_tenant, lists_tenant}
+use Rattle.fab_policy.specs.Verdicts.{Applies, has_role, meets_role, is_own, is_approval_of, has_approved, counts, has_quorum, meets_approvals, signs_for, is_signed_for, is_each_signed_for, meets_tenants, meets_window, meets, Holds, FailsFirst, IsVerdict}
 use Rattle.fab_policy.specs.declared.act.Act.{Act}
 use Rattle.fab_policy.specs.declared.act.Need.{Need}
 use Rattle.fab_policy.specs.declared.act.Need.TheVariants as need
@@ -94,6 +94,23 @@ same_approvals : (cs : List CallerRow) (a b : Act) → SayTheSame a b → (o : O
 same_approvals cs a b same None = refl
 same_approvals cs a b same (Some q) = same_quorum cs a.revision q a.plan b.plan same.plan ∙ ap (λ revision. has_quorum cs revision q b.plan) same.revision
 
+-- who signs for a tenant
+same_signs : (revision : ℕ) (approver : Option (List ℕ)) (fresh : Bool) (o e : Option PlanApprovals) → SamePlans o e → (tenant : List ℕ) (c : CallerRow) → signs_for revision approver fresh o tenant c ≡ signs_for revision approver fresh e tenant c
+same_signs revision approver fresh None None same tenant c = refl
+same_signs revision approver fresh None (Some b) same tenant c = absurd same
+same_signs revision approver fresh (Some a) None same tenant c = absurd same
+same_signs revision approver fresh (Some a) (Some b) same tenant c = ap (λ counted. counted && lists_tenant c tenant) (same_counts a b same revision approver fresh c)
+
+same_signed : (cs : List CallerRow) (a b : Act) → SayTheSame a b → (approver : Option (List ℕ)) (fresh : Bool) → is_each_signed_for cs a approver fresh ≡ is_each_signed_for cs b approver fresh
+same_signed cs a b same approver fresh =
+    same_all (is_signed_for cs a.revision approver fresh a.plan) a.touched.now b.touched.now same.touched
+    ∙ (λ i. list_all (λ tenant. list_any (λ c. same_signs a.revision approver fresh a.plan b.plan same.plan tenant c i) cs) b.touched.now)
+    ∙ ap (λ revision. list_all (is_signed_for cs revision approver fresh b.plan) b.touched.now) same.revision
+
+same_tenants : (cs : List CallerRow) (a b : Act) → SayTheSame a b → (o : Option Quorum) → meets_tenants cs a o ≡ meets_tenants cs b o
+same_tenants cs a b same None = refl
+same_tenants cs a b same (Some q) = ap (λ signed. not q.each_tenant || signed) (same_signed cs a b same q.approver q.fresh)
+
 same_own : (xs ys : List (List ℕ)) (o : Option CallerRow) → HaveSameItems xs ys → is_own xs o ≡ is_own ys o
 same_own xs ys None same = refl
 same_own xs ys (Some c) same = same_all (has_tenant c) xs ys same
@@ -106,6 +123,7 @@ module _ (p : PolicyRows) where
       ap (λ own. not (is_some r.scope) || own) (same_own a.touched.now b.touched.now (slice_get p.callers a.caller) same.touched ∙ ap (λ id. is_own b.touched.now (slice_get p.callers id)) same.caller)
   same_meets a b same r need.Window = ap (λ moment. meets_window p.windows moment r.window) same.moment
   same_meets a b same r need.Approvals = same_approvals p.callers a b same r.approvals
+  same_meets a b same r need.Tenants = same_tenants p.callers a b same r.approvals
 
   same_applies : (a b : Act) → SayTheSame a b → (r : RuleRow) → Applies r a → Applies r b
   same_applies a b same r (action, fabric) = (subst (Contains r.actions) same.action action, named r.fabric fabric)

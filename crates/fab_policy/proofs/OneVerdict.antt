@@ -43,7 +43,8 @@ need_at zero = need.Rule
 need_at (suc zero) = need.Role
 need_at (suc (suc zero)) = need.Scope
 need_at (suc (suc (suc zero))) = need.Window
-need_at (suc (suc (suc (suc n)))) = need.Approvals
+need_at (suc (suc (suc (suc zero)))) = need.Approvals
+need_at (suc (suc (suc (suc (suc n))))) = need.Tenants
 
 need_back : (n : Need) → need_at (place_of n) ≡ n
 need_back need.Rule = refl
@@ -51,6 +52,7 @@ need_back need.Role = refl
 need_back need.Scope = refl
 need_back need.Window = refl
 need_back need.Approvals = refl
+need_back need.Tenants = refl
 
 sooner : (p : PolicyRows) (a : Act) (r : RuleRow) (n m : Need) → FailsFirst p a r n → FailsFirst p a r m → ¬ (place_of n < place_of m)
 sooner p a r n m f g below = true≢false (sym (g.1 n below) ∙ f.0)

@@ -1,7 +1,7 @@
 -- What a policy says of an act.
 use Rattle.std.specs.Prelude.{◌≡◌, ℕ, ◌<◌, suc, zero, Bool, true, false, not, ◌&&◌, ◌||◌, nat_eq, nat_le, List, length, Option, Some, None, is_some, IfSome, Contains, All, Any, count_by, codes, slice_get, slice_index_or}
 use Rattle.std.specs.List.{list_any, list_all, AllWithin}
-use Rattle.fab_policy_base.specs.Callers.{is_same, has_name, has_tenant}
+use Rattle.fab_policy_base.specs.Callers.{is_same, has_name, has_tenant, lists_tenant}
 use Rattle.fab_policy_base.specs.Policies.{CallerRow, WindowRow, RuleRow, PolicyRows}
 use Rattle.fab_policy.specs.Windows.{is_open_as}
 use Rattle.fab_policy.specs.declared.act.Act.{Act}
@@ -64,6 +64,24 @@ abbrev pub meets_approvals : List CallerRow → Act → Option Quorum → Bool
 meets_approvals cs a None = true
 meets_approvals cs a (Some q) = has_quorum cs a.revision q a.plan
 
+-- who signs for a tenant: a caller who counts for the quorum of a plan, and lists the tenant
+abbrev pub signs_for : ℕ → Option (List ℕ) → Bool → Option PlanApprovals → List ℕ → CallerRow → Bool
+signs_for revision approver fresh None tenant c = false
+signs_for revision approver fresh (Some plan) tenant c = counts plan revision approver fresh c && lists_tenant c tenant
+
+-- whether some caller signs for the tenant
+abbrev pub is_signed_for : List CallerRow → ℕ → Option (List ℕ) → Bool → Option PlanApprovals → List ℕ → Bool
+is_signed_for cs revision approver fresh plan tenant = list_any (signs_for revision approver fresh plan tenant) cs
+
+-- whether each touched tenant is signed for
+abbrev pub is_each_signed_for : List CallerRow → Act → Option (List ℕ) → Bool → Bool
+is_each_signed_for cs a approver fresh = list_all (is_signed_for cs a.revision approver fresh a.plan) a.touched.now
+
+-- whether it is, where that is asked for
+abbrev pub meets_tenants : List CallerRow → Act → Option Quorum → Bool
+meets_tenants cs a None = true
+meets_tenants cs a (Some q) = not q.each_tenant || is_each_signed_for cs a q.approver q.fresh
+
 -- whether the need, where the rule has it, is met
 abbrev pub meets : PolicyRows → Act → RuleRow → Need → Bool
 meets p a r need.Rule = true
@@ -71,6 +89,7 @@ meets p a r need.Role = meets_role r.role (slice_get p.callers a.caller)
 meets p a r need.Scope = not (is_some r.scope) || is_own a.touched.now (slice_get p.callers a.caller)
 meets p a r need.Window = meets_window p.windows a.moment r.window
 meets p a r need.Approvals = meets_approvals p.callers a r.approvals
+meets p a r need.Tenants = meets_tenants p.callers a r.approvals
 
 -- the place of a need in their order
 abbrev pub place_of : Need → ℕ
@@ -79,6 +98,7 @@ place_of need.Role = 1
 place_of need.Scope = 2
 place_of need.Window = 3
 place_of need.Approvals = 4
+place_of need.Tenants = 5
 
 -- each need of the rule is met
 abbrev pub Holds : PolicyRows → Act → RuleRow → Type 0

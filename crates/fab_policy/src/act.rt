@@ -56,10 +56,12 @@ pub enum Need {
     Window,
     /// Enough others approved.
     Approvals,
+    /// Each touched tenant has an approval of somebody else who lists it.
+    Tenants,
 }
 
 impl Need {
-    /// The word for the need: `rule`, `role`, `scope`, `window` or `approvals`.
+    /// The word for the need: `rule`, `role`, `scope`, `window`, `approvals` or `tenants`.
     pub fn word(self) -> &'static str
         ensures { result.now ≡ needs.need_word self }
     {
@@ -69,6 +71,7 @@ impl Need {
             Need::Scope => "scope",
             Need::Window => "window",
             Need::Approvals => "approvals",
+            Need::Tenants => "tenants",
         }
     }
 }

@@ -1,10 +1,11 @@
 //! The verdict of a policy on an act.
-ghost use Rattle.std.specs.Prelude.{◌≡◌, ◌≤◌, ◌↔◌, IsTrue, MatchOption, Contains, codes, option_copied, count_by, length, nat_le, take, ◌&&◌, if◌then◌else◌};
-ghost use Rattle.std.specs.List.{list_all, zip};
+ghost use Rattle.std.specs.Prelude.{◌≡◌, ◌≤◌, ◌↔◌, Some, IfSome, IsTrue, MatchOption, Contains, codes, option_copied, count_by, length, nat_le, take, ◌&&◌, if◌then◌else◌};
+ghost use Rattle.std.specs.List.{list_all, list_any, zip};
 ghost use Rattle.fab_policy_base.specs.Callers as callers;
+ghost use Rattle.fab_policy_base.specs.Callers.{lists_tenant};
 ghost use Rattle.fab_policy_base.specs.Limits.{most_callers};
 ghost use Rattle.fab_policy.specs.Found as found;
-ghost use Rattle.fab_policy.specs.Found.{AreFound};
+ghost use Rattle.fab_policy.specs.Found.{AreFound, IsKnown};
 ghost use Rattle.fab_policy.specs.Verdicts as verdicts;
 
 use crate::act::{Act, Need, Verdict};
@@ -159,12 +160,142 @@ fn meets_approvals(
     }
 }
 
+/// Whether each touched tenant is signed for by callers with a role, where one is asked for, and by fresh
+/// approvals alone where these have to be. Rules mostly ask the same, so what one of them asked is kept
+/// for the next.
+#[derive(Clone, Copy)]
+struct Signing {
+    approver: Option<Name>,
+    fresh: bool,
+    /// Whether each is.
+    each: bool,
+}
+
+impl Signing {
+    /// Whether the quorum asks the same.
+    fn is_asked_by(&self, quorum: &Quorum) -> bool
+        ensures { IsTrue result → (self.now.approver ≡ quorum.now.approver) × (self.now.fresh ≡ quorum.now.fresh) }
+    {
+        self.approver == quorum.approver && self.fresh == quorum.fresh
+    }
+}
+
+/// What is known of what the quorum asks, if anything is.
+fn known_for(known: &Option<Signing>, quorum: &Quorum) -> Option<bool>
+    ensures { IfSome result (λ each. known.now ≡ Some (record { approver = quorum.now.approver; fresh = quorum.now.fresh; each = each })) }
+{
+    match known {
+        Some(signing) if signing.is_asked_by(quorum) => Some(signing.each),
+        _ => None,
+    }
+}
+
+/// Whether some of the callers that are marked has the role, where one is asked for, and lists the
+/// tenant.
+fn is_signed_for(
+    approver: &Option<Name>,
+    callers: &[Caller],
+    signed: &[bool],
+    tenant: &Name,
+) -> bool
+    ensures { result ≡ list_any
+        (λ p. (p.1 && verdicts.has_role approver.now p.0) && lists_tenant p.0 tenant.now)
+        (zip callers.now signed.now) }
+{
+    callers.iter().zip(signed).any(|(caller, signed)| {
+        *signed && has_role(caller, approver) && caller.lists_tenant(tenant)
+    })
+}
+
+/// Whether for each of the tenants some of the callers that are marked does.
+fn is_each_listed(
+    approver: &Option<Name>,
+    callers: &[Caller],
+    signed: &[bool],
+    tenants: &[Name],
+) -> bool
+    ensures { result ≡ list_all
+        (λ tenant. list_any (λ p. (p.1 && verdicts.has_role approver.now p.0) && lists_tenant p.0 tenant) (zip callers.now signed.now))
+        tenants.now }
+{
+    tenants
+        .iter()
+        .all(|tenant| is_signed_for(approver, callers, signed, tenant))
+}
+
+/// Whether each of the tenants is listed by some caller who counts for the quorum. The lists of those
+/// alone who approved are read.
+fn are_signed_for(policy: &Policy, findings: &Findings, quorum: &Quorum, tenants: &[Name]) -> bool
+    ensures { result ≡ list_all
+        (λ tenant. list_any
+        (λ p. (p.1 && verdicts.has_role quorum.now.approver p.0) && lists_tenant p.0 tenant)
+        (zip policy.now.callers (if quorum.now.fresh then findings.now.fresh.now else findings.now.signed.now)))
+        tenants.now }
+{
+    let signed = findings.signed(quorum.fresh);
+    is_each_listed(&quorum.approver, policy.callers(), signed, tenants)
+}
+
+/// Whether each touched tenant is signed for, as the quorum asks.
+fn is_each_signed_for(
+    policy: &Policy,
+    act: &Act,
+    findings: &Findings,
+    quorum: &Quorum,
+    known: &mut Option<Signing>,
+) -> bool
+    requires found { AreFound policy.now act.now findings.now }
+    requires known { IsKnown policy.now act.now known.old }
+    ensures each { result ≡ verdicts.is_each_signed_for policy.now.callers act.now quorum.now.approver quorum.now.fresh }
+    ensures known { IsKnown policy.now act.now known.new }
+{
+    if let Some(each) = known_for(known, quorum) {
+        return each;
+    }
+    let each = are_signed_for(policy, findings, quorum, act.touched);
+    *known = Some(Signing {
+        approver: quorum.approver,
+        fresh: quorum.fresh,
+        each,
+    });
+    each
+}
+
+/// Whether each touched tenant is signed for, where that is asked for.
+fn meets_tenants(
+    policy: &Policy,
+    act: &Act,
+    findings: &Findings,
+    approvals: &Option<Quorum>,
+    known: &mut Option<Signing>,
+) -> bool
+    requires found { AreFound policy.now act.now findings.now }
+    requires known { IsKnown policy.now act.now known.old }
+    ensures met { result ≡ verdicts.meets_tenants policy.now.callers act.now approvals.now }
+    ensures known { IsKnown policy.now act.now known.new }
+{
+    match approvals {
+        Some(quorum) => {
+            !quorum.each_tenant || is_each_signed_for(policy, act, findings, quorum, known)
+        }
+        None => true,
+    }
+}
+
 /// The first need of the rule that is not met.
-fn first_failing(policy: &Policy, act: &Act, findings: &Findings, rule: &Rule) -> Option<Need>
-    requires { AreFound policy.now act.now findings.now }
-    ensures { MatchOption result
+fn first_failing(
+    policy: &Policy,
+    act: &Act,
+    findings: &Findings,
+    rule: &Rule,
+    known: &mut Option<Signing>,
+) -> Option<Need>
+    requires found { AreFound policy.now act.now findings.now }
+    requires known { IsKnown policy.now act.now known.old }
+    ensures first { MatchOption result
         (verdicts.Holds policy.now act.now rule.now)
         (verdicts.FailsFirst policy.now act.now rule.now) }
+    ensures known { IsKnown policy.now act.now known.new }
 {
     if !meets_role(policy.row(act.caller), &rule.role) {
         return Some(Need::Role);
@@ -177,6 +308,9 @@ fn first_failing(policy: &Policy, act: &Act, findings: &Findings, rule: &Rule) -
     }
     if !meets_approvals(policy, act, findings, &rule.approvals) {
         return Some(Need::Approvals);
+    }
+    if !meets_tenants(policy, act, findings, &rule.approvals, known) {
+        return Some(Need::Tenants);
     }
     None
 }
@@ -197,9 +331,10 @@ fn judge(policy: &Policy, act: &Act, findings: &Findings) -> Verdict
     ensures { verdicts.IsVerdict policy.now act.now result }
 {
     let mut applied = false;
+    let mut known = None;
     for (i, rule) in policy.rules().iter().enumerate() {
         if applies(rule, act) {
-            if let Some(need) = first_failing(policy, act, findings, rule) {
+            if let Some(need) = first_failing(policy, act, findings, rule, &mut known) {
                 return Verdict::Denied {
                     rule: i + 1,
                     name: rule.name,

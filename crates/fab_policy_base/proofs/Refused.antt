@@ -70,13 +70,13 @@ actions key d e acts f h =
     ]
 
 -- what is there is not missing
-gone : {P : Type 0} (o : Option Data) (Q : Data → Type 0) → o ≡ None → IsSomeAnd o Q → P
+pub gone : {P : Type 0} (o : Option Data) (Q : Data → Type 0) → o ≡ None → IsSomeAnd o Q → P
 gone None Q e h = absurd h
 gone (Some d) Q e h = cc
 
-flagged : (o : Option Data) (e : PolicyFault) (b : Bool) → IsSomeAnd o (λ d. MeansNothing IsFlag key.Fresh d e) → MatchOption o (b ≡ false) (λ d. IsFlag d b) → ⊥
-flagged None e b f h = f
-flagged (Some d) e b f h = f.1 b h
+flagged : (at : Key) (o : Option Data) (e : PolicyFault) (b : Bool) → IsSomeAnd o (λ d. MeansNothing IsFlag at d e) → MatchOption o (b ≡ false) (λ d. IsFlag d b) → ⊥
+flagged at None e b f h = f
+flagged at (Some d) e b f h = f.1 b h
 
 counted : (o : Option Data) (e : PolicyFault) (n : ℕ) → IsSomeAnd o (λ d. MeansNothing IsCount key.Approvals d e) → IsSomeAnd o (λ d. IsCount d n) → ⊥
 counted None e n f h = f
@@ -88,14 +88,19 @@ some_none (Some d) e h = cc
 
 pub quorum : ExcludesTable QuorumFault QuorumIn
 quorum ms e None (QuorumFault.no_count none there is) h =
-    elim there as (λ _. ⊥) [ inl approver ↦ some_none _ h.approver approver | inr fresh ↦ some_none _ h.fresh fresh ]
+    elim there as (λ _. ⊥) [
+      | inl approver ↦ some_none _ h.approver approver
+      | inr more ↦ elim more as (λ _. ⊥) [ inl fresh ↦ some_none _ h.fresh fresh | inr each ↦ some_none _ h.each_tenant each ]
+    ]
 quorum ms e None (QuorumFault.in_count f) h = gone (get_member (key_word key.Approvals) ms) _ h.count f
 quorum ms e None (QuorumFault.in_approver f) h = gone (get_member (key_word key.Approver) ms) _ h.approver f
 quorum ms e None (QuorumFault.in_fresh f) h = gone (get_member (key_word key.Fresh) ms) _ h.fresh f
+quorum ms e None (QuorumFault.in_each_tenant f) h = gone (get_member (key_word key.EachTenant) ms) _ h.each_tenant f
 quorum ms e (Some q) (QuorumFault.no_count none there is) h = gone (get_member (key_word key.Approvals) ms) _ none h.count
 quorum ms e (Some q) (QuorumFault.in_count f) h = counted (get_member (key_word key.Approvals) ms) e q.count f h.count
 quorum ms e (Some q) (QuorumFault.in_approver f) h = excluded.maybe key.Approver (MeansNothing IsName) IsName (excluded.nothing IsName key.Approver) ms e q.approver f h.approver
-quorum ms e (Some q) (QuorumFault.in_fresh f) h = flagged (get_member (key_word key.Fresh) ms) e q.fresh f h.fresh
+quorum ms e (Some q) (QuorumFault.in_fresh f) h = flagged key.Fresh (get_member (key_word key.Fresh) ms) e q.fresh f h.fresh
+quorum ms e (Some q) (QuorumFault.in_each_tenant f) h = flagged key.EachTenant (get_member (key_word key.EachTenant) ms) e q.each_tenant f h.each_tenant
 
 pub rule : ExcludesTable RuleFault IsRuleTable
 rule ms e r (RuleFault.in_name f) h = excluded.at key.Name RuleNameFault IsRuleName (rule_name key.Name) ms e r.name f h.name

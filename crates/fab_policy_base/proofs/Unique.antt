@@ -1,6 +1,6 @@
 -- A text spells one policy at most.
 use Rattle.std.proofs.Common.{◌≡◌, ℕ, Bool, false, List, [], ◌∷◌, Option, Some, None, cond, sym, subst, ap, ◌∙◌, refl, codes}
-use Rattle.std.specs.Prelude.{IsSomeAnd, MatchOption}
+use Rattle.std.specs.Prelude.{MatchOption}
 use Rattle.std.proofs.lemmas.Option.{same_Some}
 use Rattle.fab_names.specs.Fabrics.{fabric_text}
 use Rattle.fab_names.specs.declared.fabric.Fabric.{Fabric}
@@ -19,7 +19,7 @@ use Rattle.fab_policy_base.specs.declared.policy.Action.TheVariants as action
 use Rattle.fab_policy_base.specs.declared.policy.Quorum.{Quorum}
 use Rattle.fab_policy_base.specs.declared.policy.Scope.{Scope}
 use Rattle.fab_policy_base.specs.declared.policy.Scope.TheVariants as scope
-use Rattle.fab_policy_base.proofs.Refused.{array_no_text}
+use Rattle.fab_policy_base.proofs.Refused.{array_no_text, gone}
 use Rattle.fab_policy_base.proofs.Same.{some_one, maybe_one, table_by, name_one, rule_name_one, token_one}
 
 -- a value means one thing at most
@@ -106,10 +106,6 @@ flag_one : (o : Option Data) (x y : Bool) → MatchOption o (x ≡ false) (λ d.
 flag_one None x y a b = a ∙ sym b
 flag_one (Some d) x y a b = same_Some x y (sym a ∙ b)
 
-gone : {P : Type 0} (o : Option Data) (Q : Data → Type 0) → o ≡ None → IsSomeAnd o Q → P
-gone None Q e h = absurd h
-gone (Some d) Q e h = cc
-
 quorum_one : (ms : Members) (x y : Option Quorum) → QuorumIn ms x → QuorumIn ms y → x ≡ y
 quorum_one ms None None a b = refl
 quorum_one ms None (Some y) a b = gone (get_member (key_word key.Approvals) ms) _ a.count b.count
@@ -118,7 +114,8 @@ quorum_one ms (Some x) (Some y) a b =
     let count : x.count ≡ y.count = some_one IsCount count_one (get_member (key_word key.Approvals) ms) x.count y.count a.count b.count in
     let approver : x.approver ≡ y.approver = maybe_one IsName name_one (get_member (key_word key.Approver) ms) x.approver y.approver a.approver b.approver in
     let fresh : x.fresh ≡ y.fresh = flag_one (get_member (key_word key.Fresh) ms) x.fresh y.fresh a.fresh b.fresh in
-    λ i. Some (record { count = count i; approver = approver i; fresh = fresh i })
+    let each_tenant : x.each_tenant ≡ y.each_tenant = flag_one (get_member (key_word key.EachTenant) ms) x.each_tenant y.each_tenant a.each_tenant b.each_tenant in
+    λ i. Some (record { count = count i; approver = approver i; fresh = fresh i; each_tenant = each_tenant i })
 
 caller_one : (ms : Members) (x y : CallerRow) → IsCallerTable ms x → IsCallerTable ms y → x ≡ y
 caller_one ms x y a b =

@@ -22,6 +22,15 @@ is_among (Some names) tenant = has_name names tenant
 abbrev pub has_tenant : CallerRow → List ℕ → Bool
 has_tenant c tenant = is_among c.tenants tenant
 
+-- whether these are a list that names the tenant: every tenant is no list
+abbrev pub is_listed : TenantNames → List ℕ → Bool
+is_listed None tenant = false
+is_listed (Some names) tenant = has_name names tenant
+
+-- whether the caller's list names the tenant
+abbrev pub lists_tenant : CallerRow → List ℕ → Bool
+lists_tenant c tenant = is_listed c.tenants tenant
+
 -- the caller at that place has the token
 abbrev pub HasToken : PolicyRows → List ℕ → ℕ → Type 0
 HasToken p token id = IsSomeAnd (slice_get p.callers id) (λ c. c.token ≡ token)

@@ -83,26 +83,33 @@ IsFlag d b = as_bool d ≡ Some b
 abbrev pub FlagAt : Key → Members → Bool → Type 0
 FlagAt key ms b = MatchOption (get_member (key_word key) ms) (b ≡ false) (λ d. IsFlag d b)
 
--- how many approvals are asked for, from whom, and how fresh
+-- how many approvals are asked for, from whom, how fresh, and whether each touched tenant has one
 pub record IsQuorum (ms : Members) (q : Quorum) : Type 0 where
   pub count : At key.Approvals IsCount ms q.count
   pub approver : MaybeAt key.Approver IsName ms q.approver
   pub fresh : FlagAt key.Fresh ms q.fresh
+  pub each_tenant : FlagAt key.EachTenant ms q.each_tenant
 
--- none are asked for: the other two keys stand only beside `approvals`
+-- none are asked for: the other three keys stand only beside `approvals`
 pub record HasNoQuorum (ms : Members) : Type 0 where
   pub count : get_member (key_word key.Approvals) ms ≡ None
   pub approver : get_member (key_word key.Approver) ms ≡ None
   pub fresh : get_member (key_word key.Fresh) ms ≡ None
+  pub each_tenant : get_member (key_word key.EachTenant) ms ≡ None
 
 -- the approvals that a rule's table asks for
 abbrev pub QuorumIn : Members → Option Quorum → Type 0
 QuorumIn ms None = HasNoQuorum ms
 QuorumIn ms (Some q) = IsQuorum ms q
 
+-- some key stands that stands only beside `approvals`
+abbrev pub AsksMore : Members → Type 0
+AsksMore ms = IsSome (get_member (key_word key.Approver) ms) ⊎ (IsSome (get_member (key_word key.Fresh) ms) ⊎ IsSome (get_member (key_word key.EachTenant) ms))
+
 -- what is wrong with them
 pub data QuorumFault (ms : Members) (e : PolicyFault) : Type 0 where
-  no_count : get_member (key_word key.Approvals) ms ≡ None → IsSome (get_member (key_word key.Approver) ms) ⊎ IsSome (get_member (key_word key.Fresh) ms) → e ≡ Missing key.Approvals → QuorumFault ms e
+  no_count : get_member (key_word key.Approvals) ms ≡ None → AsksMore ms → e ≡ Missing key.Approvals → QuorumFault ms e
   in_count : FaultIn key.Approvals (MeansNothing IsCount) ms e → QuorumFault ms e
   in_approver : FaultIn key.Approver (MeansNothing IsName) ms e → QuorumFault ms e
   in_fresh : FaultIn key.Fresh (MeansNothing IsFlag) ms e → QuorumFault ms e
+  in_each_tenant : FaultIn key.EachTenant (MeansNothing IsFlag) ms e → QuorumFault ms e

@@ -55,7 +55,7 @@ pub data WindowFault (ms : Members) (e : PolicyFault) : Type 0 where
 
 -- the keys of a rule's table
 abbrev pub rule_keys : List Key
-rule_keys = key.Name ∷ key.Actions ∷ key.Fabric ∷ key.Role ∷ key.Scope ∷ key.Window ∷ key.Approvals ∷ key.Approver ∷ key.Fresh ∷ []
+rule_keys = key.Name ∷ key.Actions ∷ key.Fabric ∷ key.Role ∷ key.Scope ∷ key.Window ∷ key.Approvals ∷ key.Approver ∷ key.Fresh ∷ key.EachTenant ∷ []
 
 -- the table of a rule
 pub record IsRuleTable (ms : Members) (r : RuleRow) : Type 0 where

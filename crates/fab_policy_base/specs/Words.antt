@@ -43,6 +43,7 @@ key_word key.Window = codes "window"
 key_word key.Approvals = codes "approvals"
 key_word key.Approver = codes "approver"
 key_word key.Fresh = codes "fresh"
+key_word key.EachTenant = codes "each_tenant"
 
 -- whether the text is the word for one of the keys
 abbrev pub is_word_of : List Key → List ℕ → Bool

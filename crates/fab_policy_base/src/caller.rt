@@ -53,6 +53,16 @@ impl Caller {
             Tenants::Listed(own) => has_name(own, tenant),
         }
     }
+
+    /// Whether the caller's list names the tenant. A caller whose is every tenant has no list.
+    pub fn lists_tenant(&self, tenant: &Name) -> bool
+        ensures { result ≡ spec.lists_tenant self.now tenant.now }
+    {
+        match &self.tenants {
+            Tenants::All => false,
+            Tenants::Listed(own) => has_name(own, tenant),
+        }
+    }
 }
 
 /// The place of a caller with the token.

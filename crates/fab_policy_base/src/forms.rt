@@ -328,14 +328,16 @@ pub(crate) fn quorum(alloc: Global, table: &Table) -> Result<Option<Quorum>, Pol
     let count: Option<Count> = optional(alloc, table, Key::Approvals)?;
     let approver: Option<Name> = optional(alloc, table, Key::Approver)?;
     let fresh: Option<bool> = optional(alloc, table, Key::Fresh)?;
+    let each_tenant: Option<bool> = optional(alloc, table, Key::EachTenant)?;
     if let Some(count) = count {
         return Ok(Some(Quorum {
             count: count.number,
             approver,
             fresh: fresh.unwrap_or(false),
+            each_tenant: each_tenant.unwrap_or(false),
         }));
     }
-    if approver.is_some() || fresh.is_some() {
+    if approver.is_some() || fresh.is_some() || each_tenant.is_some() {
         Err(PolicyFault::Missing(Key::Approvals))
     } else {
         Ok(None)

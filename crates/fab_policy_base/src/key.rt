@@ -41,6 +41,8 @@ pub enum Key {
     Approver,
     /// Whether approvals count at the present revision alone.
     Fresh,
+    /// Whether each touched tenant has an approval of its own.
+    EachTenant,
 }
 
 impl Key {
@@ -66,6 +68,7 @@ impl Key {
             Key::Approvals => "approvals",
             Key::Approver => "approver",
             Key::Fresh => "fresh",
+            Key::EachTenant => "each_tenant",
         }
     }
 }

@@ -136,6 +136,8 @@ pub struct Quorum {
     pub approver: Option<Name>,
     /// Whether an approval counts at the present revision alone.
     pub fresh: bool,
+    /// Whether each touched tenant has an approval of a caller who lists it.
+    pub each_tenant: bool,
 }
 
 /// A rule: the acts that it speaks of, and what it asks of them.

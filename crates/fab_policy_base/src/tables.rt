@@ -102,6 +102,7 @@ fn only_rule_keys(alloc: Global, table: &Table) -> Result<(), PolicyFault>
             Key::Approvals,
             Key::Approver,
             Key::Fresh,
+            Key::EachTenant,
         ],
     )
 }

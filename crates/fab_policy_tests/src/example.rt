@@ -78,7 +78,8 @@ freeze = [
 # window     the command comes while this window is open
 # approvals  so many callers, 1 to 16, other than the plan's author approved the plan,
 # approver   each of them with this role,
-# fresh      and, where true, at the present revision, so that no change came in between
+# fresh      and, where true, at the present revision, so that no change came in between;
+# each_tenant  where true, for each tenant that the command touches one of them lists that tenant
 
 # Port lists come from callers who have the tenants of all that a list touches, as the collector has.
 [[rules]]
@@ -110,6 +111,15 @@ name = "four-eyes"
 actions = ["activate"]
 approvals = 1
 approver = "approver"
+
+# Each owner signs: whoever lists a tenant, and not "*", approves what touches it. To ask for that, give
+# the tenants callers of their own who may approve, and take the # away. Not on rollback: nobody can
+# approve a plan that is in force.
+# [[rules]]
+# name = "each-owner"
+# actions = ["activate"]
+# approvals = 1
+# each_tenant = true
 
 # Six eyes on fabric B, on what the dry run shows now, and at night.
 [[rules]]

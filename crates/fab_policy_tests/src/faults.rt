@@ -39,6 +39,14 @@ const MISSING: &[(&str, &str)] = &[
         "[[rules]]\nname = \"r\"\nactions = [\"stage\"]\napprover = \"x\"\n",
         "`approvals` is missing",
     ),
+    (
+        "[[rules]]\nname = \"r\"\nactions = [\"activate\"]\neach_tenant = true\n",
+        "`approvals` is missing",
+    ),
+    (
+        "[[rules]]\nname = \"r\"\nactions = [\"activate\"]\neach_tenant = false\n",
+        "`approvals` is missing",
+    ),
 ];
 
 /// Values of another type, out of their range or not of their text form.
@@ -214,6 +222,22 @@ const WRONG_TYPE: &[(&str, &str)] = &[
         "[[rules]]\nname = \"r\"\nactions = [\"stage\"]\napprovals = 1\nfresh = 1\n",
         "`fresh` has a wrong value",
     ),
+    (
+        "[[rules]]\nname = \"r\"\nactions = [\"activate\"]\napprovals = 1\neach_tenant = 1\n",
+        "`each_tenant` has a wrong value",
+    ),
+    (
+        "[[rules]]\nname = \"r\"\nactions = [\"activate\"]\napprovals = 1\neach_tenant = \"true\"\n",
+        "`each_tenant` has a wrong value",
+    ),
+    (
+        "[[rules]]\nname = \"r\"\nactions = [\"activate\"]\napprovals = 1\neach_tenant = []\n",
+        "`each_tenant` has a wrong value",
+    ),
+    (
+        "[[rules]]\nname = \"r\"\nactions = [\"activate\"]\napprovals = 0\neach_tenant = true\n",
+        "`approvals` has a wrong value",
+    ),
     ("[callers]\nname = \"a\"\n", "`callers` has a wrong value"),
 ];
 
@@ -231,6 +255,10 @@ const UNKNOWN: &[(&str, &str)] = &[
     (
         "[[rules]]\nname = \"r\"\nactions = [\"stage\"]\neach = true\n",
         "`each` is not known",
+    ),
+    (
+        "[[rules]]\nname = \"r\"\nactions = [\"activate\"]\napprovals = 1\nEach_tenant = true\n",
+        "`Each_tenant` is not known",
     ),
     (
         "[[rules]]\nname = \"r\"\nactions = [\"stage\", \"erase\"]\n",

@@ -11,6 +11,8 @@ mod faults;
 #[cfg(test)]
 mod sizes;
 #[cfg(test)]
+mod tenants;
+#[cfg(test)]
 mod told;
 #[cfg(test)]
 mod values;

@@ -5,7 +5,8 @@
 //!   past it; `scenarios.txt`, forty random scenarios of sixty requests: made by an independent reference
 //!   from the definitions;
 //! - `more.txt`, cases whose answers were written by hand; `ports.txt`, a list of as many ports as may be
-//!   known and one of a port more.
+//!   known and one of a port more;
+//! - `tenants.txt`, approval by each touched tenant: from the same reference.
 //!
 //! None is made by the desk itself. Nothing here is part of the product.
 //!
