@@ -35,7 +35,7 @@ ports_stay : (old new : KnownPorts) → new ≡ old → Keeps old new
 ports_stay old new same q h g was is = same_Some g h (sym is ∙ ap (λ m. holder_in (map.get m) q) same ∙ was)
 
 -- where no number is the least with P, none has it
-no_least : (P : ℕ → Type 0) → ((q : ℕ) → ¬ IsLeast P q) → (q : ℕ) → ¬ P q
+pub no_least : (P : ℕ → Type 0) → ((q : ℕ) → ¬ IsLeast P q) → (q : ℕ) → ¬ P q
 no_least P none q has = below (suc q) q (omega arith) has
   where
     below : (n q : ℕ) → q < n → ¬ P q

@@ -11,16 +11,9 @@ use Rattle.fab_lemmas.proofs.Leasts.{least_as, least_both}
 use Rattle.fab_names.specs.Orders.{name_cmp}
 use Rattle.fab_names.proofs.OrderLaws.{name_total, name_exact}
 use Rattle.fab_inventory.specs.Holders.{IsLeast}
+use Rattle.fab_desk_base.proofs.KeptHosts.{no_least}
 
 -- ---- the least number
-
--- where no number is the least with P, none has it
-pub no_least : (P : ℕ → Type 0) → ((q : ℕ) → ¬ IsLeast P q) → (q : ℕ) → ¬ P q
-no_least P none q has = below (suc q) q (omega arith) has
-  where
-    below : (n q : ℕ) → q < n → ¬ P q
-    below zero q lt has = omega (arith, lt)
-    below (suc n) q lt has = none q (has, λ r p. elim (cases_lt r q) [ inl less ↦ absurd (below n r (omega arith) p) | inr le ↦ le ])
 
 -- ---- the first name
 

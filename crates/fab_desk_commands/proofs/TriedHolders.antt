@@ -29,7 +29,8 @@ use Rattle.fab_desk_base.specs.declared.fault.DeskFault.TheVariants as fault
 use Rattle.fab_desk_commands.specs.Answered.{answered}
 use Rattle.fab_desk_commands.specs.Keeping.{IsKeptTarget, IsUsedBy}
 use Rattle.fab_desk_commands.proofs.Checks.{holder_put_passes, holder_dropped_passes}
-use Rattle.fab_desk_commands.proofs.NoUser.{no_least, no_first}
+use Rattle.fab_desk_commands.proofs.NoUser.{no_first}
+use Rattle.fab_desk_base.proofs.KeptHosts.{no_least}
 use Rattle.fab_desk_commands.proofs.StillFits.{UsesHolder, fits_holder_put, fits_holder_dropped}
 
 -- ---- holders that are put

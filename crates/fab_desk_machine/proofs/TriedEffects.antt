@@ -12,6 +12,7 @@ use Rattle.fab_desk_base.specs.Trying.{IsMade, StaysSound, IsTryFault}
 use Rattle.fab_desk_base.specs.declared.command.Command.{Command}
 use Rattle.fab_desk_base.specs.declared.fault.DeskFault.{DeskFault}
 use Rattle.fab_desk_machine.specs.Trials.{stock_effect, plan_effect, MayCount, IsTried}
+use Rattle.fab_world.proofs.WholeWorld.{ok_as}
 
 -- a policy, where any does
 pub no_policy : PolicyRows
@@ -20,11 +21,6 @@ no_policy = record { callers = []; windows = []; rules = [] }
 -- what the command is about is there, once it is known which command it is
 pub there : {A : Type 0} (w : WorldRows) (c k : Command A) → c ≡ k → ((p : PolicyRows) (id : ℕ) → IsThere p w id c) → (p : PolicyRows) (id : ℕ) → IsThere p w id k
 there w c k is h p id = subst (IsThere p w id) is (h p id)
-
--- one fact of what is made follows from another
-pub ok_as : {X E : Type 0} {P Q : X → Type 0} (r : Result X E) → ((x : X) → P x → Q x) → IfOk r P → IfOk r Q
-ok_as (Ok x) f h = f x h
-ok_as (Err e) f h = h
 
 -- t is the command as it is tried
 module _ {A : Type 0} (w : WorldRows) (caller : List ℕ) (c t : Command A) (same : t ≡ tried c) where

@@ -7,12 +7,8 @@ use Rattle.fab_names.specs.Orders.{name_cmp}
 use Rattle.fab_names.proofs.OrderLaws.{name_total}
 use Rattle.fab_world.specs.PlanRecords.{PlanRecord}
 use Rattle.fab_world.specs.Worlds.{WorldRows}
+use Rattle.fab_world.proofs.WholeWorld.{ok_as}
 
 -- the tree of the plans of a world
 pub look : (t : BTreeMap (List ℕ) PlanRecord) (w : WorldRows) → map.from_entries t.entries ≡ w.plans → get name_cmp t ≡ map.get w.plans
 look t w is = same_look_ups name_total t w.plans is
-
--- one fact of what is answered follows from another
-pub ok_as : {X E : Type 0} {P Q : X → Type 0} (r : Result X E) → ((x : X) → P x → Q x) → IfOk r P → IfOk r Q
-ok_as (Ok x) f h = f x h
-ok_as (Err e) f h = h

@@ -7,6 +7,7 @@ use Rattle.std.specs.FinSet as set
 use Rattle.std.proofs.lemmas.Option.{slice_get_within, get_or_from_slice_get, same_Some, none-some}
 use Rattle.fab_lemmas.specs.Firsts.{IsFirstWithout}
 use Rattle.fab_lemmas.specs.Room.{IsFull, HasRoom, IsFullSet, SetHasRoom}
+use Rattle.fab_mapping.proofs.GroupChanges.{on_ok, if_err}
 
 -- a test is not true and false
 pub not_both : {b : Bool} → b ≡ true → b ≡ false → ⊥
@@ -36,15 +37,6 @@ one_value {x = x} {y = y} a b = same_Some x y (sym a ∙ b)
 -- a value is there, or none is
 pub some_or_none : {X : Type 0} {o : Option X} {x : X} → o ≡ Some x → o ≡ None → ⊥
 some_or_none {x = x} a b = none-some x (sym b ∙ a)
-
--- what follows from what a fault says, and from an `Ok`
-pub if_err : {X E : Type 0} {P Q : E → Type 0} (r : Result X E) → IfErr r P → ((e : E) → P e → Q e) → IfErr r Q
-if_err (Ok x) h f = tt
-if_err (Err e) h f = f e h
-
-pub on_ok : {X E : Type 0} {P Q : Type 0} (r : Result X E) → OnOk r P → (P → Q) → OnOk r Q
-on_ok (Ok x) h f = f h
-on_ok (Err e) h f = tt
 
 pub on_both : {X E : Type 0} {P Q S : Type 0} (r : Result X E) → OnOk r P → OnOk r Q → (P → Q → S) → OnOk r S
 on_both (Ok x) p q f = f p q

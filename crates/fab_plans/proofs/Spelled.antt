@@ -12,6 +12,7 @@ use Rattle.fab_plans_base.specs.Steps.{PlanStep, alias_put, zone_put, set_put, h
 use Rattle.fab_plans_base.specs.Values.{Value, of_fabric, of_name, of_unit, of_member, of_port_member, NamesPorts, SpellsValues}
 use Rattle.fab_plans_base.specs.Forms.{form_of, Takes, keyword_of, values_of}
 use Rattle.fab_plans_base.specs.Plans.{SpellsStep, IsStep}
+use Rattle.fab_plans_text.proofs.Measures.{words_taken}
 
 -- as many words as values
 as_many : (words : List (List ℕ)) (vs : List Value) → SpellsValues words vs → length words ≡ length vs
@@ -24,9 +25,6 @@ as_many (w ∷ words) (v ∷ vs) h = ap suc (as_many words vs h.1)
 taken : (step : PlanStep) (words : List (List ℕ)) → SpellsStep words step → Takes (form_of (keyword_of step)) (length (values_of step))
 taken step [] h = absurd h
 taken step (first ∷ others) h = subst (Takes (form_of (keyword_of step))) (as_many others (values_of step) h.values) h.count
-
-words_taken : (step : PlanStep) → IsStep step → Takes (form_of (keyword_of step)) (length (values_of step))
-words_taken step h = taken step (words_of h.0) h.1
 
 -- two values and a list of so many items
 counted : {X : Type 0} (make : X → Value) (v w : Value) (xs : List X) → (2 < length (v ∷ w ∷ map make xs)) × (length (v ∷ w ∷ map make xs) ≤ 257) → IsListing (length xs)

@@ -18,7 +18,9 @@ use Rattle.fab_plans.specs.Steps.{fabric_of, with_zoning, with_mapping, FailsIn,
 use Rattle.fab_plans.specs.Telling.{IsFaultOf}
 use Rattle.fab_plans.specs.ZoningSteps.{ZoningFails, ZoningMakes, ZoningDone}
 use Rattle.fab_plans.specs.declared.fault.StepFault.{StepFault}
-use Rattle.fab_plans.proofs.Facts.{if_err, on_ok, on_both}
+use Rattle.fab_plans.proofs.Facts.{on_both}
+use Rattle.fab_mapping.proofs.GroupChanges.{if_err}
+use Rattle.fab_mapping.proofs.GroupChanges.{on_ok}
 
 -- a step of mapping is of no fabric
 pub of_no_fabric : {A : Type 0} (action : MappingAction A) → fabric_of (mapping_step action) ≡ None

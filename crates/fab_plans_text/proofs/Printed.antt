@@ -1,22 +1,22 @@
 -- What is printed of steps is read as the same steps.
 use Rattle.std.proofs.Common.{ℕ, ◌≡◌, ◌<◌, ◌≤◌, ◌^◌, suc, zero, Bool, true, false, ◌&&◌, List, [], ◌∷◌, ◌++◌, length, get_or, map, codes, append_assoc, append-nil, refl, sym, ap, ◌∙◌, subst, arith, rules, lit<, nat_lt}
 use Rattle.std.specs.List.{flat_map, list_all, AllByRecursion}
-use Rattle.std.specs.Char.{is_ascii_digit, is_ascii_hexdigit, digit_value}
+use Rattle.std.specs.Char.{is_ascii_digit}
 use Rattle.std.specs.Fmt.{decimal}
-use Rattle.std.specs.Int.{w64, to_be_bytes, from_be_bytes}
+use Rattle.std.specs.Int.{w64, to_be_bytes}
 use Rattle.std.proofs.lemmas.Bool.Decides.{nat_tests}
 use Rattle.std.proofs.lemmas.List.{length-map}
 use Rattle.fab_names.specs.Names.{is_name_char, IsNameText}
 use Rattle.fab_names.specs.Numbers.{SpellsNumber}
 use Rattle.fab_names.specs.Places.{place_text}
 use Rattle.fab_names.specs.Members.{SpellsMember, member_text}
-use Rattle.fab_names.specs.WorldWideNames.{paired, hex_digit, digits_of, wwn_text, bytes_of, SpellsDigits}
+use Rattle.fab_names.specs.WorldWideNames.{paired, hex_digit, digits_of, wwn_text}
 use Rattle.fab_names.specs.declared.fabric.Fabric.TheVariants.{A, B}
 use Rattle.fab_names.specs.declared.member.Member.{Member}
 use Rattle.fab_names.specs.declared.member.Member.TheVariants as member
 use Rattle.fab_names.proofs.Copies.{and_right}
 use Rattle.fab_names.proofs.Numerals.{printed_number, all_digits}
-use Rattle.fab_names.proofs.Printed.{printed_spells}
+use Rattle.fab_names.proofs.Printed.{printed_spells, wwn_fits, member_again}
 use Rattle.fab_names.proofs.Splits.{Lacks}
 use Rattle.fab_zoning.specs.declared.flag.DefaultFlag.TheVariants.{Permit, Deny}
 use Rattle.fab_plans_base.specs.Texts.{lines_of, words_of}
@@ -91,42 +91,6 @@ clear_wwn n = clear_paired (digits_of (to_be_bytes w64 n)) (clear_digits (to_be_
 
 clear_literal : (text : List ℕ) → list_all (nat_lt 32) text ≡ true → Clear text
 clear_literal text h = by_test (nat_lt 32) (λ c passes. grind (arith, nat_tests)) text h
-
--- sixteen hexadecimal digits write a number of 64 bits
-hex_value_small : (c : ℕ) → is_ascii_hexdigit c ≡ true → digit_value c < 16
-hex_value_small c h = grind (arith, nat_tests)
-
-bytes_fit : (ds : List ℕ) → ((k : ℕ) → k < length ds → is_ascii_hexdigit (get_or ds k 0) ≡ true) → (i : ℕ) → get_or (bytes_of ds) i 0 < 256
-bytes_fit [] hex i = lit< tt
-bytes_fit (a ∷ []) hex i = lit< tt
-bytes_fit (a ∷ b ∷ ds) hex zero = omega (arith, hex_value_small a (hex 0 (omega arith)), hex_value_small b (hex 1 (omega arith)))
-bytes_fit (a ∷ b ∷ ds) hex (suc i) = bytes_fit ds (λ k below. hex (suc (suc k)) (omega arith)) i
-
-number_fits : (bs : List ℕ) → ((i : ℕ) → get_or bs i 0 < 256) → from_be_bytes w64 bs < 2 ^ 64
-number_fits bs fits = omega (arith, fits 0, fits 1, fits 2, fits 3, fits 4, fits 5, fits 6, fits 7)
-
-wwn_fits : (text : List ℕ) (n : ℕ) → SpellsDigits text n → n < 2 ^ 64
-wwn_fits text n s = subst (λ m. m < 2 ^ 64) s.value (number_fits (bytes_of s.digits) (bytes_fit s.digits s.hexadecimal))
-
--- the printed form of a member is a text of it, without spaces and line feeds
-member_again : (text : List ℕ) (m : Member) → SpellsMember text m → SpellsMember (member_text m) m
-member_again text (member.Port n) s = (wwn_text n, refl, printed_spells n s.2.1 (wwn_fits s.0 n s.2.0))
-member_again text (member.Node n) s = (wwn_text n, refl, printed_spells n s.2.1 (wwn_fits s.0 n s.2.0))
-member_again text (member.Place p) s = let range = s.2.3.in_range in (
-  place_text p,
-  refl,
-  (
-    decimal p.domain,
-    decimal p.slot,
-    append_assoc (decimal p.domain) (codes ",") (decimal p.slot),
-    record {
-      domain_number = printed_number p.domain (omega (arith, range.few));
-      slot_number = printed_number p.slot (omega (arith, range.slot));
-      in_range = range;
-    },
-  ),
-)
-member_again text (member.Alias a) s = (a, refl, (refl, subst IsNameText (sym s.2.0) s.2.1))
 
 clear_member : (text : List ℕ) (m : Member) → SpellsMember text m → Clear (member_text m)
 clear_member text (member.Port n) s = above-append 32 (codes "wwpn=") (wwn_text n) (clear_literal (codes "wwpn=") refl) (clear_wwn n)

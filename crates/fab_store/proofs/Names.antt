@@ -15,19 +15,10 @@ use Rattle.std.proofs.lemmas.List.Elements.{Contains-append_left, Contains-appen
 use Rattle.std.proofs.lemmas.List.Folds.{list_any_at}
 use Rattle.std.proofs.lemmas.Map.Text.{is_eq-slice_cmp}
 use Rattle.fab_store_columns.specs.PlanLines.{PlanColumns}
-use Rattle.fab_store_base.proofs.Distinct.{join_distinct, map_in}
+use Rattle.fab_store_base.proofs.Distinct.{join_distinct, map_in, cons_cases}
 use Rattle.fab_store_tables.specs.Listing.{AreDistinct}
 use Rattle.fab_store.specs.Loading.{HaveNamesOnce}
-
-head_in : {X : Type 0} (x : X) (xs : List X) → Contains (x ∷ xs) x
-head_in x xs = (0, omega arith, refl)
-
-tail_in : {X : Type 0} (x y : X) (xs : List X) → Contains xs y → Contains (x ∷ xs) y
-tail_in x y xs there = Contains-append_right (x ∷ []) xs y there
-
-cons_cases : {X : Type 0} (x y : X) (xs : List X) → Contains (x ∷ xs) y → (x ≡ y) ⊎ Contains xs y
-cons_cases x y xs (zero, less, is) = inl is
-cons_cases x y xs (suc k, less, is) = inr (k, omega (arith, less), is)
+use Rattle.fab_store_tables.proofs.LinesAdded.{head_in, tail_in}
 
 -- an inserted key leaves the others
 insert_keeps : {K : Type 0} (cmp : K → K → Ordering) (ks : List K) (k x : K) → Contains ks x → Contains (insert_key cmp ks k) x

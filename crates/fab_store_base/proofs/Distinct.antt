@@ -9,6 +9,7 @@ use Rattle.std.proofs.lemmas.List.Elements.{All-contains, Contains-append_right,
 use Rattle.std.proofs.lemmas.Map.Keys.{sorted_tail}
 use Rattle.std.proofs.lemmas.Map.Views.{All-after_first}
 use Rattle.fab_store_tables.specs.Listing.{AreDistinct}
+use Rattle.fab_store_tables.proofs.LinesAdded.{head_in}
 
 -- nothing is below itself
 pub not_below_itself : {X : Type 0} {R : X → X → Ordering} → IsTotalOrder R → (x : X) → ¬ (R x x ≡ Less)
@@ -21,15 +22,12 @@ sorted_distinct R never [] h = tt
 sorted_distinct R never (x ∷ xs) h = (λ there. never x (All-contains (λ y. R x y ≡ Less) xs x (All-after_first R x xs h) there), sorted_distinct R never xs (sorted_tail R x xs h))
 
 -- the first item, or one of the others
-cons_cases : {X : Type 0} (x y : X) (xs : List X) → Contains (x ∷ xs) y → (x ≡ y) ⊎ Contains xs y
+pub cons_cases : {X : Type 0} (x y : X) (xs : List X) → Contains (x ∷ xs) y → (x ≡ y) ⊎ Contains xs y
 cons_cases x y xs there = ⊎_elim (λ first. inl (one x y first)) inr (Contains-append_cases (x ∷ []) xs y there)
   where
     one : {X : Type 0} (x y : X) → Contains (x ∷ []) y → x ≡ y
     one x y (zero, less, is) = is
     one x y (suc k, less, is) = absurd (omega (arith, less))
-
-head_in : {X : Type 0} (x : X) (xs : List X) → Contains (x ∷ xs) x
-head_in x xs = (0, omega arith, refl)
 
 -- an item of a list that is mapped
 pub in_map : {X Y : Type 0} (f : X → Y) (xs : List X) (y : Y) → Contains (map f xs) y → (x : X) × Contains xs x × (f x ≡ y)

@@ -12,7 +12,8 @@ use Rattle.fab_store_rows.specs.declared.config_row.ConfigRow.TheVariants as con
 use Rattle.fab_store_rows.specs.declared.config_row.PartRow.{PartRow}
 use Rattle.fab_store_rows.specs.declared.config_row.PartRow.TheVariants as parts
 use Rattle.fab_store_rows.specs.declared.config_row.StoragePart.TheVariants as part
-use Rattle.fab_store_base.proofs.KeysOfRows.{differ, same_names, one_value}
+use Rattle.fab_store_base.proofs.KeysOfRows.{same_names, one_value}
+use Rattle.fab_store_columns.proofs.UniqueConfig.{differ}
 use Rattle.fab_world.specs.Worlds.{WorldRows}
 
 -- a part that is no unit

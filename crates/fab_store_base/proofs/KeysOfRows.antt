@@ -7,7 +7,7 @@ use Rattle.fab_store_world.specs.Tables.{IsPortRow, IsHolderRow, IsVolumeRow, Is
 use Rattle.fab_inventory.specs.Ports.{port_at}
 use Rattle.fab_inventory.specs.declared.port.Port.{Port}
 use Rattle.fab_store_columns.proofs.Unique.{one_port_line, one_holder_line, one_volume_line}
-use Rattle.fab_store_columns.proofs.UniqueConfig.{one_meta_line, one_group_line, one_approval_line}
+use Rattle.fab_store_columns.proofs.UniqueConfig.{one_meta_line, one_group_line, one_approval_line, differ}
 use Rattle.fab_store_columns.proofs.UniquePlan.{one_plan_line}
 use Rattle.fab_store_columns.specs.GroupLines.{GroupColumns, ShowsGroup}
 use Rattle.fab_store_columns.specs.InventoryLines.{PortColumns, ShowsPort, HolderColumns, ShowsHolder, VolumeColumns, ShowsVolume}
@@ -37,10 +37,6 @@ use Rattle.fab_world.specs.PlanRecords.{PlanRecord}
 use Rattle.fab_world.specs.Plans.{state_of}
 use Rattle.fab_world.specs.Worlds.{WorldRows}
 use Rattle.std.specs.FinMap as map
-
--- texts that differ in a character
-pub differ : (n : ℕ) (s t : List ℕ) → s ≡ t → get_or s n 0 ≡ get_or t n 0
-differ n s t e = ap (λ (x : List ℕ). get_or x n 0) e
 
 -- equal texts are of equal names
 pub same_names : (s t n m : List ℕ) → SpellsName s n → SpellsName t m → s ≡ t → n ≡ m

@@ -27,6 +27,7 @@ use Rattle.fab_store_tables.specs.Tables.{table_of, row_of}
 use Rattle.fab_store_tables.specs.declared.stored_line.TableLine.{TableLine}
 use Rattle.fab_store_tables.specs.declared.stored_line.TableLine.TheVariants as line
 use Rattle.fab_world.specs.Worlds.{WorldRows}
+use Rattle.fab_store_tables.proofs.LinesAdded.{at_place}
 
 -- the columns of a line are in its table
 in_tables : {A : Type 0} (lines : TableLines) (l : TableLine A) → IsIn lines l → Contains (tables_of lines (table_of l)) (row_of l)
@@ -70,9 +71,6 @@ zip_at Shows ls [] h i r at = absurd cc
 zip_at Shows [] (s ∷ rs) h i r at = absurd h
 zip_at Shows (l ∷ ls) (s ∷ rs) h zero r at = let same : s ≡ r = cc in (l, refl, subst (Shows l) same h.0)
 zip_at Shows (l ∷ ls) (s ∷ rs) h (suc i) r at = zip_at Shows ls rs h.1 i r at
-
-at_place : {X : Type 0} (xs : List X) (i : ℕ) (x : X) → slice_get xs i ≡ Some x → Contains xs x
-at_place xs i x h = (i, slice_get_within xs i x h, get_or_from_slice_get xs i x x h)
 
 module _ {A : Type 0} (lines : TableLines) (w : WorldRows) where
   -- what holds of the table and the columns of a line

@@ -16,6 +16,7 @@ use Rattle.fab_world.specs.PlanRecords.{Standing, staged, active, rolled_back, w
 use Rattle.fab_world.specs.Plans.{state_of, undo_of}
 use Rattle.fab_world.specs.Soundness.{IsSound}
 use Rattle.fab_world.specs.Worlds.{WorldRows}
+use Rattle.fab_reach_base.proofs.Same.{same_some}
 
 -- a plan is active exactly where its state is so called
 active_state : (s : Standing) → is_some (undo_of s) ≡ true → state_of s ≡ state.Active
@@ -29,9 +30,6 @@ state_active (active taken added) h = refl
 state_active staged h = absurd cc
 state_active rolled_back h = absurd cc
 state_active withdrawn h = absurd cc
-
-same_some : {X : Type 0} {a b : X} {o : Option X} → o ≡ Some a → o ≡ Some b → a ≡ b
-same_some {a} {b} h k = let e : Some a ≡ Some b = sym h ∙ k in cc
 
 module _ (w : WorldRows) (sound : IsSound w) where
   -- active plans are those of the order

@@ -21,6 +21,7 @@ use Rattle.fab_world.specs.PlanRecords.{Standing, staged, active, rolled_back, w
 use Rattle.fab_world.specs.Plans.{Change, undo_of}
 use Rattle.fab_world.specs.Soundness.{IsSound}
 use Rattle.fab_world.specs.Worlds.{WorldRows}
+use Rattle.fab_store_world.proofs.SoundOrder.{one_item}
 
 pub config_in_range : (c : ConfigRows) → IsSoundAlone c → (r : ConfigRow) → Stands c r → HasUnitInRange r
 config_in_range c sound (config.Setting r) there = tt
@@ -57,12 +58,6 @@ first_in_range plans m others c p is sound leads = by p.standing (subst (λ o. L
 others_lead : (changes others : List Change) (c : ConfigRows) → IsSoundAlone c → LeadsBack (changes ++ others) c → (b : ConfigRows) × IsSoundAlone b × LeadsBack others b
 others_lead [] others c sound leads = (c, sound, leads)
 others_lead (change ∷ changes) others c sound leads = others_lead changes others leads.0 leads.1.sound leads.2
-
-one_item : {X : Type 0} (x y : X) → Contains (x ∷ []) y → x ≡ y
-one_item x y h = elim (Contains-push_cases [] x y h) [
-  | inl none ↦ absurd (omega (arith, none.1))
-  | inr is ↦ is
-]
 
 -- the changes of the names lead back, so each of them is within the range
 leads_in_range : (plans : List ℕ → Option PlanRecord) (names : List (List ℕ)) (c : ConfigRows) → IsSoundAlone c → LeadsBack (changes_of plans names) c → (n : List ℕ) (p : PlanRecord) → Contains names n → plans n ≡ Some p → AreInRange p.standing

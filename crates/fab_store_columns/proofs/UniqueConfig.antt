@@ -28,7 +28,7 @@ use Rattle.fab_store_columns.specs.RecordLines.{ApprovalColumns, ShowsApproval, 
 use Rattle.fab_store_columns.proofs.Unique.{one_name, same_name, one_number, one_decimal, one_flag}
 
 -- texts that differ in a character
-differ : (n : ℕ) (s t : List ℕ) → s ≡ t → get_or s n 0 ≡ get_or t n 0
+pub differ : (n : ℕ) (s t : List ℕ) → s ≡ t → get_or s n 0 ≡ get_or t n 0
 differ n s t e = ap (λ (x : List ℕ). get_or x n 0) e
 
 -- ---- meta

@@ -39,6 +39,7 @@ use Rattle.fab_store_rows.specs.declared.inventory_row.InventoryRow.TheVariants 
 use Rattle.fab_store_rows.specs.RowOrder.{row_order}
 use Rattle.fab_store_rows.specs.Telling.{HaveSameRows, KnowSameRows}
 use Rattle.fab_store_rows.proofs.OrderOfRows.{row_total, row_exact, same_order}
+use Rattle.fab_reach_base.proofs.Same.{same_some}
 
 -- ---- tests and answers that are one
 
@@ -47,13 +48,10 @@ same_bool true b to from = sym (to refl)
 same_bool false true to from = from refl
 same_bool false false to from = refl
 
-same_option : {X : Type 0} (a b : Option X) → ((x : X) → a ≡ Some x → b ≡ Some x) → ((x : X) → b ≡ Some x → a ≡ Some x) → a ≡ b
+pub same_option : {X : Type 0} (a b : Option X) → ((x : X) → a ≡ Some x → b ≡ Some x) → ((x : X) → b ≡ Some x → a ≡ Some x) → a ≡ b
 same_option None None to from = refl
 same_option None (Some y) to from = from y refl
 same_option (Some x) b to from = sym (to x refl)
-
-same_some : {X : Type 0} {a b : X} {o : Option X} → o ≡ Some a → o ≡ Some b → a ≡ b
-same_some {a} {b} h k = let e : Some a ≡ Some b = sym h ∙ k in cc
 
 some_is : {X : Type 0} (o : Option X) (x : X) → o ≡ Some x → is_some o ≡ true
 some_is o x e = ap is_some e

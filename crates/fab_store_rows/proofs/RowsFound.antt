@@ -1,8 +1,6 @@
 -- What a look-up says of a row.
 use Rattle.std.proofs.Common.{◌≡◌, Option, Some, Bool, true, IsTrue, sym, ◌∙◌, subst}
-
-same_some : {X : Type 0} {a b : X} {o : Option X} → o ≡ Some a → o ≡ Some b → a ≡ b
-same_some {a} {b} h k = let e : Some a ≡ Some b = sym h ∙ k in cc
+use Rattle.fab_reach_base.proofs.Same.{same_some}
 
 -- what was found has P, where a test of it says so
 pub found_has : {X : Type 0} (P : X → Type 0) (o : Option X) (x : X) (b : Bool) → Some x ≡ o → (IsTrue b → P x) × (P x → IsTrue b) → (IsTrue b → (y : X) × (o ≡ Some y) × P y) × ((y : X) × (o ≡ Some y) × P y → IsTrue b)

@@ -58,12 +58,12 @@ pub cast_null : cast Integer Null ≡ Null
 unfolding unary
 cast_null = either _ Null
 
-equal_is : (o : Ordering) → is_eq o ≡ true → o ≡ Equal
+pub equal_is : (o : Ordering) → is_eq o ≡ true → o ≡ Equal
 equal_is Less h = absurd (let e = h in cc)
 equal_is Equal h = refl
 equal_is Greater h = absurd (let e = h in cc)
 
-same_int : (a b : ℤ) → int_cmp a b ≡ Equal → a ≡ b
+pub same_int : (a b : ℤ) → int_cmp a b ≡ Equal → a ≡ b
 same_int a b h = grind (arith, ints, nat_tests)
 
 equals_int : (m n : ℤ) → equals (Int m) (Int n) ≡ true → m ≡ n

@@ -22,11 +22,11 @@ use Rattle.fab_store_sql.specs.Schema.{all_tables, tree_of, name_of, columns_of,
 use Rattle.fab_store_sql.specs.Statements.{create_text}
 use Rattle.fab_store_sql.specs.NewDesk.{schema_first, place_of, HasMade}
 
-went : {B E R : Type 0} {b : B} {Stops : E → Type 0} → ((stop : E) × Stops stop × (Ok b ≡ Err stop)) ⊎ R → R
+pub went : {B E R : Type 0} {b : B} {Stops : E → Type 0} → ((stop : E) × Stops stop × (Ok b ≡ Err stop)) ⊎ R → R
 went (inl stopped) = absurd (let e = stopped.2 in cc)
 went (inr on) = on
 
-same_value : {B E : Type 0} {a b : B} → ◌≡◌ {A = Result B E} (Ok a) (Ok b) → a ≡ b
+pub same_value : {B E : Type 0} {a b : B} → ◌≡◌ {A = Result B E} (Ok a) (Ok b) → a ≡ b
 same_value e = cc
 
 -- the table as its text defines it

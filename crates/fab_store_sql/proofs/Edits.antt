@@ -28,14 +28,7 @@ use Rattle.fab_store_sql.specs.Schema.{strict_table}
 use Rattle.fab_store_sql.specs.Rows.{IsKeyed, Adds, Removes}
 use Rattle.fab_store_sql.proofs.RowEdits.{adds_one, removes_found}
 use Rattle.fab_store_sql.proofs.Queries.{table_query, shows}
-
--- a part that gave a value did not stop on the way
-went : {B E R : Type 0} {b : B} {Stops : E → Type 0} → ((stop : E) × Stops stop × (Ok b ≡ Err stop)) ⊎ R → R
-went (inl stopped) = absurd (let e = stopped.2 in cc)
-went (inr on) = on
-
-same_value : {B E : Type 0} {a b : B} → ◌≡◌ {A = Result B E} (Ok a) (Ok b) → a ≡ b
-same_value e = cc
+use Rattle.fab_store_sql.proofs.Creates.{went, same_value}
 
 -- no foreign key acts on the table
 abbrev pub IsFree : Schema → Keys → ℕ → Type 0

@@ -32,7 +32,7 @@ use Rattle.fab_store_sql.specs.Rows.{IsKeyed}
 use Rattle.fab_store_sql.specs.States.{IsDesk, IsReady}
 use Rattle.fab_store_sql.specs.Reading.{AreShown, IsAny, IsOfHost, DoRise, id_at, AreLinesOf, Stays}
 use Rattle.fab_store_sql.proofs.Meanings.{columns_from, keys_from, path_order, selects_is, paths_is}
-use Rattle.fab_store_sql.proofs.Cells.{matched, matches}
+use Rattle.fab_store_sql.proofs.Cells.{matched, matches, same_int}
 use Rattle.fab_store_sql.proofs.Queries.{shows}
 use Rattle.fab_store_sql.proofs.Edits.{overlaid}
 use Rattle.fab_store_sql.proofs.Commits.{not_run}
@@ -157,9 +157,6 @@ indexed : (xs : List Row) (x : Row) → Has xs x → (k : ℕ) × (k < length xs
 indexed [] x h = absurd h
 indexed (y ∷ xs) x (inl same) = (zero, omega arith, sym same)
 indexed (y ∷ xs) x (inr later) = let r = indexed xs x later in (suc r.0, omega (arith, r.1), r.2)
-
-same_int : (a b : ℤ) → int_cmp a b ≡ Equal → a ≡ b
-same_int a b h = grind (arith, ints, nat_tests)
 
 tied_ids : (rows : List Row) → DoRise rows → (j k : ℕ) → j < length rows → k < length rows → id_in (rowid (id_at rows j)) ≡ id_in (rowid (id_at rows k)) → j ≡ k
 tied_ids rows up j k p q same = grind (arith, ints, up.rise j k, up.rise k j)

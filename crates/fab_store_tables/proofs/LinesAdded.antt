@@ -14,10 +14,10 @@ use Rattle.fab_store_tables.specs.Rows.{AnyRow, ShowsRow, IsInRange}
 
 -- ---- once
 
-head_in : {X : Type 0} (x : X) (xs : List X) → Contains (x ∷ xs) x
+pub head_in : {X : Type 0} (x : X) (xs : List X) → Contains (x ∷ xs) x
 head_in x xs = (0, omega arith, refl)
 
-tail_in : {X : Type 0} (x y : X) (xs : List X) → Contains xs y → Contains (x ∷ xs) y
+pub tail_in : {X : Type 0} (x y : X) (xs : List X) → Contains xs y → Contains (x ∷ xs) y
 tail_in x y xs (k, less, is) = (suc k, omega arith, is)
 
 -- a row that is put last is new, where all are distinct
@@ -36,7 +36,7 @@ place_cases [] y (suc i) x h = absurd cc
 place_cases (z ∷ xs) y zero x h = inl h
 place_cases (z ∷ xs) y (suc i) x h = elim (place_cases xs y i x h) [ inl there ↦ inl there | inr last ↦ inr (ap suc last.0, last.1) ]
 
-at_place : {X : Type 0} (xs : List X) (i : ℕ) (x : X) → slice_get xs i ≡ Some x → Contains xs x
+pub at_place : {X : Type 0} (xs : List X) (i : ℕ) (x : X) → slice_get xs i ≡ Some x → Contains xs x
 at_place xs i x h = (i, slice_get_within xs i x h, get_or_from_slice_get xs i x x h)
 
 -- the rows so far with the row of a step

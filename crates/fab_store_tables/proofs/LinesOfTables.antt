@@ -10,28 +10,28 @@ use Rattle.fab_store_tables.specs.Tables.{table_of, row_of}
 use Rattle.fab_store_tables.specs.declared.stored_line.TableLine.{TableLine}
 use Rattle.fab_store_tables.specs.declared.stored_line.TableLine.TheVariants as line
 
-text_or_none : Value → Option (List ℕ)
+pub text_or_none : Value → Option (List ℕ)
 text_or_none (Text t) = Some t
 text_or_none _ = None
 
-number_or_none : Value → Option ℤ
+pub number_or_none : Value → Option ℤ
 number_or_none (Int n) = Some n
 number_or_none _ = None
 
-text_in : Value → List ℕ
+pub text_in : Value → List ℕ
 text_in (Text t) = t
 text_in _ = []
 
-number_in : Value → ℤ
+pub number_in : Value → ℤ
 number_in (Int n) = n
 number_in _ = pos 0
 
-text_back : (o : Option (List ℕ)) → text_or_none (text_or_null o) ≡ o
+pub text_back : (o : Option (List ℕ)) → text_or_none (text_or_null o) ≡ o
 unfolding text_or_none
 text_back None = refl
 text_back (Some t) = refl
 
-number_back : (o : Option ℤ) → number_or_none (number_or_null o) ≡ o
+pub number_back : (o : Option ℤ) → number_or_none (number_or_null o) ≡ o
 unfolding number_or_none
 number_back None = refl
 number_back (Some n) = refl

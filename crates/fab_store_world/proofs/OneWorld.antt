@@ -9,7 +9,7 @@ use Rattle.fab_store_load.specs.Inventories.{AreInventoryRows}
 use Rattle.fab_store_world.specs.Paths.{ArePathRows}
 use Rattle.fab_plans_text.proofs.Unique.{one_plan}
 use Rattle.fab_reach_base.specs.Soundness.{HasSoundZonings}
-use Rattle.fab_store_rows.proofs.Determined.{one_list, one_config, one_inventory}
+use Rattle.fab_store_rows.proofs.Determined.{one_list, one_config, one_inventory, same_option}
 use Rattle.fab_store_rows.specs.PlanEntries.{PlanEntry}
 use Rattle.fab_store_rows.specs.Standing.{IsKnown}
 use Rattle.fab_store_rows.specs.declared.config_row.ConfigRow.{ConfigRow}
@@ -29,14 +29,7 @@ use Rattle.fab_world.specs.PlanRecords.{Standing, staged, active, rolled_back, w
 use Rattle.fab_world.specs.Plans.{state_of}
 use Rattle.fab_world.specs.Soundness.{IsSound}
 use Rattle.fab_world.specs.Worlds.{WorldRows, records_of}
-
-same_option : {X : Type 0} (a b : Option X) → ((x : X) → a ≡ Some x → b ≡ Some x) → ((x : X) → b ≡ Some x → a ≡ Some x) → a ≡ b
-same_option None None to from = refl
-same_option None (Some y) to from = from y refl
-same_option (Some x) b to from = sym (to x refl)
-
-same_some : {X : Type 0} {a b : X} {o : Option X} → o ≡ Some a → o ≡ Some b → a ≡ b
-same_some {a} {b} h k = let e : Some a ≡ Some b = sym h ∙ k in cc
+use Rattle.fab_reach_base.proofs.Same.{same_some}
 
 -- ---- where plans stand
 

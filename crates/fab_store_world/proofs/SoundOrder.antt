@@ -27,7 +27,7 @@ others_lead : (changes others : List Change) (c : ConfigRows) → LeadsBack (cha
 others_lead [] others c leads = (c, leads)
 others_lead (change ∷ changes) others c leads = others_lead changes others leads.0 leads.2
 
-one_item : {X : Type 0} (x y : X) → Contains (x ∷ []) y → x ≡ y
+pub one_item : {X : Type 0} (x y : X) → Contains (x ∷ []) y → x ≡ y
 one_item x y h = elim (Contains-push_cases [] x y h) [
   | inl none ↦ absurd (omega (arith, none.1))
   | inr is ↦ is

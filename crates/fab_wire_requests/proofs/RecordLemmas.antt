@@ -5,10 +5,9 @@ use Rattle.csv.specs.Reading.{default_config, strip_bom, AreRecords, Reached}
 use Rattle.csv.specs.declared.parser.Config.{Config}
 use Rattle.csv.specs.declared.parser.State.{State}
 use Rattle.csv.specs.declared.parser.State.TheVariants as state
-use Rattle.fab_names.specs.WorldWideNames.{SpellsWwn, number_of}
+use Rattle.fab_names.specs.WorldWideNames.{SpellsWwn}
 use Rattle.fab_names.specs.Places.{Position, SpellsPosition}
-use Rattle.fab_names.proofs.Digits.{one_reading}
-use Rattle.fab_names.proofs.Numerals.{one_number}
+use Rattle.fab_names.proofs.Unique.{one_wwn, one_place}
 use Rattle.fab_inventory.specs.declared.port.PortRow.{PortRow}
 use Rattle.fab_wire_requests.specs.PortLists.{Record, header, SpellsRow, SpellRows, AreAllRecords, ListsPorts}
 
@@ -61,17 +60,6 @@ one-list text a b h k =
         let f2 : b ≡ a ++ n = cc in
         cc (xy, both_fronts a b m n e2 f2)
 
--- a text spells one world-wide name
-pub one_wwn : (text : List ℕ) (m n : ℕ) → SpellsWwn text m → SpellsWwn text n → m ≡ n
-one_wwn text m n h k = sym h.0.value ∙ ap number_of (one_reading h.0.digits k.0.digits text h.0.sixteen k.0.sixteen h.0.form k.0.form) ∙ k.0.value
-
-one_position : (domain slot : List ℕ) (p q : Position) → SpellsPosition domain slot p → SpellsPosition domain slot q → p ≡ q
-one_position domain slot p q h k =
-    let d : p.domain ≡ q.domain = one_number domain p.domain q.domain h.domain_number k.domain_number in
-    let s : p.slot ≡ q.slot = one_number slot p.slot q.slot h.slot_number k.slot_number in
-    let at : ℕ → ℕ → Position = λ x y. record { domain = x; slot = y } in
-    ap (λ x. at x p.slot) d ∙ ap (λ y. at q.domain y) s
-
 one_row : (fields : Record) (r s : PortRow) → SpellsRow fields r → SpellsRow fields s → r ≡ s
 one_row fields r s h k =
     let e : h.name ∷ h.node ∷ h.domain ∷ h.slot ∷ [] ≡ k.name ∷ k.node ∷ k.domain ∷ k.slot ∷ [] = sym h.four ∙ k.four in
@@ -82,7 +70,8 @@ one_row fields r s h k =
     let name : r.name ≡ s.name = one_wwn k.name r.name s.name (subst (λ (t : List ℕ). SpellsWwn t r.name) e1 h.port_name) k.port_name in
     let node : r.node ≡ s.node = one_wwn k.node r.node s.node (subst (λ (t : List ℕ). SpellsWwn t r.node) e2 h.node_name) k.node_name in
     let place : r.place ≡ s.place =
-    one_position k.domain k.slot r.place s.place (subst (λ (t : List ℕ). SpellsPosition t k.slot r.place) e3 (subst (λ (t : List ℕ). SpellsPosition h.domain t r.place) e4 h.position)) k.position in
+    let position : SpellsPosition k.domain k.slot r.place = subst (λ (t : List ℕ). SpellsPosition t k.slot r.place) e3 (subst (λ (t : List ℕ). SpellsPosition h.domain t r.place) e4 h.position) in
+    one_place (k.domain ++ 44 ∷ k.slot) r.place s.place (k.domain, k.slot, refl, position) (k.domain, k.slot, refl, k.position) in
     let at : ℕ → ℕ → Position → PortRow = λ x y z. record { name = x; node = y; place = z } in
     ap (λ x. at x r.node r.place) name ∙ ap (λ y. at s.name y r.place) node ∙ ap (λ z. at s.name s.node z) place
 

@@ -2,4 +2,4 @@ mod WaysBack
 mod Listing
 mod NewWorld
 mod Presents
-mod WholeWorld
+pub mod WholeWorld

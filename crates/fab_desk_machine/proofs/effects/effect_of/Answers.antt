@@ -3,7 +3,8 @@ use Rattle.fab_desk_base.specs.Commands.{tried}
 use Rattle.fab_desk_base.specs.Trying.{IsTryFault}
 use Rattle.fab_desk_base.specs.declared.command.Command.TheVariants as command
 use Rattle.fab_desk_machine.specs.Trials.{IsTried}
-use Rattle.fab_desk_machine.proofs.TriedEffects.{no_policy, there, ok_as, stock_ok, stock_err, plan_ok, plan_err}
+use Rattle.fab_desk_machine.proofs.TriedEffects.{no_policy, there, stock_ok, stock_err, plan_ok, plan_err}
+use Rattle.fab_world.proofs.WholeWorld.{ok_as}
 use Rattle.fab_desk_machine.proofs.effects.effect_of.Goals as goal
 
 pub holder_dropped-requires-clause-there : goal.holder_dropped-requires-clause-there

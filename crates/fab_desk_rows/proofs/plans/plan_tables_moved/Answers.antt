@@ -1,7 +1,7 @@
 use Rattle.std.proofs.Common.{inl, inr, sym, ap, ◌∙◌, subst}
 use Rattle.fab_world.specs.Worlds.{WorldRows}
 use Rattle.fab_desk_commands.specs.Nexts.{next_world, Suits}
-use Rattle.fab_desk_rows.proofs.WorldPlans.{ok_as}
+use Rattle.fab_world.proofs.WholeWorld.{ok_as}
 use Rattle.fab_desk_rows.specs.Moves.{HaveOnePlans}
 use Rattle.fab_desk_rows.proofs.plans.plan_tables_moved.Goals as goal
 

@@ -1,7 +1,7 @@
 use Rattle.std.proofs.Common.{inl, inr, sym, ap, subst}
 use Rattle.fab_store_world.specs.PlanRows.{ChangesInOrder}
 use Rattle.fab_desk_commands.specs.Nexts.{turned, Leads}
-use Rattle.fab_desk_rows.proofs.WorldPlans.{ok_as}
+use Rattle.fab_world.proofs.WholeWorld.{ok_as}
 use Rattle.fab_desk_rows.proofs.Quiet.{staged_idle, IsQuiet, withdrawn_quiet}
 use Rattle.fab_desk_rows.proofs.UndoRows.{activated, idle_stays}
 use Rattle.fab_desk_rows.proofs.undo.turned_undo.Goals as goal

@@ -2,7 +2,7 @@ use Rattle.std.proofs.Common.{subst}
 use Rattle.fab_store_world.specs.PlanRows.{ChangesInOrder}
 use Rattle.fab_world.specs.PlanRecords.{rolled_back}
 use Rattle.fab_world.specs.Plans.{change_in}
-use Rattle.fab_desk_rows.proofs.WorldPlans.{ok_as}
+use Rattle.fab_world.proofs.WholeWorld.{ok_as}
 use Rattle.fab_desk_rows.proofs.UndoRows.{undo_is, no_undo, deactivated, idle_stays}
 use Rattle.fab_desk_rows.proofs.undo.undone.Goals as goal
 

@@ -10,7 +10,8 @@ use Rattle.fab_plans_base.specs.declared.mapping_action.MappingAction.{MappingAc
 use Rattle.fab_plans.specs.Telling.{IsFaultOf, TellsMapping}
 use Rattle.fab_plans.specs.MappingSteps.{MappingDone, MappingFails}
 use Rattle.fab_plans.proofs.Spelled.{host_listing, unit_within}
-use Rattle.fab_plans.proofs.Facts.{if_err, on_both, on_three}
+use Rattle.fab_plans.proofs.Facts.{on_both, on_three}
+use Rattle.fab_mapping.proofs.GroupChanges.{if_err}
 use Rattle.fab_plans.proofs.MappingCases.{host_group_put_passes, host_group_put_told, host_group_drop_passes, host_group_drop_told, group_host_told, group_unhost_told, group_target_told, group_untarget_told, group_map_told, group_unmap_told}
 use Rattle.fab_plans.proofs.mapping_steps.answer.Goals as goal
 

@@ -11,7 +11,8 @@ use Rattle.fab_plans_base.specs.declared.zoning_action.ZoningAction.{ZoningActio
 use Rattle.fab_plans.specs.Telling.{IsFaultOf, TellsZoning}
 use Rattle.fab_plans.specs.ZoningSteps.{ZoningDone, ZoningFails}
 use Rattle.fab_plans.proofs.Spelled.{alias_listing, zone_listing, set_listing, alias_plain}
-use Rattle.fab_plans.proofs.Facts.{if_err, on_both, on_four}
+use Rattle.fab_plans.proofs.Facts.{on_both, on_four}
+use Rattle.fab_mapping.proofs.GroupChanges.{if_err}
 use Rattle.fab_plans.proofs.ZoningCases.{alias_put_told, alias_drop_told, zone_put_passes, zone_put_told, zone_drop_told, set_put_passes, set_put_told, activate_passes, activate_told}
 use Rattle.fab_plans.proofs.zoning_steps.answer.Goals as goal
 
