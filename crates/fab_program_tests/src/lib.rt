@@ -6,14 +6,24 @@
 #[cfg(test)]
 mod answers;
 #[cfg(test)]
+mod clocks;
+#[cfg(test)]
+mod connections;
+#[cfg(test)]
 mod desks;
+#[cfg(test)]
+mod fabrics;
 #[cfg(test)]
 mod faults;
 #[cfg(test)]
 mod growth;
+#[cfg(test)]
+mod quiet;
 #[cfg(test)]
 mod runs;
 #[cfg(test)]
 mod statements;
 #[cfg(test)]
 mod tables;
+#[cfg(test)]
+mod unsound;

@@ -182,6 +182,18 @@ const STATUSES: &[Run<'static>] = &[
         ..QUIET
     },
     Run {
+        words: "sandesk export --db status.db --policy status.toml --token t-ada --fabric C",
+        errors: "sandesk: words\n",
+        status: 2,
+        ..QUIET
+    },
+    Run {
+        words: "sandesk serve --db status.db --policy status.toml --listen 127.0.0.1:1 --count many",
+        errors: "sandesk: words\n",
+        status: 2,
+        ..QUIET
+    },
+    Run {
         words: "sandesk init --db status.db",
         errors: "sandesk: file\n",
         status: 3,
