@@ -9,6 +9,7 @@ const NEEDS = Object.entries({
   window: "its window is closed now. The desk does not tell when it opens: ask who keeps the policy",
   approvals: "it asks for more approvals than there are that count. One by the author never counts, and one that was given "
     + "before the last change may not count: it has to be given again",
+  tenants: "somebody who lists the tenant has to approve it, for each tenant that it touches. Of one nobody has, or not since the last change",
 });
 const LIMITS = Object.entries({
   paths: "65,536 paths in all", plans: "100,000 plans", changes: "1,000,000,000 changes", active: "65,536 active rows in a fabric",

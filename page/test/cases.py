@@ -233,6 +233,8 @@ SENTENCES = [
     ({"code": 7, "line": 6}, "Line 6 is no line of a plan: it has too few or too many words, or one that has not its form. The text was not staged."),
     ({"code": 7, "line": 201}, "A plan has at most 200 lines. The text was not staged."),
     ({"code": 8, "need": "rule", "rule": 0, "rule_name": "no-rule"}, "The policy has no rule that allows this action to anybody."),
+    ({"code": 8, "need": "tenants", "rule": 6, "rule_name": "each"}, "The policy does not allow it: rule 6, “each”: somebody who lists the tenant has to approve it, "
+     "for each tenant that it touches. Of one nobody has, or not since the last change."),
     ({"code": 10, "name": "p1"}, "The name “p1” is taken."),
     ({"code": 11, "name": "z1", "by": "s1", "step": 4}, "Line 4: “z1” is in use by “s1”."),
     ({"code": 12, "name": "z9", "step": 3}, "Line 3: There is no “z9”, or not there."),
@@ -329,7 +331,7 @@ def a_result_takes_the_focus(page, stage):
     open_plan(page, stage, "t-bob", "CHG10")
     page.click("Approve")
     page.says("Approved at revision")
-    page.until("document.activeElement.textContent.includes('Approved at revision')")
+    page.until("document.activeElement !== document.body && document.activeElement.textContent.includes('Approved at revision')")
 
 
 @case

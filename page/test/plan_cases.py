@@ -105,6 +105,8 @@ def who_loses_the_last_path_stands_first(page, stage):
     first = page.js("document.querySelector('caption').closest('table').querySelector('tbody tr').innerText")
     check(first.startswith("app1") or first.startswith("db2"), first)
     check("LOST" in first, first)
+    worst = page.js("[...document.querySelectorAll('caption')].find(one => one.textContent.startsWith('Hosts and volumes')).closest('table').querySelector('tbody tr').textContent")
+    check("LOST" in worst, worst)
 
 
 @case
@@ -188,7 +190,9 @@ def the_author_does_not_approve(page, stage):
 def without_approvals_it_is_not_activated(page, stage):
     open_plan(page, stage, "t-ada", "CHG10")
     page.click("Activate …")
-    page.says("Activate CHG10?", "Loses 0 paths (A 0, B 0), gains 4 paths (A 2, B 2).")
+    page.says("Activate CHG10?")
+    asked = page.js("document.getElementById('sure').textContent")
+    check("Loses 0 paths (A 0, B 0), gains 4 paths (A 2, B 2)." in asked, asked)
     check(page.focused() == "Cancel", page.focused())
     confirm(page, "Activate")
     page.says("rule 5, “four-eyes”: it asks for more approvals than there are that count.")

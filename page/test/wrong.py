@@ -63,7 +63,7 @@ PAGES = {
     "it_works_by_keyboard_alone": ("dom.js", 'tabindex: "0"', 'tabindex: "-1"'),
     "a_result_takes_the_focus": ("orders.js", "  box.focus();\n", ""),
     "a_view_that_is_left_closes_its_dialog": ("app.js", "  desk.leave();\n  dismiss();\n", "  desk.leave();\n"),
-    "it_is_read_by_a_screen_reader": ("picture.js", ', "aria-describedby": `${id}d`', ""),
+    "it_is_read_by_a_screen_reader": ("picture.js", 'svg("desc", { id: `${id}d` }, words)', 'svg("desc", { id: `${id}d` })'),
     "it_is_dark": ("page.css", "--faint: #a7b1bb", "--faint: #454d55"),
     "it_is_seen_in_forced_colours": ("page.css", "svg path, svg rect { stroke: CanvasText; }", "svg path, svg rect { stroke: Canvas; }"),
     "it_is_320_pixels_wide": ("page.css", ".scroll { overflow: auto;", ".scroll { overflow: visible;"),
@@ -71,7 +71,7 @@ PAGES = {
     # what goes over the wire
     "what_the_desk_gets_is_small": ("nginx-site.conf", "proxy_pass_request_headers off;", "proxy_pass_request_headers on;"),
     "the_answers_have_their_lines": ("nginx-site.conf", "form-action 'none'; ", ""),
-    "markup_in_an_answer_is_text": ("dom.js", "node.append(...children", "node.innerHTML = children.join(''); if (false) node.append(...children"),
+    "markup_in_an_answer_is_text": ("plan.js", 'fact("Author", author)', 'fact("Author", document.createRange().createContextualFragment(author))'),
     "markup_is_taken_from_nobody": ("nginx-site.conf", "require-trusted-types-for 'script'; ", ""),
     "the_browser_finds_no_fault": ("nginx-site.conf", '"$request_method $uri" $status', '"$request_method $uri" $http_authorization $status'),
 }
