@@ -137,8 +137,12 @@ fn add_group<A: Allocator + Copy>(
     Ok(())
 }
 
-/// Adds the paths of a pair.
-fn add_pair<A: Allocator + Copy>(
+/// Adds the paths of a pair of ports: those of the exposed storage groups that serve the host of `p`
+/// and have `q` as a target, where the two ports are logged in at one fabric that joins them.
+///
+/// # Errors
+/// `AllocError` where there is no memory; some of the paths may have been added.
+pub fn add_pair<A: Allocator + Copy>(
     paths: &mut BTreeSet<Path, A>,
     view: &View<'_, A>,
     served: &BTreeMap<Name, BTreeSet<Name, A>, A>,
@@ -178,7 +182,10 @@ fn add_targets<A: Allocator + Copy>(
 }
 
 /// The targets of the storage groups of these names, each once.
-fn targets_of<A: Allocator + Copy>(
+///
+/// # Errors
+/// `AllocError` where there is no memory.
+pub fn targets_of<A: Allocator + Copy>(
     alloc: A,
     mapping: &Mapping<A>,
     groups: &BTreeSet<Name, A>,
@@ -283,6 +290,9 @@ fn add_from<A: Allocator + Copy>(
 }
 
 /// The paths of a set, in order.
+///
+/// # Errors
+/// `AllocError` where there is no memory.
 pub fn listed<A: Allocator + Copy>(
     alloc: A,
     paths: &BTreeSet<Path, A>,

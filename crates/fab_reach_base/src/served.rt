@@ -85,6 +85,9 @@ fn serve_exposed<A: Allocator + Copy>(
 }
 
 /// The exposed storage groups that serve each host.
+///
+/// # Errors
+/// `AllocError` where there is no memory.
 pub fn served_hosts<A: Allocator + Copy>(
     alloc: A,
     mapping: &Mapping<A>,
