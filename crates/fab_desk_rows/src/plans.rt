@@ -178,7 +178,7 @@ pub fn plan_tables_moved<A: Allocator + Copy>(
     ensures { IfOk result (ArePlanTablesMoved world.now (next_world world.now next.now)) }
 {
     match next {
-        Next::Same | Next::Stock(_) => Ok(no_tables(alloc)),
+        Next::Same | Next::Stock { .. } => Ok(no_tables(alloc)),
         Next::Staged { name, plan, .. } => staged_tables(alloc, world, name, plan),
         Next::Turned { name, turn } => {
             turned_tables(alloc, world, name, turn, world.order.as_slice())
