@@ -174,7 +174,10 @@ impl<A: Allocator + Copy> Next<A> {
     {
         match self {
             Next::Same => {}
-            Next::Stock { inventory, .. } => stock(world, inventory),
+            Next::Stock {
+                inventory,
+                change: _change,
+            } => stock(world, inventory),
             Next::Staged { name, plan } => put_plan(world, &name, plan),
             Next::Turned { name, turn } => turn_in(alloc, world, &name, turn),
             Next::Reconfigured {

@@ -16,7 +16,7 @@ ghost use Rattle.fab_desk_commands.specs.Nexts.{next_world, Suits};
 ghost use Rattle.fab_desk_commands.specs.Kinds.{IsReconfiguration};
 ghost use Rattle.fab_desk_commands.specs.Trials.{HasEarlier, IsBeforePlan, IsRollback, IsRestoreFault};
 
-use crate::copies::turned_round;
+use crate::again::turned_round;
 use crate::found::active_at;
 use crate::{Next, Turn};
 use fab_desk_base::DeskFault;
