@@ -5,7 +5,6 @@ ghost use Rattle.fab_reach_base.specs.Books.{IsDelta};
 ghost use Rattle.fab_reach_base.specs.Records.{ConfigRows};
 ghost use Rattle.fab_reach_base.specs.Views.{seen};
 ghost use Rattle.fab_store_rows.specs.Differences.{IsDifference};
-ghost use Rattle.fab_store_rows.specs.declared.inventory_row.InventoryRow.{InventoryRow};
 ghost use Rattle.fab_store_world.specs.Inventories.{AreListsOf, IsKnownOnlyIn, IsInventoryDifference};
 ghost use Rattle.fab_world.specs.Worlds.{records_of};
 ghost use Rattle.fab_desk_base.specs.Keeping.{KeepsHosts};
@@ -78,7 +77,7 @@ fn lists_again<A: Allocator + Copy>(
     alloc: A,
     lists: &InventoryLists<A>,
 ) -> Result<InventoryLists<A>, AllocError>
-    ensures { IfOk result (λ again. (P : InventoryRow → Type 0) → AreListsOf P lists.now → AreListsOf P again) }
+    ensures { IfOk result (λ again. (again.ports.items ≡ lists.now.ports.items) × (again.holders.items ≡ lists.now.holders.items) × (again.volumes.items ≡ lists.now.volumes.items)) }
 {
     let ports = copied::<A, Port>(alloc, lists.ports.as_slice())?;
     let holders = copied::<A, HolderRow>(alloc, lists.holders.as_slice())?;

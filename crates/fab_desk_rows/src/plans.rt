@@ -107,7 +107,7 @@ fn state_after<A: Allocator + Copy>(turn: &Turn<A>) -> PlanState
         Turn::Withdrawn => PlanState::Withdrawn,
         Turn::Approved(_) => PlanState::Staged,
         Turn::Activated(_) => PlanState::Active,
-        Turn::RolledBack => PlanState::RolledBack,
+        Turn::RolledBack(_) => PlanState::RolledBack,
     }
 }
 
