@@ -1,5 +1,5 @@
 -- What the trial of a command gives, said of the command.
-use Rattle.std.proofs.Common.{ℕ, ◌≡◌, List, [], Result, Ok, Err, IfOk, IfErr, true, inl, inr, sym, subst, tt}
+use Rattle.std.proofs.Common.{ℕ, ◌≡◌, List, [], Result, Ok, Err, IfOk, IfErr, true, inl, inr, sym, subst}
 use Rattle.fab_inventory.specs.Inventories.{InventoryRows}
 use Rattle.fab_policy_base.specs.Policies.{PolicyRows}
 use Rattle.fab_store_world.specs.Inventories.{IsInventoryDifference}

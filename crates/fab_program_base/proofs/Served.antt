@@ -1,5 +1,5 @@
 -- Serving over a desk whose store is opened anew somehow.
-use Rattle.std.proofs.Common.{ℕ, ◌≡◌, ◌⊎◌, ⊤, List, [], ◌∷◌, Option, Some, None, Result, Ok, Err, inl, inr, tt}
+use Rattle.std.proofs.Common.{ℕ, ◌≡◌, ◌⊎◌, ⊤, List, [], ◌∷◌, Option, Some, None, Result, Ok, Err, inl, inr}
 use Rattle.std.specs.declared.alloc.Global.{Global}
 use Rattle.std.specs.declared.net.TcpListener.{TcpListener}
 use Rattle.fab_policy_base.specs.Policies.{PolicyRows}
