@@ -17,7 +17,6 @@ use Rattle.fab_desk_base.specs.declared.fault.DeskFault.{DeskFault}
 use Rattle.fab_desk_machine.specs.Trials.{IsStockEffect, IsStockFault, plan_effect, MayCount, IsTried}
 use Rattle.fab_desk_machine.specs.declared.effects.Effect.{Effect}
 use Rattle.fab_desk_machine.specs.declared.effects.Effect.TheVariants.{Parts}
-use Rattle.fab_world.proofs.WholeWorld.{ok_as}
 
 -- a policy, where any does
 pub no_policy : PolicyRows
