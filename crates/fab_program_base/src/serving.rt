@@ -15,8 +15,10 @@ use fab_program_outside::{Fault, Files, policy_of};
 use fab_store::{OpenFault, Store};
 use fab_wire_base::routes::Routes;
 use fab_wire_serving::{ServeFault, Server, Watch, serve_on};
+use mio::Poll;
 use std::alloc::Global;
 use std::io::Write;
+use std::net::TcpListener;
 
 /// Serves connections: as many as are asked for, or until accepting one fails. Each has its line in
 /// the log.
@@ -132,11 +134,40 @@ fn serve_at<
 {
     match outside.listen(asked.listen) {
         Some(listener) => {
-            let mut watch = Watch::new(rt.alloc(), rt, log);
-            let came = serve_on(&mut watch, front, &listener, now, asked.count, again);
+            let came = serve_those(rt, asked, front, &listener, now, log, again);
             end_of(came)
         }
         None => Err(Fault::Listen),
+    }
+}
+
+/// Serves the connections of a listener, if the system can tell which of them are ready.
+///
+/// # Errors
+/// As `serve_on`.
+fn serve_those<
+    S: Store<Global>,
+    N: FnMut() -> Option<u64>,
+    W: Write + Drop,
+    F: FnMut() -> Result<S, OpenFault>,
+>(
+    rt: &HostRuntime,
+    asked: &Serve<'_>,
+    front: &mut Front<S>,
+    listener: &TcpListener,
+    now: &mut N,
+    log: W,
+    again: &mut F,
+) -> Result<(), ServeFault>
+    requires now { (state : N) → N.pre state }
+    requires again { (state : F) → F.pre state }
+{
+    match Poll::new(rt) {
+        Ok(poll) => {
+            let mut watch = Watch::new(rt.alloc(), rt, log, poll);
+            serve_on(&mut watch, front, listener, now, asked.count, again)
+        }
+        Err(e) => Err(ServeFault::Listener(e)),
     }
 }
 

@@ -2,12 +2,14 @@
 
 ghost use Rattle.std.specs.Prelude.{⊤};
 
+use fab_wire_gathering::stream::Stream;
 use fab_wire_serving::Listens;
-use fab_wire_serving::stream::Stream;
+use std::alloc::Global;
 use std::cell::Cell;
 use std::io;
 use std::io::{ErrorKind, Read, Write};
-use std::net::{TcpListener, TcpStream};
+use std::net::{Net, TcpListener, TcpStream};
+use std::os::fd::{AsRawFd, RawFd};
 use std::time::{Clock, Duration};
 
 /// A clock that has gone on by the same time whenever it is read.
@@ -140,19 +142,82 @@ impl<'s> Stream for &'s Brittle {
     }
 }
 
-/// A listener that is waited at for a thousand seconds before each connection.
+/// A listener of which one call fails, of some number from 0 on, though a connection may be there.
 #[derive(Drop)]
-pub struct Late<'l> {
+pub struct Busy<'l> {
     pub listener: &'l TcpListener,
-    pub clock: &'l Ticking,
+    pub calls: Cell<u64>,
+    pub fails_at: u64,
 }
 
-impl<'l> Listens for Late<'l> {
+impl<'l> Listens for Busy<'l> {
     ghost fails = { λ listener. ⊤ };
 
     fn connection(&self) -> io::Result<TcpStream> {
-        self.clock.go_on(1000);
+        let call = self.calls.get();
+        self.calls.set(call.saturating_add(1));
+        if call == self.fails_at {
+            return Err(io::Error::from(ErrorKind::Other));
+        }
         self.listener.connection()
+    }
+
+    fn set_waiting(&self, waits: bool) -> io::Result<()> {
+        self.listener.set_waiting(waits)
+    }
+
+    fn descriptor(&self) -> RawFd {
+        self.listener.as_raw_fd()
+    }
+}
+
+/// A listener to which a client comes whenever a connection is asked for, as often as it is told. All send
+/// nothing but the last one, which sends a byte.
+#[derive(Drop)]
+pub struct Crowd<'l, R> {
+    pub rt: &'l R,
+    pub alloc: Global,
+    pub listener: &'l TcpListener,
+    pub left: Cell<u64>,
+    pub clients: Cell<Vec<TcpStream>>,
+}
+
+impl<'l, R: Net<Stream = TcpStream>> Crowd<'l, R> {
+    /// One more client comes.
+    fn come(&self) -> io::Result<()> {
+        let left = self.left.get().saturating_sub(1);
+        self.left.set(left);
+        let mut client = TcpStream::connect(self.rt, self.listener.local_addr()?)?;
+        if left == 0 {
+            client.write_all(b"a")?;
+        }
+        let mut clients = self.clients.replace(Vec::new(self.alloc));
+        let kept = clients.push(client).is_ok();
+        self.clients.set(clients);
+        if kept {
+            Ok(())
+        } else {
+            Err(io::Error::from(ErrorKind::OutOfMemory))
+        }
+    }
+}
+
+impl<'l, R: Net<Stream = TcpStream>> Listens for Crowd<'l, R> {
+    ghost fails = { λ listener. ⊤ };
+
+    fn connection(&self) -> io::Result<TcpStream> {
+        if self.left.get() > 0 {
+            self.come()?;
+        }
+        self.listener.connection()
+    }
+
+    fn set_waiting(&self, waits: bool) -> io::Result<()> {
+        self.listener.set_waiting(waits)
+    }
+
+    fn descriptor(&self) -> RawFd {
+        self.listener.as_raw_fd()
     }
 }
 

@@ -1,25 +1,13 @@
-use Rattle.std.proofs.Common.{rules, ℕ, None, subst}
-use Rattle.std.specs.Time.{instant_nanos}
-use Rattle.fab_wire_serving.specs.Coming.{CameSo}
-use Rattle.fab_wire_serving.specs.Sides.{begun_sides}
-use Rattle.fab_wire_serving.proofs.ComingLemmas.{came_so, told_at}
+use Rattle.std.specs.Duration.{as_nanos}
+use Rattle.fab_wire_serving.specs.Turns.{Gives}
+use Rattle.fab_wire_serving.proofs.PendingLemmas.{taken_behind, on_ok_map}
+use Rattle.fab_wire_serving.proofs.serving.serve_next.Given.{O-step, N-step}
 use Rattle.fab_wire_serving.proofs.serving.serve_next.Goals as goal
 
 pub returns-clause-turn : goal.returns-clause-turn
 returns-clause-turn g c =
-    let restored = c.restore.new.server in let came = c.serve_stream-came.result in let moment = c.in_ok-stream.moment in
-    let began = told_at (g.C.Ticks.tells c.args.watch.now.clock.now) (g.C.Ticks.fails c.args.watch.now.clock.now) c.in_ok-stream.start c.begun.result c.in_ok-stream.ensures.start c.begun.ensures in
-    let served = came_so _ _ came c.serve_stream-came.ensures in
-    let in_time = subst (λ (e : ℕ). CameSo (λ outcome after. g.D.Server.serves restored moment (begun_sides None None e) after outcome c.serve_stream-came.new.server) came) c.after-deadline.ensures.end served in (
-      moment,
-      (
-        c.in_ok-stream.ensures.moment,
-        (
-          restored,
-          came,
-          c.restore.ensures,
-          (instant_nanos c.begun.result, began, in_time),
-          (instant_nanos c.in_ok-stream.start, c.in_ok-stream.ensures.start, rw c.shown.ensures at c.note.ensures.line),
-        ),
-      ),
-    )
+    let clock = c.args.watch.now.clock.now in
+    let taken = rw (c.next_turn.ensures.clock, c.next_turn.ensures.most) at c.serve_turn.ensures.turn in
+    on_ok_map c.serve_turn.result _ _
+    (taken_behind g.D.Server (Gives (O-step g)) (Gives (N-step g)) (g.C.Ticks.tells clock) (g.C.Ticks.fails clock) g.W.Write.contents (as_nanos c.args.watch.now.most)
+    _ _ _ _ _ _ _ _ c.next_turn.ensures.lines) taken
