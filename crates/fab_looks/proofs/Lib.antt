@@ -1,0 +1,5 @@
+pub mod Keys
+pub mod Opens
+pub mod Answered
+pub mod Unseen
+pub mod Sights

@@ -1,0 +1,5 @@
+pub mod Lists
+pub mod Rows
+pub mod Told
+pub mod Seeing
+pub mod Inner
