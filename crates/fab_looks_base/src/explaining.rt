@@ -1,5 +1,5 @@
 //! Why a host reaches a volume, or does not.
-ghost use Rattle.std.specs.Prelude.{◌≡◌, ◌↔◌, map, IfOk};
+ghost use Rattle.std.specs.Prelude.{map, IfOk};
 ghost use Rattle.fab_inventory.specs.declared.port.Port.{Port};
 ghost use Rattle.fab_names.specs.declared.fabric.Fabric.{Fabric};
 ghost use Rattle.fab_reach_base.specs.Orders.{Has, IsListOf};
@@ -16,9 +16,8 @@ use crate::offering::offers;
 use fab_inventory::Port;
 use fab_mapping::StorageGroup;
 use fab_names::Name;
-use fab_reach_base::{Path, View};
+use fab_reach_base::{Path, View, listed};
 use std::alloc::{AllocError, Allocator};
-use std::collections::BTreeSet;
 
 /// Whether a host reaches a volume, and why.
 #[derive(Drop)]
@@ -27,16 +26,6 @@ pub enum Why<A: Allocator + Copy> {
     Reaches(Vec<Path, A>),
     /// It does not, and this is the first link that is missing.
     Missing(Link),
-}
-
-/// The paths, in order.
-pub fn listed<A: Allocator + Copy>(
-    alloc: A,
-    paths: &BTreeSet<Path, A>,
-) -> Result<Vec<Path, A>, AllocError>
-    ensures { IfOk result (λ items. items.items ≡ paths.now.keys) }
-{
-    paths.iter().copied().collect(alloc)
 }
 
 /// The same, where all links to an exposed storage group are there: of the ports of the host that are

@@ -9,13 +9,12 @@ ghost use Rattle.fab_looks_base.specs.Inner.Offers.{AreJust};
 ghost use Rattle.fab_looks_base.specs.Inner.Gaining.{AddsHost, AddsHosts};
 ghost use Rattle.fab_looks_base.specs.Reachers.{is_in, AreReachers};
 
-use crate::explaining::listed;
 use crate::finding::{exposed_groups, is_host, logins, mapping_groups, serving_groups};
 use crate::joining::passable;
 use crate::offering::offers;
 use fab_mapping::StorageGroup;
 use fab_names::{Fabric, Name};
-use fab_reach_base::{Path, View};
+use fab_reach_base::{Path, View, listed};
 use std::alloc::{AllocError, Allocator};
 use std::collections::BTreeMap;
 
