@@ -10,9 +10,11 @@ mod port_listing;
 mod rows;
 mod seeing;
 mod telling;
+mod way;
 
 pub use listing::{Kind, list, query_of};
 pub use port_listing::list_ports;
 pub use rows::{answers_to, list_rows, port_rows};
 pub use seeing::who_told;
 pub use telling::told;
+pub use way::way_rows;
