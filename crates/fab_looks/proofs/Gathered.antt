@@ -45,7 +45,7 @@ ByPort a q = q ≡ query.Port a
 
 module _ (p : PolicyRows) (w : WorldRows) (id : ℕ) where
   pub open_added : (asked : Query) (xs ys : List Query) → ys ≡ xs ++ asked ∷ [] → IsOpenQuery p w id asked asked → Adds (IsOpenQuery p w id asked) (Contains xs) (Contains ys)
-  open_added asked xs ys made open = adds_as (λ y. y ≡ asked) (IsOpenQuery p w id asked) (Contains xs) (Contains ys) (λ y e. (e, open.1)) (λ y h. h.0) (push_adds xs ys asked made)
+  open_added asked xs ys made own = adds_as (λ y. y ≡ asked) (IsOpenQuery p w id asked) (Contains xs) (Contains ys) (λ y e. (e, own.1)) (λ y h. h.0) (push_adds xs ys asked made)
 
   pub host_added : (host : List ℕ) (ports : List ℕ) (xs ys zs : List Query) → SeesHost p w id host → IsListOf nat_cmp (Holds (map.get w.inventory.ports) host) ports → ys ≡ xs ++ query.Holder kind.Host host ∷ [] → Adds (IsPortQuery ports) (Contains ys) (Contains zs) → Adds (HostQuery p w id host) (Contains xs) (Contains zs)
   host_added host ports xs ys zs sees listed made a = adds_as (λ y. (y ≡ query.Holder kind.Host host) ⊎ IsPortQuery ports y) (HostQuery p w id host) (Contains xs) (Contains zs)

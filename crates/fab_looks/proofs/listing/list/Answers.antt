@@ -1,4 +1,7 @@
+use Rattle.std.proofs.Common.{IfOk, refl, sym, subst}
 use Rattle.fab_reach_base.specs.Records.{zoning_at}
+use Rattle.fab_looks.specs.Lists.{IsListing}
+use Rattle.fab_looks.specs.declared.listing.Kind.{Kind}
 use Rattle.fab_looks.specs.declared.listing.Kind.TheVariants as kinds
 use Rattle.fab_looks.proofs.Opens.{listing_of, host_there, array_there, volume_there, host_group_there, group_there}
 use Rattle.fab_looks.proofs.listing.list.Goals as goal
@@ -36,14 +39,20 @@ returns-in-Plans g c =
 pub returns-in-Aliases : goal.returns-in-Aliases
 returns-in-Aliases g c =
     let w = c.args.world.now in
-    listing_of c.args.policy.now w c.args.id c.args.kind (kinds.Aliases c.in-Aliases.fabric) (zoning_at w.config c.in-Aliases.fabric).aliases c.aliases_of.result c.open_names-in-Aliases.result c.in-Aliases.is c.aliases_of.ensures (λ _ h. h) c.open_names-in-Aliases.ensures
+    let kind = kinds.Aliases c.in-Aliases.fabric in
+    subst (λ (k : Kind). IfOk c.open_names-in-Aliases.result (IsListing c.args.policy.now w c.args.id k)) (sym c.in-Aliases.is)
+    (listing_of c.args.policy.now w c.args.id kind kind (zoning_at w.config c.in-Aliases.fabric).aliases c.aliases_of.result c.open_names-in-Aliases.result refl c.aliases_of.ensures (λ _ h. h) c.open_names-in-Aliases.ensures)
 
 pub returns-in-Zones : goal.returns-in-Zones
 returns-in-Zones g c =
     let w = c.args.world.now in
-    listing_of c.args.policy.now w c.args.id c.args.kind (kinds.Zones c.in-Zones.fabric) (zoning_at w.config c.in-Zones.fabric).zones c.zones_of.result c.open_names-in-Zones.result c.in-Zones.is c.zones_of.ensures (λ _ h. h) c.open_names-in-Zones.ensures
+    let kind = kinds.Zones c.in-Zones.fabric in
+    subst (λ (k : Kind). IfOk c.open_names-in-Zones.result (IsListing c.args.policy.now w c.args.id k)) (sym c.in-Zones.is)
+    (listing_of c.args.policy.now w c.args.id kind kind (zoning_at w.config c.in-Zones.fabric).zones c.zones_of.result c.open_names-in-Zones.result refl c.zones_of.ensures (λ _ h. h) c.open_names-in-Zones.ensures)
 
 pub returns-in-Sets : goal.returns-in-Sets
 returns-in-Sets g c =
     let w = c.args.world.now in
-    listing_of c.args.policy.now w c.args.id c.args.kind (kinds.Sets c.in-Sets.fabric) (zoning_at w.config c.in-Sets.fabric).sets c.sets_of.result c.open_names-in-Sets.result c.in-Sets.is c.sets_of.ensures (λ _ h. h) c.open_names-in-Sets.ensures
+    let kind = kinds.Sets c.in-Sets.fabric in
+    subst (λ (k : Kind). IfOk c.open_names-in-Sets.result (IsListing c.args.policy.now w c.args.id k)) (sym c.in-Sets.is)
+    (listing_of c.args.policy.now w c.args.id kind kind (zoning_at w.config c.in-Sets.fabric).sets c.sets_of.result c.open_names-in-Sets.result refl c.sets_of.ensures (λ _ h. h) c.open_names-in-Sets.ensures)
