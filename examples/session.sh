@@ -417,6 +417,51 @@ asks 'the same as JSON' t-eve GET /active/A 200 \
 asks 'an alias' t-eve GET /aliases/A/disk 200 '{"fabric":"A","members":["wwpn='$t1'"],"name":"disk"}'
 asks 'a host group' t-cyd GET /hostgroups/hosts1 200 '{"hosts":["db1"],"name":"hosts1","tenant":"blue"}'
 
+part 'looks: why, who, and what there is'
+
+# row TEXT..: a line of columns.
+row() {
+    local cell
+    for cell in "${@:1:$#-1}"; do
+        printf '%-24s ' "$cell"
+    done
+    printf '%s\n' "${!#}"
+}
+
+# looks TITLE STATUS OUT TOKEN WORD..
+looks() {
+    local title=$1 wanted=$2 text=$3 token=$4
+    shift 4
+    says "$title" "$wanted" "$text"$'\n' '' "$1" --db "$db" --policy "$policy" --token "$token" "${@:2}"
+}
+
+node=20:00:00:00:00:00:00:01
+way=$(printf 'host %s\n' "$(row db1 blue 2)"
+    printf 'port %s\n' "$(row $i1 $node A)" "$(row $i4 $node B)"
+    printf 'volume %s\n' "$(row v1 blue arr1 1073741824)"
+    printf 'group %s\n' "$(row g1 blue arr1 exposed)")
+looks 'why db1 reaches v1' 0 "$way"$'\n'"path A $i1 -> $t1 unit 0"$'\n''YES  1 paths' t-cyd \
+    why --host db1 --volume v1
+looks 'a host and a volume that are not there' 1 \
+    '{"found":[],"host":"db2","missing":"host","reaches":false,"volume":"v9"}' t-cyd \
+    why --host db2 --volume v9 --json
+looks 'cyd is told of another host as of none' 1 \
+    "$(printf '%s\n' "$way" | tail -n 2)"$'\n''NO  there is no such host, or it is not yours' t-cyd \
+    why --host db2 --volume v1
+looks 'who reaches v1' 0 "$(row HOST A B; row db1 1 0)" t-cyd who --volume v1
+looks 'eve is told of nobody' 0 "$(row HOST A B)" t-eve who --volume v1
+looks 'the same as JSON' 0 '[{"a":1,"b":0,"host":"db1"}]' t-ada who --volume v1 --json
+looks 'the hosts of cyd' 0 "$(row NAME TENANT PORTS; row db1 blue 2)" t-cyd list hosts
+looks 'the hosts of cyd as JSON' 0 \
+    '[{"kind":"host","name":"db1","ports":["'$i1'","'$i4'"],"tenant":"blue"}]' t-cyd list hosts --json
+looks 'the plans, and who approved them' 0 \
+    "$(row PLAN STATE AUTHOR APPROVALS; row p1 active ada 1)"$'\n''  approved by bob at revision 7' t-eve list plans
+looks 'the zones of both fabrics' 0 "$(row FABRIC NAME MEMBERS; row A z1 2)" t-eve list zones
+looks 'nobody has this token' 1 '{"code":1,"error":"no-caller"}' t-zed list hosts
+says 'there is no such kind' 2 '' $'sandesk: words\n' \
+    list --db "$db" --policy "$policy" --token t-ada switches
+says 'a list of nothing' 2 '' '*' list --db "$db" --policy "$policy" --token t-ada
+
 part 'a plan on fabric B: two fresh approvals, in a window'
 
 stages 'it is staged' t-ada q1 fabric-b.plan 4

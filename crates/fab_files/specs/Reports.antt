@@ -32,6 +32,10 @@ unfoldable pub row_line : List ℕ → List ℕ → List ℕ → List ℕ → Li
 row_line host volume over_a over_b state =
     line_of 32 (left name_width host) (left name_width volume ∷ right count_width over_a ∷ right count_width over_b ∷ state ∷ [])
 
+-- texts at the left of their columns, one space behind each, and a last text
+unfoldable pub columns_line : List (List ℕ) → List ℕ → List ℕ
+columns_line cells last = flat_map (λ cell. left name_width cell ++ 32 ∷ []) cells ++ (last ++ 10 ∷ [])
+
 -- the names of the columns
 unfoldable pub report_header : List ℕ
 report_header = row_line (codes "HOST") (codes "VOLUME") (codes "A") (codes "B") (codes "STATE")

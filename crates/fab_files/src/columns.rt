@@ -1,7 +1,7 @@
 //! Columns of a fixed width.
-ghost use Rattle.std.specs.Prelude.{◌≡◌, ◌-◌, ◌≤◌, length, replicate};
+ghost use Rattle.std.specs.Prelude.{◌≡◌, ◌-◌, ◌≤◌, [], ◌∷◌, length, replicate};
 ghost use Rattle.fab_wire_streams.specs.Taking.{Takes};
-ghost use Rattle.fab_files.specs.Reports.{row_line};
+ghost use Rattle.fab_files.specs.Reports.{row_line, columns_line};
 
 use fab_wire_streams::sink::{Sink, put_all};
 use fab_wire_streams::streams::WriteFailed;
@@ -50,6 +50,64 @@ pub fn put_row<'x, S: Sink>(
         over_b,
         b" ".as_slice(),
         state,
+        b"\n".as_slice(),
+    ];
+    put_all(sink, &texts)
+}
+
+/// Puts a line of three texts: each but the last in a column that is `NAME_WIDTH` wide, and one space
+/// between columns.
+///
+/// # Errors
+/// `WriteFailed` where the sink fails, with a beginning of the line taken.
+pub fn put_three<'x, S: Sink>(
+    sink: &mut S,
+    first: &'x [u8],
+    second: &'x [u8],
+    last: &'x [u8],
+) -> Result<(), WriteFailed>
+    ensures { Takes S.took S.cut sink.old (columns_line (first.now ∷ second.now ∷ []) last.now)
+        sink.new result }
+{
+    let texts = [
+        first,
+        spaces_beside(first, NAME_WIDTH),
+        b" ".as_slice(),
+        second,
+        spaces_beside(second, NAME_WIDTH),
+        b" ".as_slice(),
+        last,
+        b"\n".as_slice(),
+    ];
+    put_all(sink, &texts)
+}
+
+/// Puts a line of four texts: each but the last in a column that is `NAME_WIDTH` wide, and one space
+/// between columns.
+///
+/// # Errors
+/// `WriteFailed` where the sink fails, with a beginning of the line taken.
+pub fn put_four<'x, S: Sink>(
+    sink: &mut S,
+    first: &'x [u8],
+    second: &'x [u8],
+    third: &'x [u8],
+    last: &'x [u8],
+) -> Result<(), WriteFailed>
+    ensures { Takes S.took S.cut sink.old
+        (columns_line (first.now ∷ second.now ∷ third.now ∷ []) last.now) sink.new result }
+{
+    let texts = [
+        first,
+        spaces_beside(first, NAME_WIDTH),
+        b" ".as_slice(),
+        second,
+        spaces_beside(second, NAME_WIDTH),
+        b" ".as_slice(),
+        third,
+        spaces_beside(third, NAME_WIDTH),
+        b" ".as_slice(),
+        last,
         b"\n".as_slice(),
     ];
     put_all(sink, &texts)

@@ -14,9 +14,9 @@ mod printing;
 mod reports;
 
 pub use active::active_text;
-pub use columns::{COUNT_WIDTH, NAME_WIDTH};
+pub use columns::{COUNT_WIDTH, NAME_WIDTH, put_four, put_three};
 pub use fab_wire_requests::port_list::{FileFault, read_ports};
 pub use forms::Form;
 pub use paths::paths_csv;
-pub use printing::{End, PrintFault, print};
+pub use printing::{End, PrintFault, Printable, print, print_text};
 pub use reports::{ReportFault, report};

@@ -3,6 +3,7 @@ ghost use Rattle.std.specs.Prelude.{◌≡◌, ℕ, List, [], IfOk};
 ghost use Rattle.std.specs.Io.Buffered.{writer_buffer, writer_contents, writer_inner};
 ghost use Rattle.std.specs.Io.KnownBytes.{Appends, Keeps};
 ghost use Rattle.fab_wire_streams.specs.Counting.{inner_of};
+ghost use Rattle.fab_wire_streams.specs.Taking.{Takes};
 ghost use Rattle.fab_files.specs.Ends as ends;
 ghost use Rattle.fab_files.specs.Printed.{IsPrinted};
 
@@ -10,6 +11,8 @@ use crate::forms::{Form, put};
 use fab_desk_base::Reply;
 use fab_wire_answers::answers::Answer;
 use fab_wire_streams::counted::Counted;
+use fab_wire_streams::sink::Sink;
+use fab_wire_streams::streams::WriteFailed;
 use std::alloc::Global;
 use std::io::{BufWriter, Write};
 
@@ -103,6 +106,41 @@ pub fn print<W: Write + Drop>(
         Err(fault) => {
             leave(out);
             Err(fault)
+        }
+    }
+}
+
+/// What is printed as one text.
+pub trait Printable {
+    /// The text.
+    ghost text: { Self → List ℕ };
+
+    /// Puts the text. A failure of the sink ends it.
+    fn put<S: Sink>(&self, sink: &mut S) -> Result<(), WriteFailed>
+        ensures { Takes S.took S.cut sink.old (text self.now) sink.new result };
+}
+
+/// Prints a text, and hands back the writer, which has got just that text.
+///
+/// # Errors
+/// `Stream` where the writer failed, which may have got a beginning of the text and is not tried
+/// again; `Memory`.
+pub fn print_text<W: Write + Drop, T: Printable>(
+    alloc: Global,
+    writer: W,
+    text: &T,
+) -> Result<W, PrintFault>
+    ensures { IfOk result (λ printed. Appends (W.contents writer) (W.contents printed) (T.text text.now)) }
+{
+    let mut out = buffered(alloc, writer)?;
+    match text.put(&mut out) {
+        Ok(()) => {
+            let printed = finish(out)?;
+            Ok(printed)
+        }
+        Err(WriteFailed) => {
+            leave(out);
+            Err(PrintFault::Stream)
         }
     }
 }

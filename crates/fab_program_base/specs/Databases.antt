@@ -2,6 +2,7 @@
 use Rattle.std.specs.Prelude.{◌≡◌, ◌⊎◌, Result, Ok, Err}
 use Rattle.std.specs.declared.alloc.Global.{Global}
 use Rattle.fab_policy_base.specs.Policies.{PolicyRows}
+use Rattle.fab_program_looks.specs.Loading.{fault_of_opening}
 use Rattle.fab_program_outside.specs.Coming.{Then}
 use Rattle.fab_program_outside.specs.Contents.{IsFree, IsUsed}
 use Rattle.fab_program_outside.specs.declared.faults.Fault.{Fault}
@@ -13,13 +14,6 @@ use Rattle.fab_store.specs.declared.Store as store
 use Rattle.fab_wire.specs.Desks.{IsOpened, IsUnopened}
 use Rattle.fab_wire.specs.Handled.{policy_of, serving_of, world_of}
 use Rattle.fab_program_base.specs.Desks.{ProgramDesk}
-
--- the fault of tables that are not those of a desk, or could not be read
-abbrev pub fault_of_opening : OpenFault → Fault
-fault_of_opening (opening.Damaged table) = fault.Damaged table
-fault_of_opening (opening.NewerSchema schema) = fault.NewerSchema schema
-fault_of_opening opening.Store = fault.Store
-fault_of_opening opening.Memory = fault.Memory
 
 -- why tables are not opened again: there was no memory, or else the store is said to refuse
 abbrev pub fault_of_again : Fault → OpenFault

@@ -1,4 +1,5 @@
 pub mod Commands
+pub mod Looks
 pub mod Databases
 pub mod Desks
 pub mod Exits

@@ -22,6 +22,7 @@ use Rattle.fab_program_base.specs.Commands.{DryRunComes, ImportComes, ShowComes}
 use Rattle.fab_program_base.specs.Databases.{IsMade}
 use Rattle.fab_program_base.specs.Desks.{ProgramDesk}
 use Rattle.fab_program_base.specs.Exits.{end_of_making, end_only}
+use Rattle.fab_program_base.specs.Looks.{WhyComes, WhoComes, NamesComes}
 use Rattle.fab_program_base.specs.Once.{ComesOnce}
 use Rattle.fab_program_base.specs.Servings.{ComesServing}
 use Rattle.fab_program_base.specs.declared.addresses.Addresses as addresses
@@ -61,3 +62,6 @@ module _ {O F T M D Reader Writer : Type 0} (f : files.Ghosts O F) (known : F â†
   Comes outside (words.Report asked) reader writer ended = EndsLike (ShowComes f known d t contents outside asked.access (query.Paths asked.host) form.Report writer) ended
   Comes outside (words.Export asked) reader writer ended = EndsLike (ShowComes f known d t contents outside asked.access (query.Active asked.fabric) form.Active writer) ended
   Comes outside (words.DryRun asked) reader writer ended = EndsAt asked.now Tells (Î» moment. DryRunComes f known d t contents outside asked moment writer) ended
+  Comes outside (words.Why asked) reader writer ended = EndsLike (WhyComes f known d t contents outside asked writer) ended
+  Comes outside (words.Who asked) reader writer ended = EndsLike (WhoComes f known d t contents outside asked writer) ended
+  Comes outside (words.Names asked) reader writer ended = EndsLike (NamesComes f known d t contents outside asked writer) ended

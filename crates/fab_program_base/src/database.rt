@@ -1,9 +1,10 @@
 //! Databases: files with the tables of a desk, and tables in memory.
-ghost use Rattle.std.specs.Prelude.{◌≡◌, ℕ, List, Result};
+ghost use Rattle.std.specs.Prelude.{ℕ, List, Result};
 ghost use Rattle.fab_program_outside.specs.declared.faults.Fault.{Fault};
-ghost use Rattle.fab_program_base.specs.Databases.{IsAgain, IsDeskOver, IsMade, fault_of_opening};
+ghost use Rattle.fab_program_base.specs.Databases.{IsAgain, IsDeskOver, IsMade};
 
 use fab_policy_base::Policy;
+use fab_program_looks::of_opening;
 use fab_program_outside::{Fault, Files, is_free};
 use fab_reach::PortBook;
 use fab_store::{OpenFault, Store};
@@ -68,18 +69,6 @@ pub fn make<O: Files + Databases>(outside: &O, path: &str) -> Result<(), Fault>
     match outside.new_tables_in(path) {
         Ok(_) => Ok(()),
         Err(fault) => Err(fault),
-    }
-}
-
-/// The fault of a store over which no desk is opened.
-fn of_opening(fault: OpenFault) -> Fault
-    ensures { result ≡ fault_of_opening fault }
-{
-    match fault {
-        OpenFault::Damaged(table) => Fault::Damaged(table),
-        OpenFault::NewerSchema(schema) => Fault::NewerSchema(schema),
-        OpenFault::Store => Fault::Store,
-        OpenFault::Memory => Fault::Memory,
     }
 }
 

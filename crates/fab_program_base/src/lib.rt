@@ -6,6 +6,7 @@ mod addresses;
 mod commands;
 mod database;
 pub mod front;
+mod looks;
 mod machine;
 mod once;
 mod running;

@@ -16,6 +16,7 @@ use crate::addresses::Addresses;
 use crate::commands::{dry_run, export, import, paths, report};
 use crate::database::{Databases, make};
 use crate::front::Front;
+use crate::looks::{names, who, why};
 use crate::once::once;
 use crate::serving::serve;
 use fab_files::End;
@@ -131,6 +132,9 @@ fn carry_out<
             let moment = moment_of(asked.now, now);
             without_writer(dry_run(alloc, outside, asked, moment, writer))
         }
+        Words::Why(asked) => without_writer(why(alloc, outside, asked, writer)),
+        Words::Who(asked) => without_writer(who(alloc, outside, asked, writer)),
+        Words::Names(asked) => without_writer(names(alloc, outside, asked, writer)),
     }
 }
 

@@ -2,15 +2,16 @@
 ghost use Rattle.std.specs.Prelude.{◌≡◌};
 ghost use Rattle.fab_program_outside.specs.Coming.{After, Then};
 ghost use Rattle.fab_program_base.specs.Databases.{IsDeskOver};
-ghost use Rattle.fab_program_base.specs.Prints.{IsPrintedTo, fault_of_printing};
+ghost use Rattle.fab_program_base.specs.Prints.{IsPrintedTo};
 ghost use Rattle.fab_program_base.specs.Tasks.{AnswersTask, ImportsAt, ImportsKnown, ComesOver, IsDone};
 ghost use Rattle.fab_program_base.specs.Tasks as tasks;
 
 use crate::database::{ProgramDesk, desk_over};
 use fab_desk_base::{Command, DeskFault, Query, Reply};
-use fab_files::{End, Form, PrintFault, print};
+use fab_files::{End, Form, print};
 use fab_names::{Fabric, Name};
 use fab_policy_base::Policy;
+use fab_program_looks::of_printing;
 use fab_program_outside::{Fault, is_too_large};
 use fab_store::Store;
 use fab_wire_answers::answers::Answer;
@@ -107,16 +108,6 @@ fn print_answer<W: Write + Drop>(
     match print(alloc, writer, form, answer) {
         Ok(printed) => Ok(printed),
         Err(fault) => Err(of_printing(fault)),
-    }
-}
-
-/// The fault of an answer that is not printed.
-fn of_printing(fault: PrintFault) -> Fault
-    ensures { result ≡ fault_of_printing fault }
-{
-    match fault {
-        PrintFault::Memory => Fault::Memory,
-        PrintFault::Stream => Fault::Stream,
     }
 }
 

@@ -4,7 +4,7 @@ use Rattle.std.proofs.Math.Seq.{drop-cons}
 use Rattle.std.specs.Borrow.{Bor}
 use Rattle.clap.specs.declared.builder.texts.Texts.TheVariants.{One}
 use Rattle.clap.specs.Words.{AddsArg, AddsSubcommand, App, Rule, Shape, app_of, new_app, rule_of, shape_of, with_rule, with_subcommand}
-use Rattle.clap.specs.declared.builder.action.ArgAction.TheVariants.{Set}
+use Rattle.clap.specs.declared.builder.action.ArgAction.TheVariants.{Set, SetTrue}
 use Rattle.clap.specs.declared.builder.arg.Arg.{Arg}
 use Rattle.clap.specs.declared.builder.command.Command.{Command}
 use Rattle.clap.specs.declared.builder.command.Command.TheViews.{out-Command}
@@ -21,6 +21,12 @@ or_false false = refl
 pub option_made : (a : Arg) (long value help : Bor (List ℕ)) (r : Bool)
     → rule_of (record a { long = Some long; action = Some Set; required = r; val_names = One value; help = Some help }) ≡ record (rule_of a) { long = Some long.now; action = Some Set; required = r; value_names = 1 }
 option_made a long value help r = refl
+
+pub place_made : (a : Arg) (value help : Bor (List ℕ)) (r : Bool) → rule_of (record a { action = Some Set; required = r; val_names = One value; help = Some help }) ≡ record (rule_of a) { action = Some Set; required = r; value_names = 1 }
+place_made a value help r = refl
+
+pub flag_made : (a : Arg) (long help : Bor (List ℕ)) (r : Bool) → rule_of (record a { long = Some long; action = Some SetTrue; required = r; help = Some help }) ≡ record (rule_of a) { long = Some long.now; action = Some SetTrue; required = r }
+flag_made a long help r = refl
 
 one_rule : (a : App) (r : Rule) (rest : List Rule) → with_rules a (r ∷ rest) ≡ with_rules (with_rule a r) rest
 one_rule a r rest = ap (λ (rules : List Rule). record a { top = record a.top { rules = rules } }) (sym (append_assoc a.top.rules (r ∷ []) rest))

@@ -4,7 +4,7 @@ use Rattle.clap.specs.Words.{Row, Text, fault_of, subcommand_of}
 use Rattle.fab_names.specs.Names.{SpellsName}
 use Rattle.fab_names.specs.Fabrics.{SpellsFabric}
 use Rattle.fab_program_options.specs.CommandLine.{desk_app, subcommand_name, value_of}
-use Rattle.fab_program_options.specs.Values.{Has, MayHave, SpellsText, SpellsToken, SpellsNumber64}
+use Rattle.fab_program_options.specs.Values.{Has, MayHave, SpellsText, SpellsToken, SpellsNumber64, SpellsKind, is_given}
 use Rattle.fab_program_options.specs.declared.options.OptionKind.TheVariants as option
 use Rattle.fab_program_options.specs.declared.subcommands.Subcommand.{Subcommand}
 use Rattle.fab_program_options.specs.declared.subcommands.Subcommand.TheVariants as subcommand
@@ -20,6 +20,9 @@ use Rattle.fab_program_options.specs.declared.words.Import.{Import}
 use Rattle.fab_program_options.specs.declared.words.Paths.{Paths}
 use Rattle.fab_program_options.specs.declared.words.Export.{Export}
 use Rattle.fab_program_options.specs.declared.words.DryRun.{DryRun}
+use Rattle.fab_program_options.specs.declared.words.Why.{Why}
+use Rattle.fab_program_options.specs.declared.words.Who.{Who}
+use Rattle.fab_program_options.specs.declared.words.Names.{Names}
 use Rattle.fab_program_options.specs.declared.words.Words.{Words}
 use Rattle.fab_program_options.specs.declared.words.Words.TheVariants as words
 
@@ -68,6 +71,22 @@ pub record IsDryRun (rows : List Row) (w : DryRun) : Type 0 where
   pub plan : Has SpellsName (value_of option.Plan rows) w.plan
   pub now : MayHave SpellsNumber64 (value_of option.Now rows) w.now
 
+pub record IsWhy (rows : List Row) (w : Why) : Type 0 where
+  pub access : IsAccess rows w.access
+  pub host : Has SpellsName (value_of option.Host rows) w.host
+  pub volume : Has SpellsName (value_of option.Volume rows) w.volume
+  pub json : w.is_json ≡ is_given (value_of option.Json rows)
+
+pub record IsWho (rows : List Row) (w : Who) : Type 0 where
+  pub access : IsAccess rows w.access
+  pub volume : Has SpellsName (value_of option.Volume rows) w.volume
+  pub json : w.is_json ≡ is_given (value_of option.Json rows)
+
+pub record IsNames (rows : List Row) (w : Names) : Type 0 where
+  pub access : IsAccess rows w.access
+  pub kind : Has SpellsKind (value_of option.Kind rows) w.kind
+  pub json : w.is_json ≡ is_given (value_of option.Json rows)
+
 -- ---- what the words ask for
 
 abbrev pub subcommand_in : Words → Subcommand
@@ -79,6 +98,9 @@ subcommand_in (words.Paths w) = subcommand.Paths
 subcommand_in (words.Report w) = subcommand.Report
 subcommand_in (words.Export w) = subcommand.Export
 subcommand_in (words.DryRun w) = subcommand.DryRun
+subcommand_in (words.Why w) = subcommand.Why
+subcommand_in (words.Who w) = subcommand.Who
+subcommand_in (words.Names w) = subcommand.Names
 
 abbrev pub HasValues : List Row → Words → Type 0
 HasValues rows (words.Init w) = IsInit rows w
@@ -89,6 +111,9 @@ HasValues rows (words.Paths w) = IsPaths rows w
 HasValues rows (words.Report w) = IsPaths rows w
 HasValues rows (words.Export w) = IsExport rows w
 HasValues rows (words.DryRun w) = IsDryRun rows w
+HasValues rows (words.Why w) = IsWhy rows w
+HasValues rows (words.Who w) = IsWho rows w
+HasValues rows (words.Names w) = IsNames rows w
 
 -- the subcommand that clap found, and its options, ask for w
 abbrev pub IsAsked : Option (Text × List Row) → Words → Type 0

@@ -1,11 +1,13 @@
 -- The command line of the program: its subcommands and their options.
 use Rattle.std.specs.Prelude.{Bool, true, false, List, [], ◌∷◌, ◌++◌, Option, Some, map, codes}
 use Rattle.clap.specs.Words.{App, Row, Rule, Shape, Text, first_of, new_app, new_rule, with_subcommand}
-use Rattle.clap.specs.declared.builder.action.ArgAction.TheVariants.{Set}
+use Rattle.clap.specs.declared.builder.action.ArgAction.TheVariants.{Set, SetTrue}
 use Rattle.fab_program_options.specs.declared.options.OptionKind.{OptionKind}
-use Rattle.fab_program_options.specs.declared.options.OptionKind.TheVariants.{Db, Policy, Listen, Count, Now, Token, Fabric, File, Host, Plan}
+use Rattle.fab_program_options.specs.declared.options.OptionKind.TheVariants.{Db, Policy, Listen, Count, Now, Token, Fabric, File, Host, Plan, Volume, Kind, Json}
+use Rattle.fab_program_options.specs.declared.options.OptionShape.{OptionShape}
+use Rattle.fab_program_options.specs.declared.options.OptionShape.TheVariants as shape
 use Rattle.fab_program_options.specs.declared.subcommands.Subcommand.{Subcommand}
-use Rattle.fab_program_options.specs.declared.subcommands.Subcommand.TheVariants.{Init, Serve, Once, Import, Paths, Report, Export, DryRun}
+use Rattle.fab_program_options.specs.declared.subcommands.Subcommand.TheVariants.{Init, Serve, Once, Import, Paths, Report, Export, DryRun, Why, Who, Names}
 
 -- ---- the words
 
@@ -20,6 +22,15 @@ option_name Fabric = codes "fabric"
 option_name File = codes "file"
 option_name Host = codes "host"
 option_name Plan = codes "plan"
+option_name Volume = codes "volume"
+option_name Kind = codes "kind"
+option_name Json = codes "json"
+
+-- a kind of list stands without a word before it, and JSON is asked for by a word alone
+abbrev pub shape_of : OptionKind → OptionShape
+shape_of Kind = shape.Place
+shape_of Json = shape.Flag
+shape_of other = shape.Value
 
 abbrev pub subcommand_name : Subcommand → Text
 subcommand_name Init = codes "init"
@@ -30,10 +41,13 @@ subcommand_name Paths = codes "paths"
 subcommand_name Report = codes "report"
 subcommand_name Export = codes "export"
 subcommand_name DryRun = codes "dryrun"
+subcommand_name Why = codes "why"
+subcommand_name Who = codes "who"
+subcommand_name Names = codes "list"
 
 -- every subcommand
 abbrev pub all_subcommands : List Subcommand
-all_subcommands = Init ∷ Serve ∷ Once ∷ Import ∷ Paths ∷ Report ∷ Export ∷ DryRun ∷ []
+all_subcommands = Init ∷ Serve ∷ Once ∷ Import ∷ Paths ∷ Report ∷ Export ∷ DryRun ∷ Why ∷ Who ∷ Names ∷ []
 
 -- the options that a subcommand must have
 abbrev pub required_of : Subcommand → List OptionKind
@@ -45,6 +59,9 @@ required_of Paths = Db ∷ Policy ∷ Token ∷ Host ∷ []
 required_of Report = Db ∷ Policy ∷ Token ∷ Host ∷ []
 required_of Export = Db ∷ Policy ∷ Token ∷ Fabric ∷ []
 required_of DryRun = Db ∷ Policy ∷ Token ∷ Plan ∷ []
+required_of Why = Db ∷ Policy ∷ Token ∷ Host ∷ Volume ∷ []
+required_of Who = Db ∷ Policy ∷ Token ∷ Volume ∷ []
+required_of Names = Db ∷ Policy ∷ Token ∷ Kind ∷ []
 
 -- the options that it may have
 abbrev pub optional_of : Subcommand → List OptionKind
@@ -56,13 +73,20 @@ optional_of Paths = []
 optional_of Report = []
 optional_of Export = []
 optional_of DryRun = Now ∷ []
+optional_of Why = Json ∷ []
+optional_of Who = Json ∷ []
+optional_of Names = Json ∷ []
 
 -- ---- the same, as clap reads it
 
--- an option behind --, with one value, at most once
+-- a word behind --, with one value, at most once; a value alone; or a word behind -- alone
+abbrev pub rule_by : OptionShape → Bool → Text → Rule
+rule_by shape.Value is_required name = record (new_rule name) { long = Some name; action = Some Set; required = is_required; value_names = 1 }
+rule_by shape.Place is_required name = record (new_rule name) { action = Some Set; required = is_required; value_names = 1 }
+rule_by shape.Flag is_required name = record (new_rule name) { long = Some name; action = Some SetTrue; required = is_required }
+
 unfoldable pub option_rule : Bool → OptionKind → Rule
-option_rule is_required option =
-    record (new_rule (option_name option)) { long = Some (option_name option); action = Some Set; required = is_required; value_names = 1 }
+option_rule is_required option = rule_by (shape_of option) is_required (option_name option)
 
 abbrev pub option_rules : Bool → List OptionKind → List Rule
 option_rules is_required options = map (option_rule is_required) options

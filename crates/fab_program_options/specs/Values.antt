@@ -1,7 +1,10 @@
 -- The text forms of values.
-use Rattle.std.specs.Prelude.{ℕ, ◌≡◌, ◌<◌, ◌^◌, List, Option, Some, None}
+use Rattle.std.specs.Prelude.{ℕ, ◌≡◌, ◌<◌, ◌^◌, List, Option, Some, None, Bool, false, codes}
+use Rattle.std.specs.Str.{bytes_eq}
 use Rattle.fab_names.specs.Numbers.{SpellsNumber}
 use Rattle.fab_names.specs.Tokens.{IsTokenText}
+use Rattle.fab_program_options.specs.declared.words.ListKind.{ListKind}
+use Rattle.fab_program_options.specs.declared.words.ListKind.TheVariants as kind
 
 -- a value was given, and its text spells x
 abbrev pub Has : {X : Type 0} → (List ℕ → X → Type 0) → Option (List ℕ) → X → Type 0
@@ -22,6 +25,28 @@ SpellsText text x = x ≡ text
 -- a text of the form of a token, for itself
 abbrev pub SpellsToken : List ℕ → List ℕ → Type 0
 SpellsToken text x = (x ≡ text) × IsTokenText text
+
+-- the word of a kind of list
+abbrev pub kind_text : ListKind → List ℕ
+kind_text kind.Hosts = codes "hosts"
+kind_text kind.Arrays = codes "arrays"
+kind_text kind.Volumes = codes "volumes"
+kind_text kind.Ports = codes "ports"
+kind_text kind.Aliases = codes "aliases"
+kind_text kind.Zones = codes "zones"
+kind_text kind.Sets = codes "sets"
+kind_text kind.HostGroups = codes "host-groups"
+kind_text kind.Groups = codes "groups"
+kind_text kind.Plans = codes "plans"
+
+-- the word of a kind of list, for it
+abbrev pub SpellsKind : List ℕ → ListKind → Type 0
+SpellsKind text k = text ≡ kind_text k
+
+-- whether a word without a value was given: its text is that of true
+abbrev pub is_given : Option (List ℕ) → Bool
+is_given None = false
+is_given (Some text) = bytes_eq text (codes "true")
 
 -- a number text of 0 to 18446744073709551615
 abbrev pub SpellsNumber64 : List ℕ → ℕ → Type 0

@@ -2,17 +2,54 @@
 ghost use Rattle.std.specs.Prelude.{◌≡◌, false, IfOk};
 ghost use Rattle.clap.specs.Words.{app_of, rule_of};
 ghost use Rattle.clap.specs.declared.builder.command.Command.TheViews.{out-Command};
-ghost use Rattle.fab_program_options.specs.CommandLine.{desk_app, option_rule, option_rules, program_app, subcommand_app};
+ghost use Rattle.fab_program_options.specs.CommandLine.{desk_app, option_name, option_rule, option_rules, program_app, rule_by, subcommand_app};
+ghost use Rattle.fab_program_options.specs.declared.options.OptionShape.TheVariants.{Flag, Place, Value};
 ghost use Rattle.fab_program_options.specs.Building.{Gains};
 
-use crate::options::OptionKind;
+use crate::options::{OptionKind, OptionShape};
 use crate::subcommands::{SUBCOMMANDS, Subcommand};
 use clap::{Arg, ArgAction, Command};
 use std::alloc::{AllocError, Global};
 
-/// An option, as an argument with a value.
+/// An option, as an argument of its shape.
 fn argument_of<'a>(alloc: Global, option: OptionKind, is_required: bool) -> Arg<'a>
     ensures rule { rule_of result ≡ option_rule is_required option }
+    ensures local { result.global ≡ false }
+{
+    match option.shape() {
+        OptionShape::Value => valued(alloc, option, is_required),
+        OptionShape::Place => placed(alloc, option, is_required),
+        OptionShape::Flag => flagged(alloc, option, is_required),
+    }
+}
+
+/// An option, as an argument that is a value alone.
+fn placed<'a>(alloc: Global, option: OptionKind, is_required: bool) -> Arg<'a>
+    ensures rule { rule_of result ≡ rule_by Place is_required (option_name option) }
+    ensures local { result.global ≡ false }
+{
+    Arg::new(alloc, option.name())
+        .action(ArgAction::Set)
+        .required(is_required)
+        .value_name(option.value_name())
+        .help(option.help())
+}
+
+/// An option, as an argument without a value.
+fn flagged<'a>(alloc: Global, option: OptionKind, is_required: bool) -> Arg<'a>
+    ensures rule { rule_of result ≡ rule_by Flag is_required (option_name option) }
+    ensures local { result.global ≡ false }
+{
+    Arg::new(alloc, option.name())
+        .long(option.name())
+        .action(ArgAction::SetTrue)
+        .required(is_required)
+        .help(option.help())
+}
+
+/// An option, as an argument with a value.
+fn valued<'a>(alloc: Global, option: OptionKind, is_required: bool) -> Arg<'a>
+    ensures rule { rule_of result ≡ rule_by Value is_required (option_name option) }
     ensures local { result.global ≡ false }
 {
     Arg::new(alloc, option.name())

@@ -16,7 +16,9 @@ mod subcommands;
 mod values;
 mod words;
 
-pub use options::OptionKind;
+pub use options::{OptionKind, OptionShape};
 pub use reading::{WordsFault, read_words};
 pub use subcommands::{SUBCOMMANDS, Subcommand};
-pub use words::{Access, DryRun, Export, Import, Init, Once, Over, Paths, Serve, Words};
+pub use words::{
+    Access, DryRun, Export, Import, Init, ListKind, Names, Once, Over, Paths, Serve, Who, Why, Words,
+};

@@ -1,8 +1,19 @@
 //! The options of the subcommands.
 ghost use Rattle.std.specs.Prelude.{◌≡◌};
-ghost use Rattle.fab_program_options.specs.CommandLine.{option_name};
+ghost use Rattle.fab_program_options.specs.CommandLine.{option_name, shape_of};
 
-/// An option of a subcommand. Each takes a value.
+/// How an option stands in the words.
+#[derive(Clone, Copy, PartialEq, Eq)]
+pub enum OptionShape {
+    /// Its name behind `--`, and a value.
+    Value,
+    /// A value alone.
+    Place,
+    /// Its name behind `--` alone.
+    Flag,
+}
+
+/// An option of a subcommand.
 #[derive(Clone, Copy, PartialEq, Eq)]
 pub enum OptionKind {
     /// The file of the database.
@@ -25,6 +36,12 @@ pub enum OptionKind {
     Host,
     /// A plan.
     Plan,
+    /// A volume.
+    Volume,
+    /// What a list is of.
+    Kind,
+    /// JSON is asked for.
+    Json,
 }
 
 impl OptionKind {
@@ -43,6 +60,20 @@ impl OptionKind {
             OptionKind::File => "file",
             OptionKind::Host => "host",
             OptionKind::Plan => "plan",
+            OptionKind::Volume => "volume",
+            OptionKind::Kind => "kind",
+            OptionKind::Json => "json",
+        }
+    }
+
+    /// How it stands in the words.
+    pub fn shape(self) -> OptionShape
+        ensures { result ≡ shape_of self }
+    {
+        match self {
+            OptionKind::Kind => OptionShape::Place,
+            OptionKind::Json => OptionShape::Flag,
+            _ => OptionShape::Value,
         }
     }
 
@@ -55,7 +86,8 @@ impl OptionKind {
             OptionKind::Now => "SECONDS",
             OptionKind::Token => "TOKEN",
             OptionKind::Fabric => "A|B",
-            OptionKind::Host | OptionKind::Plan => "NAME",
+            OptionKind::Host | OptionKind::Plan | OptionKind::Volume => "NAME",
+            OptionKind::Kind | OptionKind::Json => "KIND",
         }
     }
 
@@ -76,6 +108,11 @@ impl OptionKind {
             }
             OptionKind::Host => "The name of the host",
             OptionKind::Plan => "The name of the plan",
+            OptionKind::Volume => "The name of the volume",
+            OptionKind::Kind => {
+                "hosts, arrays, volumes, ports, aliases, zones, sets, host-groups, groups or plans"
+            }
+            OptionKind::Json => "Writes JSON, for programs",
         }
     }
 }

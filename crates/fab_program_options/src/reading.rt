@@ -1,7 +1,7 @@
 //! Reads the words of a command line.
 ghost use Rattle.std.specs.Prelude.{MatchOption, IfOk, IfErr, map, option_map, string_bytes};
 ghost use Rattle.clap.specs.Words.{found_of, rows_of, subcommand_rows_of};
-ghost use Rattle.fab_program_options.specs.Asking.{Asks, IsReason, IsAccess, IsInit, IsServe, IsOver, IsOnce, IsImport, IsPaths, IsExport, IsDryRun};
+ghost use Rattle.fab_program_options.specs.Asking.{Asks, IsReason, IsAccess, IsInit, IsServe, IsOver, IsOnce, IsImport, IsPaths, IsExport, IsDryRun, IsWhy, IsWho, IsNames};
 ghost use Rattle.fab_program_options.specs.Reading.{IsFaultOf, IsFound, IsRead, IsInMemory};
 ghost use Rattle.fab_program_options.specs.declared.words.Access.{Access};
 ghost use Rattle.fab_program_options.specs.declared.words.Init.{Init};
@@ -12,12 +12,17 @@ ghost use Rattle.fab_program_options.specs.declared.words.Import.{Import};
 ghost use Rattle.fab_program_options.specs.declared.words.Paths.{Paths};
 ghost use Rattle.fab_program_options.specs.declared.words.Export.{Export};
 ghost use Rattle.fab_program_options.specs.declared.words.DryRun.{DryRun};
+ghost use Rattle.fab_program_options.specs.declared.words.Why.{Why};
+ghost use Rattle.fab_program_options.specs.declared.words.Who.{Who};
+ghost use Rattle.fab_program_options.specs.declared.words.Names.{Names};
 
 use crate::commands::command_line;
 use crate::options::OptionKind;
 use crate::subcommands::Subcommand;
-use crate::values::{fabric_in, name_in, number_in, text_in, token_in};
-use crate::words::{Access, DryRun, Export, Import, Init, Once, Over, Paths, Serve, Words};
+use crate::values::{fabric_in, is_given, kind_in, name_in, number_in, text_in, token_in};
+use crate::words::{
+    Access, DryRun, Export, Import, Init, Names, Once, Over, Paths, Serve, Who, Why, Words,
+};
 use clap::error::ErrorKind;
 use clap::{ArgMatches, Error};
 use std::alloc::Global;
@@ -84,38 +89,17 @@ fn words_of<'a>(subcommand: Subcommand, given: &ArgMatches<'a>) -> Option<Words<
     ensures { IsRead subcommand (rows_of (found_of given.now)) result }
 {
     match subcommand {
-        Subcommand::Init => match init_in(given) {
-            Some(asked) => Some(Words::Init(asked)),
-            None => None,
-        },
-        Subcommand::Serve => match serve_in(given) {
-            Some(asked) => Some(Words::Serve(asked)),
-            None => None,
-        },
-        Subcommand::Once => match once_in(given) {
-            Some(asked) => Some(Words::Once(asked)),
-            None => None,
-        },
-        Subcommand::Import => match import_in(given) {
-            Some(asked) => Some(Words::Import(asked)),
-            None => None,
-        },
-        Subcommand::Paths => match paths_in(given) {
-            Some(asked) => Some(Words::Paths(asked)),
-            None => None,
-        },
-        Subcommand::Report => match paths_in(given) {
-            Some(asked) => Some(Words::Report(asked)),
-            None => None,
-        },
-        Subcommand::Export => match export_in(given) {
-            Some(asked) => Some(Words::Export(asked)),
-            None => None,
-        },
-        Subcommand::DryRun => match dry_run_in(given) {
-            Some(asked) => Some(Words::DryRun(asked)),
-            None => None,
-        },
+        Subcommand::Init => Some(Words::Init(init_in(given)?)),
+        Subcommand::Serve => Some(Words::Serve(serve_in(given)?)),
+        Subcommand::Once => Some(Words::Once(once_in(given)?)),
+        Subcommand::Import => Some(Words::Import(import_in(given)?)),
+        Subcommand::Paths => Some(Words::Paths(paths_in(given)?)),
+        Subcommand::Report => Some(Words::Report(paths_in(given)?)),
+        Subcommand::Export => Some(Words::Export(export_in(given)?)),
+        Subcommand::DryRun => Some(Words::DryRun(dry_run_in(given)?)),
+        Subcommand::Why => Some(Words::Why(why_in(given)?)),
+        Subcommand::Who => Some(Words::Who(who_in(given)?)),
+        Subcommand::Names => Some(Words::Names(names_in(given)?)),
     }
 }
 
@@ -272,4 +256,59 @@ fn dry_run_in<'a>(given: &ArgMatches<'a>) -> Option<DryRun<'a>>
         return None;
     };
     Some(DryRun { access, plan, now })
+}
+
+fn why_in<'a>(given: &ArgMatches<'a>) -> Option<Why<'a>>
+    ensures { MatchOption result ((w : Why) → ¬ IsWhy (rows_of (found_of given.now)) w)
+        (IsWhy (rows_of (found_of given.now))) }
+{
+    let Some(access) = access_in(given) else {
+        return None;
+    };
+    let Some(host) = name_in(given, OptionKind::Host) else {
+        return None;
+    };
+    let Some(volume) = name_in(given, OptionKind::Volume) else {
+        return None;
+    };
+    Some(Why {
+        access,
+        host,
+        volume,
+        is_json: is_given(given, OptionKind::Json),
+    })
+}
+
+fn who_in<'a>(given: &ArgMatches<'a>) -> Option<Who<'a>>
+    ensures { MatchOption result ((w : Who) → ¬ IsWho (rows_of (found_of given.now)) w)
+        (IsWho (rows_of (found_of given.now))) }
+{
+    let Some(access) = access_in(given) else {
+        return None;
+    };
+    let Some(volume) = name_in(given, OptionKind::Volume) else {
+        return None;
+    };
+    Some(Who {
+        access,
+        volume,
+        is_json: is_given(given, OptionKind::Json),
+    })
+}
+
+fn names_in<'a>(given: &ArgMatches<'a>) -> Option<Names<'a>>
+    ensures { MatchOption result ((w : Names) → ¬ IsNames (rows_of (found_of given.now)) w)
+        (IsNames (rows_of (found_of given.now))) }
+{
+    let Some(access) = access_in(given) else {
+        return None;
+    };
+    let Some(kind) = kind_in(given, OptionKind::Kind) else {
+        return None;
+    };
+    Some(Names {
+        access,
+        kind,
+        is_json: is_given(given, OptionKind::Json),
+    })
 }

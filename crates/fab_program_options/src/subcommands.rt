@@ -24,10 +24,16 @@ pub enum Subcommand {
     Export,
     /// Tells what a plan would change.
     DryRun,
+    /// Tells why a host reaches a volume or does not.
+    Why,
+    /// Tells who reaches a volume.
+    Who,
+    /// Lists what there is of a kind.
+    Names,
 }
 
 /// Every subcommand, in the order of the help.
-pub const SUBCOMMANDS: [Subcommand; 8] = [
+pub const SUBCOMMANDS: [Subcommand; 11] = [
     Subcommand::Init,
     Subcommand::Serve,
     Subcommand::Once,
@@ -36,6 +42,9 @@ pub const SUBCOMMANDS: [Subcommand; 8] = [
     Subcommand::Report,
     Subcommand::Export,
     Subcommand::DryRun,
+    Subcommand::Why,
+    Subcommand::Who,
+    Subcommand::Names,
 ];
 
 impl Subcommand {
@@ -53,6 +62,9 @@ impl Subcommand {
             "report" => Some(Subcommand::Report),
             "export" => Some(Subcommand::Export),
             "dryrun" => Some(Subcommand::DryRun),
+            "why" => Some(Subcommand::Why),
+            "who" => Some(Subcommand::Who),
+            "list" => Some(Subcommand::Names),
             _ => None,
         }
     }
@@ -70,6 +82,9 @@ impl Subcommand {
             Subcommand::Report => "report",
             Subcommand::Export => "export",
             Subcommand::DryRun => "dryrun",
+            Subcommand::Why => "why",
+            Subcommand::Who => "who",
+            Subcommand::Names => "list",
         }
     }
 
@@ -106,6 +121,25 @@ impl Subcommand {
                 OptionKind::Token,
                 OptionKind::Plan,
             ],
+            Subcommand::Why => &[
+                OptionKind::Db,
+                OptionKind::Policy,
+                OptionKind::Token,
+                OptionKind::Host,
+                OptionKind::Volume,
+            ],
+            Subcommand::Who => &[
+                OptionKind::Db,
+                OptionKind::Policy,
+                OptionKind::Token,
+                OptionKind::Volume,
+            ],
+            Subcommand::Names => &[
+                OptionKind::Db,
+                OptionKind::Policy,
+                OptionKind::Token,
+                OptionKind::Kind,
+            ],
         }
     }
 
@@ -118,6 +152,7 @@ impl Subcommand {
             Subcommand::Serve => &[OptionKind::Count],
             Subcommand::Once => &[OptionKind::Policy, OptionKind::Db, OptionKind::Now],
             Subcommand::Import | Subcommand::DryRun => &[OptionKind::Now],
+            Subcommand::Why | Subcommand::Who | Subcommand::Names => &[OptionKind::Json],
         }
     }
 
@@ -136,6 +171,11 @@ impl Subcommand {
             Subcommand::Export => "Shows the active zone set of a fabric",
             Subcommand::DryRun =>
                 "Tells which paths a plan would add and remove, and changes nothing",
+            Subcommand::Why => {
+                "Tells by which paths a host reaches a volume, or which link between them is missing"
+            }
+            Subcommand::Who => "Lists the hosts that reach a volume, and by how many paths",
+            Subcommand::Names => "Lists what there is of a kind, as far as the caller may see it",
         }
     }
 
@@ -162,6 +202,16 @@ impl Subcommand {
             }
             Subcommand::DryRun => {
                 "Example: sandesk dryrun --db desk.db --policy policy.toml --token t-ada --plan p1"
+            }
+            Subcommand::Why => {
+                "Example: sandesk why --db desk.db --policy policy.toml --token t-ada --host db1 \
+                 --volume v1"
+            }
+            Subcommand::Who => {
+                "Example: sandesk who --db desk.db --policy policy.toml --token t-ada --volume v1"
+            }
+            Subcommand::Names => {
+                "Example: sandesk list --db desk.db --policy policy.toml --token t-ada hosts"
             }
         }
     }

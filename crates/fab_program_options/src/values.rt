@@ -5,9 +5,11 @@ ghost use Rattle.fab_names.specs.Names.{SpellsName};
 ghost use Rattle.fab_names.specs.Fabrics.{SpellsFabric};
 ghost use Rattle.fab_names.specs.declared.fabric.Fabric.{Fabric};
 ghost use Rattle.fab_program_options.specs.CommandLine.{value_of};
-ghost use Rattle.fab_program_options.specs.Values.{Has, MayHave, SpellsToken, SpellsNumber64};
+ghost use Rattle.fab_program_options.specs.Values.{Has, MayHave, SpellsKind, SpellsToken, SpellsNumber64, is_given};
+ghost use Rattle.fab_program_options.specs.declared.words.ListKind.{ListKind};
 
 use crate::options::OptionKind;
+use crate::words::ListKind;
 use clap::ArgMatches;
 use fab_names::{Fabric, Name, is_token, read_number};
 
@@ -82,4 +84,45 @@ fn number_of(text: &str) -> Option<u64>
         return None;
     };
     u64::try_from(number).ok()
+}
+
+/// The value of an option as a kind of list, or none where it is no kind or was not given.
+pub fn kind_in(given: &ArgMatches<'_>, option: OptionKind) -> Option<ListKind>
+    ensures { MatchOption result
+        ((x : ListKind) → ¬ Has SpellsKind (value_of option (rows_of (found_of given.now))) x)
+        (Has SpellsKind (value_of option (rows_of (found_of given.now)))) }
+{
+    let Some(text) = text_in(given, option) else {
+        return None;
+    };
+    kind_of(text)
+}
+
+/// The kind of list that a text spells, if it spells one.
+fn kind_of(text: &str) -> Option<ListKind>
+    ensures { MatchOption result ((x : ListKind) → ¬ SpellsKind text.now x) (SpellsKind text.now) }
+{
+    match text {
+        "hosts" => Some(ListKind::Hosts),
+        "arrays" => Some(ListKind::Arrays),
+        "volumes" => Some(ListKind::Volumes),
+        "ports" => Some(ListKind::Ports),
+        "aliases" => Some(ListKind::Aliases),
+        "zones" => Some(ListKind::Zones),
+        "sets" => Some(ListKind::Sets),
+        "host-groups" => Some(ListKind::HostGroups),
+        "groups" => Some(ListKind::Groups),
+        "plans" => Some(ListKind::Plans),
+        _ => None,
+    }
+}
+
+/// Whether an option without a value was given.
+pub fn is_given(given: &ArgMatches<'_>, option: OptionKind) -> bool
+    ensures { result ≡ is_given (value_of option (rows_of (found_of given.now))) }
+{
+    match text_in(given, option) {
+        Some(text) => text == "true",
+        None => false,
+    }
 }

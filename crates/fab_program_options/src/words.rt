@@ -21,6 +21,12 @@ pub enum Words<'a> {
     Export(Export<'a>),
     /// `dryrun`: tells what a plan would change.
     DryRun(DryRun<'a>),
+    /// `why`: tells why a host reaches a volume or does not.
+    Why(Why<'a>),
+    /// `who`: tells who reaches a volume.
+    Who(Who<'a>),
+    /// `list`: lists what there is of a kind.
+    Names(Names<'a>),
 }
 
 /// A caller at a database.
@@ -106,4 +112,47 @@ pub struct DryRun<'a> {
     pub plan: Name,
     /// The moment, in seconds since 1970; without it the clock's.
     pub now: Option<u64>,
+}
+
+/// A host and a volume, of which it is asked why the one reaches the other or does not.
+#[derive(Clone, Copy, Debug)]
+pub struct Why<'a> {
+    pub access: Access<'a>,
+    pub host: Name,
+    pub volume: Name,
+    /// Whether JSON is asked for.
+    pub is_json: bool,
+}
+
+/// A volume, of which it is asked who reaches it.
+#[derive(Clone, Copy, Debug)]
+pub struct Who<'a> {
+    pub access: Access<'a>,
+    pub volume: Name,
+    /// Whether JSON is asked for.
+    pub is_json: bool,
+}
+
+/// What a list is of.
+#[derive(Clone, Copy, Debug, PartialEq, Eq)]
+pub enum ListKind {
+    Hosts,
+    Arrays,
+    Volumes,
+    Ports,
+    Aliases,
+    Zones,
+    Sets,
+    HostGroups,
+    Groups,
+    Plans,
+}
+
+/// A kind of which a list is asked for.
+#[derive(Clone, Copy, Debug)]
+pub struct Names<'a> {
+    pub access: Access<'a>,
+    pub kind: ListKind,
+    /// Whether JSON is asked for.
+    pub is_json: bool,
 }

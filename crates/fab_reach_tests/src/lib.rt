@@ -1,10 +1,14 @@
-//! Tests of paths, over worlds that are built call by call. Nothing here is part of the product.
+//! Tests of paths, of the links of a way, and of who reaches a volume, over worlds that are built call by call. Nothing here is part of the product.
 #![tactic(auto)]
 
 #[cfg(test)]
 mod books;
 #[cfg(test)]
 mod limits;
+#[cfg(test)]
+mod links;
+#[cfg(test)]
+mod reachers;
 #[cfg(test)]
 mod rows;
 #[cfg(test)]

@@ -8,8 +8,8 @@
 pub mod answers;
 pub mod codes;
 pub mod laws;
-mod parts;
+pub mod parts;
 mod refusals;
 mod replies;
 mod showing;
-mod words;
+pub mod words;

@@ -5,7 +5,7 @@ ghost use Rattle.fab_wire_streams.specs.Taking.{Takes};
 ghost use Rattle.fab_wire_streams.specs.JsonText.{json_text};
 ghost use Rattle.fab_wire_answers.specs.Bodies.{joined_body, joint_body, paths_body, port_body, holder_body, volume_body, host_group_body, group_body, plan_body, members_body, set_body, active_body, shown_body};
 
-use crate::parts::{At, Parts};
+use crate::parts::{At, Part, Parts};
 use crate::words::{flag_word, state_word};
 use fab_desk_base::{Joint, Shown, ShownGroup, ShownHolder, ShownPlan, ZoneMembers};
 use fab_inventory::Volume;
@@ -56,6 +56,15 @@ pub fn put_shown<A: Allocator + Copy, S: Sink>(
             flag,
             zones,
         } => { put_active(sink, *fabric, *active, *flag, zones.as_slice()) }
+    }
+}
+
+/// What a read shows, in a list: the body of its answer.
+impl<A: Allocator + Copy> Part for Shown<A> {
+    ghost part_data = { shown_body };
+
+    fn put_part<S: Sink>(&self, sink: &mut S) -> Result<(), WriteFailed> {
+        put_shown(sink, self)
     }
 }
 

@@ -1,18 +1,16 @@
-use Rattle.std.proofs.Common.{◌≡◌, ◌∙◌, ℕ, List, Some, ap}
-use Rattle.clap.specs.Words.{Rule, new_rule, rule_of}
-use Rattle.clap.specs.declared.builder.action.ArgAction.TheVariants.{Set}
-use Rattle.fab_program_options.specs.CommandLine.{option_name, option_rule}
-use Rattle.fab_program_options.proofs.Grown.{option_made}
+use Rattle.std.proofs.Common.{◌∙◌, sym, ap}
+use Rattle.fab_program_options.specs.CommandLine.{option_name, option_rule, rule_by}
+use Rattle.fab_program_options.specs.declared.options.OptionShape.{OptionShape}
 use Rattle.fab_program_options.proofs.commands.argument_of.Goals as goal
 
-pub returns-clause-rule : goal.returns-clause-rule
+pub returns-clause-rule-in-Value : goal.returns-clause-rule-in-Value
 unfolding option_rule
-returns-clause-rule c =
-    let r = c.args.is_required in
-    let long : List ℕ = c.name-2.result.now in
-    let made : rule_of c.help-2.result ≡ record (rule_of c.new.result) { long = Some long; action = Some Set; required = r; value_names = 1 } =
-    rw (c.help-2.ensures, c.value_name-2.ensures, c.required.ensures, c.action.ensures, c.long.ensures) (option_made c.new.result c.name-2.result c.value_name.result c.help.result r) in
-    made
-    ∙ ap (λ (x : Rule). record x { long = Some long; action = Some Set; required = r; value_names = 1 }) c.new.ensures.rule
-    ∙ ap (λ (id : List ℕ). record (new_rule id) { long = Some long; action = Some Set; required = r; value_names = 1 }) c.name.ensures
-    ∙ ap (λ (name : List ℕ). record (new_rule (option_name c.args.option)) { long = Some name; action = Some Set; required = r; value_names = 1 }) c.name-2.ensures
+returns-clause-rule-in-Value c = c.valued.ensures.rule ∙ ap (λ (s : OptionShape). rule_by s c.args.is_required (option_name c.args.option)) (sym c.in-Value.is ∙ c.shape.ensures)
+
+pub returns-clause-rule-in-Place : goal.returns-clause-rule-in-Place
+unfolding option_rule
+returns-clause-rule-in-Place c = c.placed.ensures.rule ∙ ap (λ (s : OptionShape). rule_by s c.args.is_required (option_name c.args.option)) (sym c.in-Place.is ∙ c.shape.ensures)
+
+pub returns-clause-rule-in-Flag : goal.returns-clause-rule-in-Flag
+unfolding option_rule
+returns-clause-rule-in-Flag c = c.flagged.ensures.rule ∙ ap (λ (s : OptionShape). rule_by s c.args.is_required (option_name c.args.option)) (sym c.in-Flag.is ∙ c.shape.ensures)

@@ -1,0 +1,5 @@
+pub mod Words
+pub mod Lines
+pub mod Lists
+pub mod Reachers
+pub mod Ways

@@ -1,0 +1,88 @@
+-- Why a host reaches a volume or does not, as texts.
+use Rattle.std.specs.Prelude.{ℕ, List, [], ◌∷◌, ◌++◌, length, true, false, codes, decimal}
+use Rattle.std.specs.List.{flat_map}
+use Rattle.serde_json.specs.Data.{Data, boolean}
+use Rattle.fab_names.specs.Fabrics.{fabric_text}
+use Rattle.fab_names.specs.WorldWideNames.{wwn_text}
+use Rattle.fab_inventory.specs.declared.holder.HolderKind.{HolderKind}
+use Rattle.fab_inventory.specs.declared.holder.HolderKind.TheVariants as kind
+use Rattle.fab_reach_base.specs.declared.path.Path.{Path}
+use Rattle.fab_desk_base.specs.declared.reply.Shown.{Shown}
+use Rattle.fab_desk_base.specs.declared.reply.Shown.TheVariants as shown
+use Rattle.fab_looks_base.specs.declared.explaining.Why.{Why}
+use Rattle.fab_looks_base.specs.declared.explaining.Why.TheVariants as why
+use Rattle.fab_looks_base.specs.declared.link.Link.{Link}
+use Rattle.fab_files_looks.specs.Lines.{row_line}
+use Rattle.fab_files_looks.specs.Words.{link_word, missing_words}
+use Rattle.fab_wire_answers.specs.Bodies.{shown_body}
+use Rattle.fab_wire_answers.specs.Parts.{word, path_data}
+use Rattle.fab_wire_streams.specs.JsonText.{json_text}
+use Rattle.fab_wire_streams.specs.Values.{record_of, list_data}
+
+-- ---- as JSON
+
+-- a host that reaches a volume, and what reads show of the way
+abbrev pub reaches_data : {A : Type 0} → List ℕ → List ℕ → List Path → List (Shown A) → Data
+reaches_data host volume paths found =
+    record_of ((codes "found", list_data shown_body found) ∷ (codes "host", word host) ∷ (codes "paths", list_data path_data paths) ∷ (codes "reaches", boolean true) ∷ (codes "volume", word volume) ∷ [])
+
+-- one that does not, and the first link that is missing
+abbrev pub missing_data : {A : Type 0} → List ℕ → List ℕ → Link → List (Shown A) → Data
+missing_data host volume link found =
+    record_of ((codes "found", list_data shown_body found) ∷ (codes "host", word host) ∷ (codes "missing", word (link_word link)) ∷ (codes "reaches", boolean false) ∷ (codes "volume", word volume) ∷ [])
+
+abbrev pub way_data : {A : Type 0} → List ℕ → List ℕ → Why A → List (Shown A) → Data
+way_data host volume (why.Reaches paths) found = reaches_data host volume paths.items found
+way_data host volume (why.Missing link) found = missing_data host volume link found
+
+-- the object, and a line feed
+abbrev pub way_json : {A : Type 0} → List ℕ → List ℕ → Why A → List (Shown A) → List ℕ
+way_json host volume answer found = json_text (way_data host volume answer found) ++ 10 ∷ []
+
+-- ---- for people
+
+abbrev pub label_of_holder : HolderKind → List ℕ
+label_of_holder kind.Host = codes "host "
+label_of_holder kind.Array = codes "array "
+
+-- the word of what a read shows
+abbrev pub label_of : {A : Type 0} → Shown A → List ℕ
+label_of (shown.Holder x) = label_of_holder x.kind
+label_of (shown.Port name node at) = codes "port "
+label_of (shown.Volume name v) = codes "volume "
+label_of (shown.Group x) = codes "group "
+label_of other = []
+
+-- and its line
+abbrev pub found_line : {A : Type 0} → Shown A → List ℕ
+found_line x = label_of x ++ row_line x
+
+abbrev pub found_lines : {A : Type 0} → List (Shown A) → List ℕ
+found_lines xs = flat_map found_line xs
+
+-- a path
+unfoldable pub path_line : Path → List ℕ
+path_line p =
+    codes "path " ++ (fabric_text p.fabric ++ (codes " " ++ (wwn_text p.initiator ++ (codes " -> " ++ (wwn_text p.target ++ (codes " unit " ++ (decimal p.unit ++ (10 ∷ []))))))))
+
+abbrev pub path_lines : List Path → List ℕ
+path_lines paths = flat_map path_line paths
+
+-- how many paths there are
+unfoldable pub yes_line : ℕ → List ℕ
+yes_line count = codes "YES  " ++ (decimal count ++ codes " paths\n")
+
+abbrev pub yes_text : List Path → List ℕ
+yes_text paths = path_lines paths ++ yes_line (length paths)
+
+-- the first link that is missing
+unfoldable pub no_line : Link → List ℕ
+no_line link = codes "NO  " ++ (missing_words link ++ (10 ∷ []))
+
+abbrev pub answer_text : {A : Type 0} → Why A → List ℕ
+answer_text (why.Reaches paths) = yes_text paths.items
+answer_text (why.Missing link) = no_line link
+
+-- what reads show of the way, the paths, and the answer
+abbrev pub way_text : {A : Type 0} → Why A → List (Shown A) → List ℕ
+way_text answer found = found_lines found ++ answer_text answer

@@ -1,0 +1,16 @@
+//! What a caller is told of the world beside the desk's reads, as texts for people and as JSON: lists
+//! of what reads show, why a host reaches a volume, and who reaches a volume.
+//!
+//! Each text is put piece by piece into a sink. Each line ends with a line feed.
+#![tactic(auto)]
+
+mod lines;
+mod lists;
+mod reachers;
+mod ways;
+mod words;
+
+pub use lists::{RowsJson, RowsText, Table};
+pub use reachers::{Reacher, ReachersJson, ReachersText, reachers_of};
+pub use ways::{WayJson, WayText};
+pub use words::{link_word, missing_words};

@@ -1,0 +1,8 @@
+use Rattle.std.proofs.Common.{ap, ◌∙◌}
+use Rattle.std.specs.FinMap as map
+use Rattle.fab_world.specs.Worlds.{WorldRows}
+use Rattle.fab_looks.proofs.Keys.{all_keys}
+use Rattle.fab_looks.proofs.entries.holders_of.Goals as goal
+
+pub returns : goal.returns
+returns g c = all_keys c.holders.result c.args.world.now.inventory.holders (c.holders.ensures ∙ ap (λ (v : WorldRows). map.entries v.inventory.holders) c.world.view_is)

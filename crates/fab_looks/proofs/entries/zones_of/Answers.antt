@@ -1,0 +1,12 @@
+use Rattle.std.proofs.Common.{ap, ◌∙◌}
+use Rattle.fab_names.specs.Orders.{member_cmp}
+use Rattle.fab_reach_base.specs.Records.{zoning_at}
+use Rattle.fab_world.specs.Worlds.{WorldRows}
+use Rattle.fab_zoning.specs.Zonings.{FabricZoning}
+use Rattle.fab_looks.proofs.Keys.{set_keys}
+use Rattle.fab_looks.proofs.entries.zones_of.Goals as goal
+
+pub returns : goal.returns
+returns g c =
+    set_keys member_cmp c.zones.result (zoning_at c.args.world.now.config c.args.fabric).zones
+    (c.zones.ensures.zones ∙ ap (λ (z : FabricZoning). z.zones) c.zoning.ensures ∙ ap (λ (v : WorldRows). (zoning_at v.config c.args.fabric).zones) c.world.view_is)

@@ -1,0 +1,6 @@
+pub mod Lists
+pub mod Rows
+pub mod Told
+pub mod Seeing
+pub mod Ways
+pub mod Inner

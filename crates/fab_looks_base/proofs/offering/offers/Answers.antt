@@ -1,0 +1,27 @@
+use Rattle.std.proofs.Common.{◌≤◌, map, sym, subst, arith}
+use Rattle.std.proofs.lemmas.List.{length-map}
+use Rattle.fab_reach_base.specs.Orders.{Has}
+use Rattle.fab_reach_base.specs.Views.{seen}
+use Rattle.fab_reach_base.proofs.Adding.{Before, before_next, before_last}
+use Rattle.fab_reach_base.proofs.Gathering.{filled}
+use Rattle.fab_looks_base.specs.Inner.Offers.{GroupPath}
+use Rattle.fab_looks_base.proofs.Gains.{now, now_at, now_within}
+use Rattle.fab_looks_base.proofs.offering.offers.Goals as goal
+
+pub loop-place-preserved : goal.loop-place-preserved
+loop-place-preserved g c =
+    let i = c.loop-place.invariant in
+    let r = c.index-groups-place.result in (
+      i.0,
+      i.1,
+      before_next (GroupPath (seen c.args.view.now) c.args.ports.now c.args.volume.now) (map now c.args.groups.now) c.loop-place.place r.now (Has i.0) (Has c.loop-place.paths) (Has c.add_group.new.paths)
+          (now_within c.args.groups.now c.loop-place.place c.loop-place-test.true) (now_at c.args.groups.now c.loop-place.place r c.loop-place-test.true c.index-groups-place.is) i.2 c.in_ok-add_group.ensures,
+    )
+
+pub returns : goal.returns
+returns g c =
+    let i = c.loop-place.invariant in
+    let Q = GroupPath (seen c.args.view.now) c.args.ports.now c.args.volume.now in
+    let gs = map now c.args.groups.now in
+    filled (Before Q gs) i.0 c.loop-place.paths i.1
+    (before_last Q gs c.loop-place.place (Has i.0) (Has c.loop-place.paths) (subst (λ n. n ≤ c.loop-place.place) (sym (length-map c.args.groups.now now)) (omega (arith, c.loop-place-test.false))) i.2)

@@ -1,0 +1,44 @@
+-- What is found in the bytes of a file.
+use Rattle.std.specs.Prelude.{ℕ, ◌≡◌, ◌<◌, ◌≤◌, ◌^◌, ◌⊎◌, List, length, Result, Ok, Err, IsUtf8}
+use Rattle.fab_inventory.specs.declared.port.PortRow.{PortRow}
+use Rattle.fab_plans_base.specs.Steps.{PlanStep}
+use Rattle.fab_plans_base.specs.Plans.{Spells}
+use Rattle.fab_plans_text.specs.Faults.{IsPlanFault}
+use Rattle.fab_policy_base.specs.Policies.{PolicyRows}
+use Rattle.fab_policy_base.specs.Tables.{SpellsPolicy, HasPolicyFault}
+use Rattle.fab_program_checks.specs.declared.findings.Finding.{Finding}
+use Rattle.fab_program_checks.specs.declared.findings.Finding.TheVariants as finding
+use Rattle.fab_program_outside.specs.declared.faults.Fault.{Fault}
+use Rattle.fab_program_outside.specs.declared.faults.Fault.TheVariants as fault
+use Rattle.fab_wire_requests.specs.PortLists.{ListsPorts, IsFaultAt}
+
+-- there are more bytes than a file may have
+abbrev pub IsTooLarge : List ℕ → Type 0
+IsTooLarge bytes = 2 ^ 20 < length bytes
+
+-- what is found in a text, unless there are too many bytes or they are no text
+abbrev pub IsTextFinding : (List ℕ → Result Finding Fault → Type 0) → List ℕ → Result Finding Fault → Type 0
+IsTextFinding InText bytes came =
+    (IsTooLarge bytes × (came ≡ Ok finding.TooLarge)) ⊎ ((¬ IsTooLarge bytes × ¬ IsUtf8 bytes × (came ≡ Ok finding.NoText)) ⊎ (¬ IsTooLarge bytes × IsUtf8 bytes × InText bytes came))
+
+-- the text spells a policy, or this fault is in it
+abbrev pub IsPolicyFinding : List ℕ → Result Finding Fault → Type 0
+IsPolicyFinding text (Ok finding.Sound) = (p : PolicyRows) × SpellsPolicy text p
+IsPolicyFinding text (Ok (finding.Policy f)) = HasPolicyFault text f × ((p : PolicyRows) → ¬ SpellsPolicy text p)
+IsPolicyFinding text (Ok other) = ⊥
+IsPolicyFinding text (Err f) = f ≡ fault.Memory
+
+-- the text spells a plan, or this is its first fault
+abbrev pub IsPlanFinding : List ℕ → Result Finding Fault → Type 0
+IsPlanFinding text (Ok finding.Sound) = (steps : List PlanStep) × Spells text steps
+IsPlanFinding text (Ok (finding.Plan f)) = IsPlanFault text f
+IsPlanFinding text (Ok other) = ⊥
+IsPlanFinding text (Err f) = f ≡ fault.Memory
+
+-- the bytes list ports, or the record of this number is the first that is faulty, or there are too many
+abbrev pub IsPortsFinding : List ℕ → Result Finding Fault → Type 0
+IsPortsFinding bytes (Ok finding.Sound) = (rows : List PortRow) × ListsPorts bytes rows
+IsPortsFinding bytes (Ok (finding.Record line)) = IsFaultAt bytes line
+IsPortsFinding bytes (Ok finding.TooLarge) = IsTooLarge bytes
+IsPortsFinding bytes (Ok other) = ⊥
+IsPortsFinding bytes (Err f) = f ≡ fault.Memory

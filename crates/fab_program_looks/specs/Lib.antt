@@ -1,0 +1,4 @@
+pub mod Loading
+pub mod Telling
+pub mod Lists
+pub mod Looks

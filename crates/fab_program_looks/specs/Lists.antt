@@ -1,0 +1,59 @@
+-- Lists that a caller who looks is told.
+use Rattle.std.specs.Prelude.{ℕ, ◌≡◌, ◌⊎◌, ◌++◌, List, Bool, true, false, Option, Result, Err}
+use Rattle.std.specs.declared.alloc.Global.{Global}
+use Rattle.fab_desk_base.specs.declared.reply.Shown.{Shown}
+use Rattle.fab_files.specs.declared.printing.End.{End}
+use Rattle.fab_files.specs.declared.printing.End.TheVariants.{Done}
+use Rattle.fab_files_looks.specs.Lists.{rows_json, rows_text}
+use Rattle.fab_files_looks.specs.declared.lists.Table.{Table}
+use Rattle.fab_files_looks.specs.declared.lists.Table.TheVariants as table
+use Rattle.fab_looks.specs.Rows.{AreRows, ArePortRows}
+use Rattle.fab_looks.specs.declared.listing.Kind.{Kind}
+use Rattle.fab_looks.specs.declared.listing.Kind.TheVariants as kind
+use Rattle.fab_names.specs.declared.fabric.Fabric.TheVariants.{A, B}
+use Rattle.fab_policy_base.specs.Policies.{PolicyRows}
+use Rattle.fab_program_looks.specs.Telling.{Prints}
+use Rattle.fab_program_options.specs.declared.words.ListKind.{ListKind}
+use Rattle.fab_program_options.specs.declared.words.ListKind.TheVariants as list
+use Rattle.fab_program_outside.specs.declared.faults.Fault.{Fault}
+use Rattle.fab_program_outside.specs.declared.faults.Fault.TheVariants as fault
+use Rattle.fab_world.specs.Worlds.{WorldRows}
+
+-- the rows of two kinds, the one behind the other
+abbrev pub AreBoth : {S : Type 0} → PolicyRows → WorldRows → ℕ → Kind → Kind → List (Shown S) → Type 0
+AreBoth {S} p w id j k rows = (xs ys : List (Shown S)) × AreRows p w id j xs × AreRows p w id k ys × (rows ≡ xs ++ ys)
+
+-- the rows of a kind that are open to the caller; of what is of a fabric those of both
+abbrev pub AreListed : {S : Type 0} → PolicyRows → WorldRows → ℕ → ListKind → List (Shown S) → Type 0
+AreListed p w id list.Hosts rows = AreRows p w id kind.Hosts rows
+AreListed p w id list.Arrays rows = AreRows p w id kind.Arrays rows
+AreListed p w id list.Volumes rows = AreRows p w id kind.Volumes rows
+AreListed p w id list.Ports rows = ArePortRows p w id rows
+AreListed p w id list.Aliases rows = AreBoth p w id (kind.Aliases A) (kind.Aliases B) rows
+AreListed p w id list.Zones rows = AreBoth p w id (kind.Zones A) (kind.Zones B) rows
+AreListed p w id list.Sets rows = AreBoth p w id (kind.Sets A) (kind.Sets B) rows
+AreListed p w id list.HostGroups rows = AreRows p w id kind.HostGroups rows
+AreListed p w id list.Groups rows = AreRows p w id kind.Groups rows
+AreListed p w id list.Plans rows = AreRows p w id kind.Plans rows
+
+-- the columns of a kind
+abbrev pub table_of : ListKind → Table
+table_of list.Hosts = table.Holders
+table_of list.Arrays = table.Holders
+table_of list.Volumes = table.Volumes
+table_of list.Ports = table.Ports
+table_of list.Aliases = table.Members
+table_of list.Zones = table.Members
+table_of list.Sets = table.Sets
+table_of list.HostGroups = table.HostGroups
+table_of list.Groups = table.Groups
+table_of list.Plans = table.Plans
+
+abbrev pub list_output : {S : Type 0} → Bool → ListKind → List (Shown S) → List ℕ
+list_output true k rows = rows_json rows
+list_output false k rows = rows_text (table_of k) rows
+
+module _ {W : Type 0} (contents : W → Option (List ℕ)) (w : WorldRows) (p : PolicyRows) (id : ℕ) where
+  -- there was no memory; or the rows are printed
+  abbrev pub TellsList : ListKind → Bool → W → Result (W × End) Fault → Type 0
+  TellsList k json writer came = (came ≡ Err fault.Memory) ⊎ ((rows : List (Shown Global)) × AreListed p w id k rows × Prints contents writer (list_output json k rows) Done came)

@@ -1,0 +1,14 @@
+//! What a caller is told who only looks: why a host reaches a volume or does not, who reaches a volume,
+//! and lists of what there is, over any store.
+//!
+//! The store is read once, and nothing is changed.
+#![tactic(auto)]
+
+mod lists;
+mod loading;
+mod looks;
+mod printing;
+
+pub use loading::of_opening;
+pub use looks::{Asked, Look, look_over};
+pub use printing::of_printing;

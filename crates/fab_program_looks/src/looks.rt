@@ -1,0 +1,115 @@
+//! A look at the world of a store.
+ghost use Rattle.std.specs.Prelude.{IfOk};
+ghost use Rattle.fab_program_looks.specs.Loading.{IsLoaded};
+ghost use Rattle.fab_program_looks.specs.Looks.{LooksAt, LooksAs, LooksBy, LooksOver};
+ghost use Rattle.fab_program_outside.specs.Coming.{After, Then};
+ghost use Rattle.fab_world.specs.Soundness.{IsSound};
+
+use crate::lists::list_at;
+use crate::loading::world_of;
+use crate::printing::{turn_away, who_at, why_at};
+use fab_files::End;
+use fab_names::Name;
+use fab_policy::{CallerId, Policy};
+use fab_program_options::ListKind;
+use fab_program_outside::Fault;
+use fab_store::Store;
+use fab_world::World;
+use std::alloc::Global;
+use std::io::Write;
+
+/// What is looked at.
+#[derive(Clone, Copy)]
+pub enum Look {
+    /// Why a host reaches a volume or does not.
+    Why { host: Name, volume: Name },
+    /// Who reaches a volume.
+    Who { volume: Name },
+    /// What there is of a kind.
+    List { kind: ListKind },
+}
+
+/// Who looks at what, and in which form it is told.
+#[derive(Clone, Copy)]
+pub struct Asked<'t> {
+    /// The token of the caller.
+    pub token: &'t str,
+    pub look: Look,
+    /// Whether JSON is asked for.
+    pub is_json: bool,
+}
+
+/// Looks at the world of a store, if there is one, and prints what the caller is told. The writer is
+/// handed back, and has just that text.
+///
+/// # Errors
+/// As for the store; `Memory`; `Stream` where the writer failed.
+pub fn look_over<S: Store<Global>, W: Write + Drop>(
+    alloc: Global,
+    store: Result<S, Fault>,
+    policy: &Policy,
+    asked: &Asked<'_>,
+    writer: W,
+) -> Result<(W, End), Fault>
+    ensures { After store (λ s. LooksOver S.Store W.contents s policy.now asked.now writer) result }
+{
+    match store {
+        Ok(store) => look_by(alloc, world_of(alloc, store), policy, asked, writer),
+        Err(fault) => Err(fault),
+    }
+}
+
+/// Looks at a world, if there is one.
+fn look_by<W: Write + Drop>(
+    alloc: Global,
+    world: Result<World<Global>, Fault>,
+    policy: &Policy,
+    asked: &Asked<'_>,
+    writer: W,
+) -> Result<(W, End), Fault>
+    requires sound { IfOk world IsSound }
+    ensures { After world (λ w. LooksAt W.contents w policy.now asked.now writer) result }
+{
+    match world {
+        Ok(world) => look_at(alloc, &world, policy, asked, writer),
+        Err(fault) => Err(fault),
+    }
+}
+
+/// Looks at a world, if somebody has the token.
+fn look_at<W: Write + Drop>(
+    alloc: Global,
+    world: &World<Global>,
+    policy: &Policy,
+    asked: &Asked<'_>,
+    writer: W,
+) -> Result<(W, End), Fault>
+    requires sound { IsSound world.now }
+    ensures { LooksAt W.contents world.now policy.now asked.now writer result }
+{
+    match policy.caller(asked.token) {
+        Some(id) => look_as(alloc, world, policy, id, asked, writer),
+        None => turn_away(alloc, writer),
+    }
+}
+
+/// Looks at a world as a caller.
+fn look_as<W: Write + Drop>(
+    alloc: Global,
+    world: &World<Global>,
+    policy: &Policy,
+    id: CallerId,
+    asked: &Asked<'_>,
+    writer: W,
+) -> Result<(W, End), Fault>
+    requires sound { IsSound world.now }
+    ensures { LooksAs W.contents world.now policy.now id asked.now.look asked.now.is_json writer result }
+{
+    match asked.look {
+        Look::Why { host, volume } => {
+            why_at(alloc, world, policy, id, host, volume, asked.is_json, writer)
+        }
+        Look::Who { volume } => who_at(alloc, world, policy, id, volume, asked.is_json, writer),
+        Look::List { kind } => list_at(alloc, world, policy, id, kind, asked.is_json, writer),
+    }
+}

@@ -1,0 +1,13 @@
+use Rattle.std.proofs.Common.{◌≡◌, ◌∙◌, ℕ, List, Some, ap}
+use Rattle.clap.specs.Words.{Rule, new_rule, rule_of}
+use Rattle.clap.specs.declared.builder.action.ArgAction.TheVariants.{Set}
+use Rattle.fab_program_options.proofs.Grown.{place_made}
+use Rattle.fab_program_options.proofs.commands.placed.Goals as goal
+
+pub returns-clause-rule : goal.returns-clause-rule
+returns-clause-rule c =
+    let r = c.args.is_required in
+    let made : rule_of c.help-2.result ≡ record (rule_of c.new.result) { action = Some Set; required = r; value_names = 1 } = rw (c.help-2.ensures, c.value_name-2.ensures, c.required.ensures, c.action.ensures) (place_made c.new.result c.value_name.result c.help.result r) in
+    made
+    ∙ ap (λ (x : Rule). record x { action = Some Set; required = r; value_names = 1 }) c.new.ensures.rule
+    ∙ ap (λ (id : List ℕ). record (new_rule id) { action = Some Set; required = r; value_names = 1 }) c.name.ensures
