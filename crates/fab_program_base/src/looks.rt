@@ -85,7 +85,14 @@ pub fn who<O: Files + Databases, W: Write + Drop>(
     let reachers = Look::Who {
         volume: asked.volume,
     };
-    look(alloc, outside, &asked.access, reachers, asked.is_json, writer)
+    look(
+        alloc,
+        outside,
+        &asked.access,
+        reachers,
+        asked.is_json,
+        writer,
+    )
 }
 
 /// Lists what there is of a kind. The writer is handed back.
