@@ -27,7 +27,12 @@ pub fn put_row<S: Sink, A: Allocator + Copy>(
     match shown {
         Shown::Port { name, node, at } => put_port(sink, *name, *node, *at),
         Shown::Holder(holder) => {
-            put_count(sink, &holder.name, &holder.tenant, holder.ports.as_slice().len())
+            put_count(
+                sink,
+                &holder.name,
+                &holder.tenant,
+                holder.ports.as_slice().len(),
+            )
         }
         Shown::Volume { name, volume } => put_volume(sink, name, volume),
         Shown::HostGroup {
@@ -94,7 +99,12 @@ fn put_port<S: Sink>(
 ) -> Result<(), WriteFailed>
     ensures { Takes S.took S.cut sink.old (lines.port_line name node at) sink.new result }
 {
-    put_three(sink, &name.letters(), &node.letters(), fabric_of(at).as_bytes())
+    put_three(
+        sink,
+        &name.letters(),
+        &node.letters(),
+        fabric_of(at).as_bytes(),
+    )
 }
 
 /// The fabric where a port is logged in, or `-`.

@@ -33,6 +33,7 @@ pub fn missing_words(link: Link) -> &'static str
         Link::Served => "no storage group that maps the volume has the host",
         Link::Exposed => "no storage group that maps the volume and has the host is exposed",
         Link::Met => "no target of those storage groups is logged in where a port of the host is",
-        Link::Joined => "no port of the host is in a zone with a target, and no default zone joins them",
+        Link::Joined =>
+            "no port of the host is in a zone with a target, and no default zone joins them",
     }
 }

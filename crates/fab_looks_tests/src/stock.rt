@@ -19,8 +19,7 @@ pub const EVE: &str = "t-eve";
 /// The world after both worked plans.
 pub fn world(rt: &(impl Abort + AllocGlobal)) -> World<Global> {
     let mut world = World::new(rt.alloc());
-    let is_told =
-        holds_in(rt.alloc(), &mut world, &[WORLD, FIRST, SECOND]).expect(rt, "the turns");
+    let is_told = holds_in(rt.alloc(), &mut world, &[WORLD, FIRST, SECOND]).expect(rt, "the turns");
     assert!(rt; is_told);
     world
 }

@@ -93,8 +93,7 @@ fn is_reached(
     reach: Reach,
 ) -> bool {
     let id = caller(rt, policy, reach.0);
-    let reachers =
-        who_told(rt.alloc(), policy, world, id, &name(rt, reach.1)).expect(rt, "memory");
+    let reachers = who_told(rt.alloc(), policy, world, id, &name(rt, reach.1)).expect(rt, "memory");
     let Some((host, count)) = reach.2 else {
         return reachers.is_empty();
     };

@@ -107,7 +107,16 @@ fn look_as<W: Write + Drop>(
 {
     match asked.look {
         Look::Why { host, volume } => {
-            why_at(alloc, world, policy, id, host, volume, asked.is_json, writer)
+            why_at(
+                alloc,
+                world,
+                policy,
+                id,
+                host,
+                volume,
+                asked.is_json,
+                writer,
+            )
         }
         Look::Who { volume } => who_at(alloc, world, policy, id, volume, asked.is_json, writer),
         Look::List { kind } => list_at(alloc, world, policy, id, kind, asked.is_json, writer),

@@ -3,6 +3,7 @@ ghost use Rattle.std.specs.Prelude.{MatchOption, IfOk, IfErr, map, option_map, s
 ghost use Rattle.clap.specs.Words.{found_of, rows_of, subcommand_rows_of};
 ghost use Rattle.fab_program_options.specs.Asking.{Asks, IsReason, IsAccess, IsInit, IsServe, IsOver, IsOnce, IsImport, IsPaths, IsExport, IsDryRun, IsWhy, IsWho, IsNames};
 ghost use Rattle.fab_program_options.specs.Reading.{IsFaultOf, IsFound, IsRead, IsInMemory};
+ghost use Rattle.fab_program_options.specs.declared.subcommands.Subcommand.{Subcommand};
 ghost use Rattle.fab_program_options.specs.declared.words.Access.{Access};
 ghost use Rattle.fab_program_options.specs.declared.words.Init.{Init};
 ghost use Rattle.fab_program_options.specs.declared.words.Serve.{Serve};
@@ -89,17 +90,71 @@ fn words_of<'a>(subcommand: Subcommand, given: &ArgMatches<'a>) -> Option<Words<
     ensures { IsRead subcommand (rows_of (found_of given.now)) result }
 {
     match subcommand {
-        Subcommand::Init => Some(Words::Init(init_in(given)?)),
-        Subcommand::Serve => Some(Words::Serve(serve_in(given)?)),
-        Subcommand::Once => Some(Words::Once(once_in(given)?)),
-        Subcommand::Import => Some(Words::Import(import_in(given)?)),
-        Subcommand::Paths => Some(Words::Paths(paths_in(given)?)),
-        Subcommand::Report => Some(Words::Report(paths_in(given)?)),
-        Subcommand::Export => Some(Words::Export(export_in(given)?)),
-        Subcommand::DryRun => Some(Words::DryRun(dry_run_in(given)?)),
-        Subcommand::Why => Some(Words::Why(why_in(given)?)),
-        Subcommand::Who => Some(Words::Who(who_in(given)?)),
-        Subcommand::Names => Some(Words::Names(names_in(given)?)),
+        Subcommand::Init => match init_in(given) {
+            Some(asked) => Some(Words::Init(asked)),
+            None => None,
+        },
+        Subcommand::Serve => match serve_in(given) {
+            Some(asked) => Some(Words::Serve(asked)),
+            None => None,
+        },
+        Subcommand::Once => match once_in(given) {
+            Some(asked) => Some(Words::Once(asked)),
+            None => None,
+        },
+        Subcommand::Import => match import_in(given) {
+            Some(asked) => Some(Words::Import(asked)),
+            None => None,
+        },
+        Subcommand::Paths => match paths_in(given) {
+            Some(asked) => Some(Words::Paths(asked)),
+            None => None,
+        },
+        Subcommand::Report => match paths_in(given) {
+            Some(asked) => Some(Words::Report(asked)),
+            None => None,
+        },
+        Subcommand::Export => match export_in(given) {
+            Some(asked) => Some(Words::Export(asked)),
+            None => None,
+        },
+        Subcommand::DryRun => match dry_run_in(given) {
+            Some(asked) => Some(Words::DryRun(asked)),
+            None => None,
+        },
+        Subcommand::Why => why_words(given),
+        Subcommand::Who => who_words(given),
+        Subcommand::Names => names_words(given),
+    }
+}
+
+/// What the matches of `why` ask for.
+fn why_words<'a>(given: &ArgMatches<'a>) -> Option<Words<'a>>
+    ensures { IsRead Subcommand.Why (rows_of (found_of given.now)) result }
+{
+    match why_in(given) {
+        Some(asked) => Some(Words::Why(asked)),
+        None => None,
+    }
+}
+
+/// What the matches of `who` ask for.
+fn who_words<'a>(given: &ArgMatches<'a>) -> Option<Words<'a>>
+    ensures { IsRead Subcommand.Who (rows_of (found_of given.now)) result }
+{
+    match who_in(given) {
+        Some(asked) => Some(Words::Who(asked)),
+        None => None,
+    }
+}
+
+/// What the matches of `list` ask for.
+fn names_words<'a>(given: &ArgMatches<'a>) -> Option<Words<'a>>
+    ensures { IsRead Subcommand.Names (rows_of (found_of given.now)) result }
+{
+    match names_in(given) {
+        Some(asked) => Some(Words::Names(asked)),
+        None => None,
     }
 }
 

@@ -3,14 +3,14 @@ use Rattle.fab_program_options.specs.CommandLine.{option_name, option_rule, rule
 use Rattle.fab_program_options.specs.declared.options.OptionShape.{OptionShape}
 use Rattle.fab_program_options.proofs.commands.argument_of.Goals as goal
 
-pub returns-clause-rule-in-Value : goal.returns-clause-rule-in-Value
+pub returns-in-Value-clause-rule : goal.returns-in-Value-clause-rule
 unfolding option_rule
-returns-clause-rule-in-Value c = c.valued.ensures.rule ∙ ap (λ (s : OptionShape). rule_by s c.args.is_required (option_name c.args.option)) (sym c.in-Value.is ∙ c.shape.ensures)
+returns-in-Value-clause-rule c = c.valued.ensures.rule ∙ ap (λ (s : OptionShape). rule_by s c.args.is_required (option_name c.args.option)) (sym c.in-Value.is ∙ c.shape.ensures)
 
-pub returns-clause-rule-in-Place : goal.returns-clause-rule-in-Place
+pub returns-in-Place-clause-rule : goal.returns-in-Place-clause-rule
 unfolding option_rule
-returns-clause-rule-in-Place c = c.placed.ensures.rule ∙ ap (λ (s : OptionShape). rule_by s c.args.is_required (option_name c.args.option)) (sym c.in-Place.is ∙ c.shape.ensures)
+returns-in-Place-clause-rule c = c.placed.ensures.rule ∙ ap (λ (s : OptionShape). rule_by s c.args.is_required (option_name c.args.option)) (sym c.in-Place.is ∙ c.shape.ensures)
 
-pub returns-clause-rule-in-Flag : goal.returns-clause-rule-in-Flag
+pub returns-in-Flag-clause-rule : goal.returns-in-Flag-clause-rule
 unfolding option_rule
-returns-clause-rule-in-Flag c = c.flagged.ensures.rule ∙ ap (λ (s : OptionShape). rule_by s c.args.is_required (option_name c.args.option)) (sym c.in-Flag.is ∙ c.shape.ensures)
+returns-in-Flag-clause-rule c = c.flagged.ensures.rule ∙ ap (λ (s : OptionShape). rule_by s c.args.is_required (option_name c.args.option)) (sym c.in-Flag.is ∙ c.shape.ensures)
