@@ -14,3 +14,4 @@ pub mod Callers
 pub mod Asking
 pub mod Spelling
 pub mod Hearing
+pub mod Whole

@@ -59,15 +59,16 @@ pub fn read_head<R: Read>(
     HeadRead::BadHead
 }
 
-/// What the bytes read so far are.
-enum Parsed {
+/// What the bytes so far are: they begin with a head; they are none yet, and may become one; or they
+/// begin none, whatever follows.
+pub(crate) enum Parsed {
     Whole(RequestSpans),
     Partial,
     Never,
 }
 
-/// Looks for a head in the bytes read so far.
-fn parse_so_far(got: &[u8], headers: &mut [HeaderSpan]) -> Parsed
+/// Looks for a head in the bytes so far.
+pub(crate) fn parse_so_far(got: &[u8], headers: &mut [HeaderSpan]) -> Parsed
     requires { length headers.old ≡ MOST_LINES }
     ensures { IsParsed got.now headers.new result }
 {

@@ -3,6 +3,7 @@
 ghost use Rattle.fab_wire_base.specs.Matching.{FoundMatches};
 ghost use Rattle.fab_wire_base.specs.Captures.{FirstCaptures, SecondCaptures};
 ghost use Rattle.fab_wire_base.specs.Spelling.{AskedIsKnown, SpellsOne, SpellsSome};
+ghost use Rattle.fab_wire_base.specs.Whole.{BeginningsTell};
 ghost use Rattle.fab_wire_base.specs.Limits.{most_head, most_lines, most_body};
 ghost use Rattle.std.specs.Prelude.{◌≡◌};
 
@@ -45,4 +46,9 @@ pub fn inputs_spell_one_thing()
 /// Every input spells something.
 pub fn every_input_spells_something()
     ensures { SpellsSome }
+{}
+
+/// What a beginning spells that is whole, each input spells that begins so.
+pub fn beginnings_tell()
+    ensures { BeginningsTell }
 {}

@@ -11,3 +11,4 @@ pub mod laws;
 pub mod parts;
 pub mod requests;
 pub mod routes;
+pub mod whole;
