@@ -1,5 +1,5 @@
 -- What a beginning tells of an input.
-use Rattle.std.proofs.Common.{rules, ◌≡◌, ℕ, ◌+◌, ◌-◌, ◌<◌, ◌≤◌, inl, inr, List, [], ◌∷◌, ◌++◌, length, take, drop, Option, Some, None, IfSome, refl, sym, subst, ◌∙◌, ap, Bool, true, false, arith, map, length-append, append_assoc}
+use Rattle.std.proofs.Common.{rules, ◌≡◌, ℕ, ◌+◌, ◌-◌, ◌<◌, ◌≤◌, inl, inr, List, [], ◌∷◌, ◌++◌, length, take, drop, Option, Some, None, refl, sym, subst, ap, Bool, true, false, arith, map, length-append, append_assoc}
 use Rattle.std.specs.Prelude.{nat_le, if◌then◌else◌, IfNone}
 use Rattle.std.proofs.lemmas.Bool.Decides.{nat_tests}
 use Rattle.std.proofs.lemmas.List.{take-append-le, length-drop}
@@ -9,19 +9,18 @@ use Rattle.httparse.proofs.GrammarLemmas.{ReadsRequest-append}
 use Rattle.httparse.specs.declared.spans.HeaderSpan.{HeaderSpan}
 use Rattle.httparse.specs.declared.spans.RequestSpans.{RequestSpans}
 use Rattle.fab_wire_base.specs.Limits.{most_head, most_lines, most_body}
-use Rattle.fab_wire_base.specs.Heads.{HasNoHead}
 use Rattle.fab_wire_base.specs.Lines.{Line, lines_of}
 use Rattle.fab_wire_base.specs.Asking.{Asking, refuses, asks, HeadAsks, by_head, by_caller, by_route, by_method, by_length, by_size}
 use Rattle.fab_wire_base.specs.Callers.{caller_of}
 use Rattle.fab_wire_base.specs.Table.{kind_at, form_of, is_body}
-use Rattle.fab_wire_base.specs.Spelling.{Spelling, request, refused, asked, SpellsBehind, Spells}
+use Rattle.fab_wire_base.specs.Spelling.{request, refused, asked, SpellsBehind, Spells}
 use Rattle.fab_wire_base.specs.declared.fields.Length.{Length}
 use Rattle.fab_wire_base.specs.declared.fields.Length.TheVariants as len
 use Rattle.fab_wire_base.specs.declared.kinds.Kind.{Kind}
 use Rattle.fab_wire_base.specs.declared.kinds.Route.{Route}
 use Rattle.fab_wire_base.specs.declared.requests.Refusal.{Refusal}
 use Rattle.fab_wire_base.specs.declared.requests.Refusal.TheVariants as no
-use Rattle.fab_wire_base.proofs.HeadLemmas.{ReadTo, full-refused, head-refused}
+use Rattle.fab_wire_base.proofs.HeadLemmas.{full-refused, head-refused}
 use Rattle.fab_wire_base.proofs.HearLemmas.{spells-read, behind-whole}
 use Rattle.fab_wire_base.proofs.SpellingLemmas.{head-some, spells_one}
 use Rattle.fab_wire_base.specs.Whole.{IsWhole, Lacks, BeginningsTell}

@@ -1,7 +1,8 @@
 pub mod Coming
-pub mod Deadlines
 pub mod Lines
+pub mod Pending
 pub mod Shown
 pub mod Sides
+pub mod Starts
 pub mod Stops
 pub mod Turns

@@ -1,11 +1,11 @@
 //! What serves connections.
 
-ghost use Rattle.std.specs.Prelude.{◌≡◌, ℕ, Bool, true, List, OnOk, IfErr, OnErr};
+ghost use Rattle.std.specs.Prelude.{◌≡◌, ◌<◌, ℕ, Bool, true, List, length, IfSome, IfNone, OnOk, IfErr, OnErr};
 ghost use Rattle.fab_wire_serving.specs.Sides.{Sides, sides};
 ghost use Rattle.fab_wire_serving.specs.Shown.{shown_text};
 
-use crate::bounds::Bounded;
 use crate::shown::Shown;
+use fab_wire_gathering::bounds::Bounded;
 use fab_wire_streams::counted::Counted;
 use std::io::{Read, Write};
 
@@ -39,6 +39,15 @@ pub trait Server {
 
     // It is not opened over a store for this fault.
     ghost refuses: { Self → Self.Store → Self.Fault → Type 0 };
+
+    // Whatever comes behind these bytes of a connection, it asks what they ask.
+    ghost is_whole: { Self → List ℕ → Type 0 };
+
+    /// How many bytes of a connection have to be there before they are looked at again; none where
+    /// what it asks is known, whatever comes behind them.
+    fn lacks(&self, bytes: &[u8]) -> Option<usize>
+        ensures whole { IfNone result (is_whole self.now bytes.now) }
+        ensures more { IfSome result (λ size. length bytes.now < size) };
 
     /// Whether it is halted.
     fn halted(&self) -> bool

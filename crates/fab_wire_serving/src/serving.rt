@@ -1,17 +1,31 @@
-//! Connections served in turn.
+//! Connections served in turn: requests are gathered, and answers sent, side by side; what they ask is done
+//! one after the other.
 
-ghost use Rattle.std.specs.Prelude.{◌≡◌, ◌<◌, ◌⊎◌, ℕ, List, Option, Some, None, length, IfOk, IfErr, OnOk, OnErr};
+ghost use Rattle.std.specs.Prelude.{◌≡◌, ◌<◌, ◌⊎◌, ℕ, List, [], Some, None, length, IfOk, IfErr, OnOk, OnErr};
 ghost use Rattle.std.specs.Duration.{as_nanos};
 ghost use Rattle.std.specs.Time.{instant_nanos};
+ghost use Rattle.fab_wire_gathering.specs.Deadlines.{end_of};
+ghost use Rattle.fab_wire_serving.specs.Coming.{CameSo, came_text};
+ghost use Rattle.fab_wire_serving.specs.Pending.{Advances, ArePlayed, IsTurnTaken};
+ghost use Rattle.fab_wire_serving.specs.Shown.{shown_text};
+ghost use Rattle.fab_wire_serving.specs.Sides.{begun_sides};
+ghost use Rattle.fab_wire_serving.specs.Starts.{AreTold};
 ghost use Rattle.fab_wire_serving.specs.Stops.{IsStopped};
-ghost use Rattle.fab_wire_serving.specs.Turns.{Gives, IsRestored, IsTurn, AreTurns, most_turns};
+ghost use Rattle.fab_wire_serving.specs.Turns.{Gives, IsRestored, AreTurns, most_turns};
+ghost use Rattle.fab_wire_serving.specs.declared.connection.Came.{Came};
 
-use crate::connection::{let_go, serve_stream};
-use crate::deadline::{Deadline, Timed};
-use crate::{Listens, Server, Ticks, Watch};
+use crate::alone::{begun, serve_alone};
+use crate::connection::{Came, serve_stream};
+use crate::pending::Line;
+use crate::room::{Room, Turn, close, open};
+use crate::{Listens, Server, Shown, Watch};
+use fab_wire_gathering::clock::Ticks;
+use fab_wire_gathering::deadline::Deadline;
+use fab_wire_gathering::exchange::Exchange;
+use fab_wire_gathering::guest::Guest;
+use std::alloc::Global;
 use std::io;
 use std::io::Write;
-use std::net::TcpStream;
 use std::time::Instant;
 use thiserror::Error;
 
@@ -28,7 +42,7 @@ pub enum ServeFault {
 
 /// Opens a halted server anew, over a store that `again` opens, once the store that it halted on is
 /// dropped. Where none is opened, or the server is refused over it, it stays halted.
-fn restore<D: Server, O: FnMut() -> Result<D::Store, D::Fault>>(server: &mut D, again: &mut O)
+pub(crate) fn restore<D: Server, O: FnMut() -> Result<D::Store, D::Fault>>(server: &mut D, again: &mut O)
     requires { (state : O) → O.pre state }
     ensures { IsRestored D.Server (Gives O.step) server.old server.new }
 {
@@ -41,47 +55,84 @@ fn restore<D: Server, O: FnMut() -> Result<D::Store, D::Fault>>(server: &mut D, 
     }
 }
 
-/// The next connection, when it came in Unix seconds, and the reading of the clock at which it came.
+/// Serves the connection of a guest, at a moment, until the deadline. It gives what the log shows of it,
+/// and what is kept of its answer.
+fn serve_guest<C: Ticks, D: Server>(
+    alloc: Global,
+    clock: &C,
+    server: &mut D,
+    moment: u64,
+    guest: &Guest,
+    deadline: Deadline,
+) -> (Shown, Vec<u8>)
+    ensures { (came : Came D.Outcome)
+        × CameSo (λ outcome after. D.serves server.old moment (begun_sides None None (end_of deadline)) after outcome server.new) came
+        × (shown_text result.0 ≡ came_text D.shows came) }
+{
+    let exchange = Exchange::new(alloc, guest);
+    let came = serve_stream(alloc, clock, server, moment, &exchange, deadline);
+    let shown = came.shown::<D>();
+    (shown, exchange.into_answer())
+}
+
+/// Serves a connection whose turn has come: a server that is halted is opened anew before, if it can be.
+/// What that takes, and serving, is no part of anybody's time.
 ///
 /// # Errors
-/// `Listener` where the listener gave none, `NoClock` where `now` gave no moment, or the clock could
-/// not be read.
-fn next_connection<C: Ticks, L: Listens, N: FnMut() -> Option<u64>>(
-    clock: &C,
-    listener: &L,
+/// `NoClock` where `now` gave no moment: then nothing has changed.
+fn serve_turn<
+    C: Ticks,
+    W: Write,
+    D: Server,
+    N: FnMut() -> Option<u64>,
+    O: FnMut() -> Result<D::Store, D::Fault>,
+>(
+    watch: &mut Watch<'_, C, W>,
+    server: &mut D,
+    room: &mut Room,
     now: &mut N,
-) -> Result<(TcpStream, u64, Instant), ServeFault>
-    requires { (state : N) → N.pre state }
-    ensures moment { IfOk result (λ next. Gives N.step (Some next.1)) }
-    ensures start { IfOk result (λ next. C.tells clock.now (instant_nanos next.2)) }
-    ensures fault { IfErr result (IsStopped (L.fails listener.now) (Gives N.step None ⊎ C.fails clock.now)) }
+    again: &mut O,
+    turn: Turn,
+) -> Result<(), ServeFault>
+    requires now { (state : N) → N.pre state }
+    requires again { (state : O) → O.pre state }
+    requires start { C.tells watch.old.clock.now (instant_nanos turn.start) }
+    ensures clock { watch.new.clock.now ≡ watch.old.clock.now }
+    ensures most { watch.new.most ≡ watch.old.most }
+    ensures starts { room.new.starts ≡ room.old.starts }
+    ensures turn { OnOk result (IsTurnTaken D.Server (Gives O.step) (Gives N.step)
+        (C.tells watch.old.clock.now) (C.fails watch.old.clock.now) W.contents (as_nanos watch.old.most)
+        server.old watch.old.log room.old.pending.lines.items server.new watch.new.log room.new.pending.lines.items) }
+    ensures fault { IfErr result (IsStopped ⊥ (Gives N.step None)) }
+    ensures kept { OnErr result (server.new ≡ server.old) }
+    ensures unlogged { OnErr result (watch.new.log ≡ watch.old.log) }
+    ensures waiting { OnErr result (room.new.pending ≡ room.old.pending) }
 {
-    let stream = listener.connection().map_err(ServeFault::Listener)?;
     let Some(moment) = now() else {
         return Err(ServeFault::NoClock);
     };
-    match clock.reading() {
-        Ok(start) => Ok((stream, moment, start)),
-        Err(_) => Err(ServeFault::NoClock),
-    }
+    room.make_room(watch);
+    let called = begun(watch.clock, turn.start);
+    restore(server, again);
+    let limit = Deadline::after(begun(watch.clock, turn.start), watch.most);
+    let (shown, answer) = serve_guest(watch.alloc, watch.clock, server, moment, &turn.guest, limit);
+    let line = Line {
+        moment,
+        shown,
+        start: turn.start,
+        milliseconds: None,
+    };
+    let done = begun(watch.clock, called);
+    room.put_off(done.duration_since(called));
+    room.end_turn(watch, turn, line, answer, Deadline::after(done, watch.most));
+    Ok(())
 }
 
-/// The reading of the clock at which a connection's time begins: now, or where the clock cannot be
-/// read any more when it came.
-fn begun<C: Ticks>(clock: &C, came: Instant) -> Instant
-    ensures { C.tells clock.now (instant_nanos result) ⊎ (C.fails clock.now × (result ≡ came)) }
-{
-    match clock.reading() {
-        Ok(now) => now,
-        Err(_) => came,
-    }
-}
-
-/// Serves the next connection: a server that is halted is opened anew before, if it can be. What that
-/// takes is no part of the connection's time.
+/// Serves the next connection whose turn has come.
 ///
 /// # Errors
-/// As `next_connection`: then the server and the log are as they were.
+/// `Listener` where the listener gave none and nobody is there, `NoClock` where `now` gave no moment, or
+/// the clock could not be read: then the server is as it was.
 fn serve_next<
     C: Ticks,
     W: Write,
@@ -93,38 +144,126 @@ fn serve_next<
     watch: &mut Watch<'_, C, W>,
     server: &mut D,
     listener: &L,
+    room: &mut Room,
     now: &mut N,
     again: &mut O,
 ) -> Result<(), ServeFault>
     requires now { (state : N) → N.pre state }
     requires again { (state : O) → O.pre state }
+    requires told { AreTold (C.tells watch.old.clock.now) room.old.starts.items }
     ensures clock { watch.new.clock.now ≡ watch.old.clock.now }
     ensures most { watch.new.most ≡ watch.old.most }
-    ensures turn { OnOk result ((moment : ℕ) × IsTurn D.Server (Gives O.step) (Gives N.step)
+    ensures told { AreTold (C.tells watch.old.clock.now) room.new.starts.items }
+    ensures turn { OnOk result (IsTurnTaken D.Server (Gives O.step) (Gives N.step)
         (C.tells watch.old.clock.now) (C.fails watch.old.clock.now) W.contents (as_nanos watch.old.most)
-        server.old watch.old.log moment server.new watch.new.log) }
+        server.old watch.old.log room.old.pending.lines.items server.new watch.new.log room.new.pending.lines.items) }
     ensures fault { IfErr result (IsStopped (L.fails listener.now) (Gives N.step None ⊎ C.fails watch.old.clock.now)) }
     ensures kept { OnErr result (server.new ≡ server.old) }
-    ensures unlogged { OnErr result (watch.new.log ≡ watch.old.log) }
+    ensures lines { OnErr result (Advances (C.tells watch.old.clock.now) (C.fails watch.old.clock.now) W.contents
+        watch.old.log room.old.pending.lines.items watch.new.log room.new.pending.lines.items) }
 {
-    let (stream, moment, start) = next_connection(watch.clock, listener, now)?;
-    restore(server, again);
-    let deadline = Deadline::after(begun(watch.clock, start), watch.most);
-    let came = serve_stream(watch.alloc, watch.clock, server, moment, &stream, deadline);
-    watch.note(moment, came.shown::<D>(), start);
-    let_go(&mut Timed::new(watch.clock, &stream, deadline));
+    let turn = room.next_turn(watch, server, listener)?;
+    serve_turn(watch, server, room, now, again, turn)
+}
+
+/// Serves so many connections in turn. Lines of the last ones may wait then.
+///
+/// # Errors
+/// As `serve_next`: the connections before were served.
+fn serve_turns<
+    C: Ticks,
+    W: Write,
+    D: Server,
+    L: Listens,
+    N: FnMut() -> Option<u64>,
+    O: FnMut() -> Result<D::Store, D::Fault>,
+>(
+    watch: &mut Watch<'_, C, W>,
+    server: &mut D,
+    listener: &L,
+    room: &mut Room,
+    now: &mut N,
+    most: u64,
+    again: &mut O,
+) -> Result<(), ServeFault>
+    requires now { (state : N) → N.pre state }
+    requires again { (state : O) → O.pre state }
+    requires told { AreTold (C.tells watch.old.clock.now) room.old.starts.items }
+    requires none { room.old.pending.lines.items ≡ [] }
+    ensures clock { watch.new.clock.now ≡ watch.old.clock.now }
+    ensures most { watch.new.most ≡ watch.old.most }
+    ensures turns { (count : ℕ) × ArePlayed D.Server (Gives O.step) (Gives N.step)
+        (C.tells watch.old.clock.now) (C.fails watch.old.clock.now) W.contents (as_nanos watch.old.most)
+        server.old watch.old.log count server.new watch.new.log room.new.pending.lines.items
+        × OnOk result (count ≡ most) × OnErr result (count < most) }
+    ensures fault { IfErr result (IsStopped (L.fails listener.now) (Gives N.step None ⊎ C.fails watch.old.clock.now)) }
+{
+    for _ in 0..most {
+        serve_next(watch, server, listener, room, now, again)?;
+    }
     Ok(())
+}
+
+/// Serves so many connections in turn, and lets everybody go then.
+///
+/// # Errors
+/// As `serve_turns`.
+fn serve_room<
+    C: Ticks,
+    W: Write,
+    D: Server,
+    L: Listens,
+    N: FnMut() -> Option<u64>,
+    O: FnMut() -> Result<D::Store, D::Fault>,
+>(
+    watch: &mut Watch<'_, C, W>,
+    server: &mut D,
+    listener: &L,
+    room: &mut Room,
+    now: &mut N,
+    most: u64,
+    again: &mut O,
+) -> Result<(), ServeFault>
+    requires now { (state : N) → N.pre state }
+    requires again { (state : O) → O.pre state }
+    requires told { AreTold (C.tells watch.old.clock.now) room.old.starts.items }
+    requires none { room.old.pending.lines.items ≡ [] }
+    ensures turns { (moments : List ℕ) × AreTurns D.Server (Gives O.step) (Gives N.step)
+        (C.tells watch.old.clock.now) (C.fails watch.old.clock.now) W.contents (as_nanos watch.old.most)
+        server.old watch.old.log moments server.new watch.new.log
+        × OnOk result (length moments ≡ most) × OnErr result (length moments < most) }
+    ensures fault { IfErr result (IsStopped (L.fails listener.now) (Gives N.step None ⊎ C.fails watch.old.clock.now)) }
+{
+    let came = serve_turns(watch, server, listener, room, now, most, again);
+    room.finish(watch, server);
+    close(watch, listener);
+    came
+}
+
+/// How many connections are served.
+fn turns_of(count: Option<u64>) -> u64
+    ensures { result ≡ most_turns count }
+{
+    match count {
+        Some(count) => count,
+        None => u64::MAX,
+    }
 }
 
 /// Serves connections in turn: as many as `count` says, or without end. `now` gives the Unix seconds,
 /// and `again` opens the store of a halted server anew.
 ///
-/// Each connection is served at the moment at which it came, for no longer than the watch lets it
-/// last, and has its line in the log. A server that is halted lets go of its store and is opened anew
-/// before the next connection; where that cannot be, it serves that connection as a halted one.
+/// The requests of connections are gathered, and their answers sent, side by side, each for no longer than
+/// the watch lets it last; a slow one delays no other. They are served one after the other, in the order
+/// in which their requests are whole, each at the moment of its turn. Each has its line in the log, in
+/// this order too. A server that is halted lets go of its store and is opened anew before the next turn;
+/// where that cannot be, it serves that connection as a halted one.
+///
+/// Where there is no memory for what a connection sends, or the system does not watch it, it is served
+/// from its beginning to its end in its turn, and the others wait.
 ///
 /// # Errors
-/// `Listener` where the listener gave no connection, `NoClock` where `now` gave no moment, or the clock
+/// `Listener` where the listener gave no connection and nobody is there, `NoClock` where `now` gave no moment, or the clock
 /// of the watch could not be read. The connections before were served, and the server is as they left
 /// it.
 pub fn serve_on<
@@ -150,8 +289,12 @@ pub fn serve_on<
         × OnOk result (length moments ≡ most_turns count) × OnErr result (length moments < most_turns count) }
     ensures fault { IfErr result (IsStopped (L.fails listener.now) (Gives N.step None ⊎ C.fails watch.old.clock.now)) }
 {
-    for _ in 0..count.unwrap_or(u64::MAX) {
-        serve_next(watch, server, listener, now, again)?;
+    let Ok(mut room) = Room::new(watch, turns_of(count)) else {
+        return serve_alone(watch, server, listener, now, count, again);
+    };
+    if open(watch, listener).is_err() {
+        close(watch, listener);
+        return serve_alone(watch, server, listener, now, count, again);
     }
-    Ok(())
+    serve_room(watch, server, listener, &mut room, now, turns_of(count), again)
 }

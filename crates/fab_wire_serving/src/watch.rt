@@ -7,16 +7,18 @@ ghost use Rattle.fab_wire_streams.specs.Counting.{inner_of, failures_of};
 ghost use Rattle.fab_wire_serving.specs.Shown.{shown_text};
 ghost use Rattle.fab_wire_serving.specs.Lines.{line_text, Notes, Lasted};
 
-use crate::clock::Ticks;
+use fab_wire_gathering::clock::Ticks;
 use crate::line::put_line;
 use crate::shown::Shown;
 use fab_wire_streams::counted::Counted;
+use mio::Poll;
 use std::alloc::Global;
 use std::io::Write;
 use std::time::{Duration, Instant};
 
-/// How many seconds a connection is given, however slowly it sends or takes bytes. Timers of a system
-/// may come two seconds late, and none is to hold the server for more than 30.
+/// How many seconds a connection is given for its request, however slowly it sends bytes, and then for
+/// its answer, however slowly it takes them. Timers of a system may come two seconds late, and none is to
+/// be there for more than 30 with either.
 pub const MOST_SECONDS: u64 = 27;
 
 /// The clock that connections are watched by, how long each may last, and the log.
@@ -26,15 +28,18 @@ pub struct Watch<'c, C: Ticks, W: Write> {
     pub alloc: Global,
     /// Its time counts.
     pub clock: &'c C,
-    /// How long a connection may last.
+    /// How long a connection may take for its request, and then for its answer.
     pub most: Duration,
     /// Where each connection has its line, and how many writes of it have failed.
     pub log: Counted<W>,
+    /// What tells which connections have sent something, or take more.
+    pub poll: Poll,
 }
 
 impl<'c, C: Ticks, W: Write> Watch<'c, C, W> {
-    /// Connections last `MOST_SECONDS` at most by this clock, and have their lines in this log.
-    pub fn new(alloc: Global, clock: &'c C, log: W) -> Self
+    /// Requests and answers take `MOST_SECONDS` at most by this clock, and connections have their lines in
+    /// this log.
+    pub fn new(alloc: Global, clock: &'c C, log: W, poll: Poll) -> Self
         ensures clock { result.clock.now ≡ clock.entry.now }
         ensures most { as_nanos result.most ≡ 27 * 1_000_000_000 }
         ensures log { inner_of result.log ≡ log }
@@ -45,11 +50,12 @@ impl<'c, C: Ticks, W: Write> Watch<'c, C, W> {
             clock,
             most: Duration::from_secs(MOST_SECONDS),
             log: Counted::new(log),
+            poll,
         }
     }
 
     /// How many milliseconds have gone by since a reading of the clock; 0 where it cannot be read.
-    fn milliseconds_since(&self, start: Instant) -> u64
+    pub fn milliseconds_since(&self, start: Instant) -> u64
         ensures { Lasted (C.tells self.now.clock.now) (C.fails self.now.clock.now) (instant_nanos start) result }
     {
         match self.clock.reading() {
@@ -72,6 +78,16 @@ impl<'c, C: Ticks, W: Write> Watch<'c, C, W> {
             × Notes W.contents self.old.log self.new.log (line_text moment (shown_text shown) milliseconds) }
     {
         let milliseconds = self.milliseconds_since(start);
+        self.write_line(moment, shown, milliseconds);
+    }
+
+    /// Writes a line to the log: a moment in Unix seconds, what came of a connection, and milliseconds.
+    /// What the log does not take of it is left out.
+    pub fn write_line(&mut self, moment: u64, shown: Shown, milliseconds: u64)
+        ensures clock { self.new.clock.now ≡ self.old.clock.now }
+        ensures most { self.new.most ≡ self.old.most }
+        ensures line { Notes W.contents self.old.log self.new.log (line_text moment (shown_text shown) milliseconds) }
+    {
         put_line(&mut self.log, moment, shown, milliseconds);
         let _ = self.log.flush();
     }

@@ -2,12 +2,13 @@
 
 ghost use Rattle.std.specs.Prelude.{⊤};
 
+use fab_wire_gathering::stream::Stream;
 use fab_wire_serving::Listens;
-use fab_wire_serving::stream::Stream;
 use std::cell::Cell;
 use std::io;
 use std::io::{ErrorKind, Read, Write};
 use std::net::{TcpListener, TcpStream};
+use std::os::fd::{AsRawFd, RawFd};
 use std::time::{Clock, Duration};
 
 /// A clock that has gone on by the same time whenever it is read.
@@ -140,19 +141,32 @@ impl<'s> Stream for &'s Brittle {
     }
 }
 
-/// A listener that is waited at for a thousand seconds before each connection.
+/// A listener of which one call fails, of some number from 0 on, though a connection may be there.
 #[derive(Drop)]
-pub struct Late<'l> {
+pub struct Busy<'l> {
     pub listener: &'l TcpListener,
-    pub clock: &'l Ticking,
+    pub calls: Cell<u64>,
+    pub fails_at: u64,
 }
 
-impl<'l> Listens for Late<'l> {
+impl<'l> Listens for Busy<'l> {
     ghost fails = { λ listener. ⊤ };
 
     fn connection(&self) -> io::Result<TcpStream> {
-        self.clock.go_on(1000);
+        let call = self.calls.get();
+        self.calls.set(call.saturating_add(1));
+        if call == self.fails_at {
+            return Err(io::Error::from(ErrorKind::Other));
+        }
         self.listener.connection()
+    }
+
+    fn set_waiting(&self, waits: bool) -> io::Result<()> {
+        self.listener.set_waiting(waits)
+    }
+
+    fn descriptor(&self) -> RawFd {
+        self.listener.as_raw_fd()
     }
 }
 

@@ -3,7 +3,8 @@
 ghost use Rattle.std.specs.Prelude.{◌≡◌, ⊤};
 ghost use Rattle.fab_wire_serving.specs.Shown.{shown_text};
 
-use fab_wire_serving::{Bounded, Server, Shown};
+use fab_wire_gathering::bounds::Bounded;
+use fab_wire_serving::{Server, Shown};
 use fab_wire_streams::counted::Counted;
 use std::cell::Cell;
 use std::io;
@@ -40,7 +41,8 @@ impl Drop for Held<'_> {
 }
 
 /// Says again what it is told in one read of up to 64 bytes. It halts at `!`, and says `halted` until
-/// it is opened anew. At `*` it says more than any socket holds.
+/// it is opened anew. At `*` it says more than any socket holds. What begins with `+` is whole with the
+/// first `.` at its end, and what begins with `#` when more bytes are there than any memory has.
 #[derive(Drop)]
 pub struct Echo<'h> {
     is_halted: bool,
@@ -81,6 +83,15 @@ fn say_much<W: Write>(writer: &mut W) -> io::Result<()> {
     Ok(())
 }
 
+/// A word, where one failure was counted.
+fn counted(word: &'static str, failures: u64) -> Shown {
+    if failures == 1 {
+        Shown::Word(word)
+    } else {
+        Shown::Word("uncounted")
+    }
+}
+
 impl<'h> Server for Echo<'h> {
     type Store = Held<'h>;
 
@@ -94,11 +105,24 @@ impl<'h> Server for Echo<'h> {
 
     ghost shows = { shown_text };
 
+    ghost is_whole = { λ echo bytes. ⊤ };
+
     ghost releases = { λ before after. ⊤ };
 
     ghost reopens = { λ before store after. ⊤ };
 
     ghost refuses = { λ before store fault. ⊤ };
+
+    fn lacks(&self, bytes: &[u8]) -> Option<usize> {
+        let is_open = bytes.starts_with(b"+") && !bytes.ends_with(b".");
+        if bytes.starts_with(b"#") && bytes.len() < usize::MAX {
+            Some(usize::MAX)
+        } else if bytes.is_empty() || (is_open && bytes.len() < usize::MAX) {
+            Some(bytes.len() + 1)
+        } else {
+            None
+        }
+    }
 
     fn halted(&self) -> bool {
         self.is_halted
@@ -129,9 +153,9 @@ impl<'h> Server for Echo<'h> {
             Ok(0) => Shown::Word("empty"),
             Ok(taken) => match self.answer(&told[..taken], writer) {
                 Ok(said) => said,
-                Err(_) => Shown::Word("unsent"),
+                Err(_) => counted("unsent", writer.failures()),
             },
-            Err(_) => Shown::Word("unread"),
+            Err(_) => counted("unread", reader.failures()),
         }
     }
 

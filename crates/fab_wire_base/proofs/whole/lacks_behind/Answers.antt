@@ -1,4 +1,4 @@
-use Rattle.std.proofs.Common.{arith, Some, None, take}
+use Rattle.std.proofs.Common.{arith, take}
 use Rattle.httparse.specs.Spans.{span_bytes}
 use Rattle.fab_wire_base.specs.Lines.{lines_of}
 use Rattle.std.proofs.lemmas.List.{length-append}

@@ -1,7 +1,7 @@
 use Rattle.std.proofs.Common.{◌≡◌, ℕ, List, length}
 use Rattle.std.specs.Duration.{as_nanos}
 use Rattle.fab_wire_serving.specs.Turns.{Gives, AreTurns, most_turns}
-use Rattle.fab_wire_serving.proofs.serving.serve_on.Given as goal
+use Rattle.fab_wire_serving.proofs.alone.serve_alone.Given as goal
 
 abbrev pub invariant-loop : goal.invariant-loop
 invariant-loop g l =

@@ -3,8 +3,8 @@ use Rattle.std.proofs.lemmas.List.{length_push}
 use Rattle.std.specs.Duration.{as_nanos}
 use Rattle.fab_wire_serving.specs.Turns.{Gives}
 use Rattle.fab_wire_serving.proofs.TurnLemmas.{one-more}
-use Rattle.fab_wire_serving.proofs.serving.serve_on.Given.{O-step, N-step}
-use Rattle.fab_wire_serving.proofs.serving.serve_on.Goals as goal
+use Rattle.fab_wire_serving.proofs.alone.serve_alone.Given.{O-step, N-step}
+use Rattle.fab_wire_serving.proofs.alone.serve_alone.Goals as goal
 
 pub loop-preserved : goal.loop-preserved
 loop-preserved g c = let served = c.loop.invariant.0 in let next = c.in_ok-serve_next.ensures.turn in

@@ -6,7 +6,7 @@ ghost use Rattle.std.specs.Io.{ReadsAtMost, WritesAtMost};
 ghost use Rattle.std.specs.Io.KnownBytes.{Keeps, ReadConsumes, WriteAppends};
 ghost use Rattle.std.specs.IoError.{error_kind};
 ghost use Rattle.std.specs.Time.{instant_nanos};
-ghost use Rattle.fab_wire_serving.specs.Deadlines.{end_after, end_of, seen_by, clock_of, stream_of, end_at, seen_at, HasSeen, IsOver, IsAsked};
+ghost use Rattle.fab_wire_gathering.specs.Deadlines.{end_after, end_of, seen_by, clock_of, stream_of, end_at, seen_at, HasSeen, IsOver, IsAsked};
 
 use crate::bounds::Bounded;
 use crate::clock::Ticks;
@@ -55,6 +55,23 @@ impl Deadline {
                 end: start,
                 seen: start,
             },
+        }
+    }
+
+    /// When it is, on the monotonic clock.
+    pub fn end(&self) -> Instant
+        ensures { instant_nanos result ≡ end_of self.now }
+    {
+        self.end
+    }
+
+    /// Puts the deadline off, where the clock does not end before.
+    pub fn put_off(&mut self, by: Duration)
+        ensures end { (end_of self.new ≡ end_of self.old + as_nanos by) ⊎ (end_of self.new ≡ end_of self.old) }
+        ensures seen { seen_by self.new ≡ seen_by self.old }
+    {
+        if let Some(end) = self.end.checked_add(by) {
+            self.end = end;
         }
     }
 

@@ -3,7 +3,7 @@ use Rattle.std.specs.Time.{instant_nanos}
 use Rattle.fab_wire_serving.specs.Coming.{CameSo}
 use Rattle.fab_wire_serving.specs.Sides.{begun_sides}
 use Rattle.fab_wire_serving.proofs.ComingLemmas.{came_so, told_at}
-use Rattle.fab_wire_serving.proofs.serving.serve_next.Goals as goal
+use Rattle.fab_wire_serving.proofs.alone.serve_next.Goals as goal
 
 pub returns-clause-turn : goal.returns-clause-turn
 returns-clause-turn g c =

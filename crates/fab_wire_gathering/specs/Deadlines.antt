@@ -1,8 +1,8 @@
 -- What clauses see of a stream with a deadline. Times are nanoseconds on the monotonic clock.
 use Rattle.std.specs.Prelude.{ℕ, ◌≡◌, ◌+◌, ◌*◌, ◌^◌, ◌⊎◌, nat_lt, max, if◌then◌else◌, Result, Ok, Err}
 use Rattle.std.specs.Time.{instant_nanos}
-use Rattle.fab_wire_serving.specs.declared.deadline.Deadline.{Deadline}
-use Rattle.fab_wire_serving.specs.declared.deadline.Timed.{Timed}
+use Rattle.fab_wire_gathering.specs.declared.deadline.Deadline.{Deadline}
+use Rattle.fab_wire_gathering.specs.declared.deadline.Timed.{Timed}
 
 -- so long after a time; past the end of the clock, which has 2^63 seconds, the time itself
 abbrev pub end_after : ℕ → ℕ → ℕ

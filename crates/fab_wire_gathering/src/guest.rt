@@ -1,0 +1,285 @@
+//! One connection that is never waited for: what it has sent, and what it has taken of its answer.
+
+use crate::deadline::Deadline;
+use crate::framing::Framing;
+use crate::pieces::{Went, first_of, rest_of, room_in};
+use std::alloc::Global;
+use std::io::{Read, Write};
+use std::net::{Shutdown, TcpStream};
+use std::time::{Duration, Instant};
+
+/// How many bytes are read at most before it is known how many there have to be: those of a head.
+pub const FIRST: usize = 8192;
+
+/// How many pieces are read or written before others have their turn.
+const MOST_PIECES: usize = 32;
+
+/// How many pieces are taken behind a request.
+const MOST_TAKINGS: usize = 4096;
+
+/// How long bytes that nobody reads are taken behind an answer, in seconds.
+const LINGERING_SECONDS: u64 = 1;
+
+/// How the bytes of a request ended.
+#[derive(Clone, Copy, PartialEq, Eq)]
+pub enum Ending {
+    /// What is asked is known, whatever comes behind.
+    Whole,
+    /// The client sends no more.
+    Ended,
+    /// A read failed, or the time is up.
+    Failed,
+    /// There was no memory for more: the others are still to be read.
+    Starved,
+}
+
+/// What a connection is about.
+#[derive(Clone, Copy, PartialEq, Eq)]
+pub enum Stage {
+    /// It sends its request.
+    Sends,
+    /// Its request waits for its turn.
+    Waits,
+    /// It takes its answer.
+    Takes,
+    /// It has taken its answer.
+    Taken,
+    /// It did not take all of its answer.
+    Unsent,
+    /// What it still sends is taken, so many pieces more.
+    Leaves(usize),
+    /// It is gone.
+    Gone,
+}
+
+/// A connection.
+#[derive(Drop)]
+pub struct Guest {
+    stream: TcpStream,
+    stage: Stage,
+    ending: Ending,
+    deadline: Deadline,
+    heard: Instant,
+    bytes: Vec<u8>,
+    wanted: usize,
+    sent: usize,
+    number: u64,
+}
+
+impl Guest {
+    /// A connection of which nothing has been read yet, at a reading of the clock. It is given up where
+    /// its request is not there by the deadline.
+    pub fn new(alloc: Global, stream: TcpStream, now: Instant, deadline: Deadline) -> Self {
+        Guest {
+            stream,
+            stage: Stage::Sends,
+            ending: Ending::Whole,
+            deadline,
+            heard: now,
+            bytes: Vec::new(alloc),
+            wanted: 1,
+            sent: 0,
+            number: u64::MAX,
+        }
+    }
+
+    /// The same, whose request is not gathered: all of it is still to be read, in its turn.
+    pub fn carried(alloc: Global, stream: TcpStream, now: Instant, deadline: Deadline) -> Self {
+        let mut guest = Guest::new(alloc, stream, now, deadline);
+        guest.wait(Ending::Starved);
+        guest
+    }
+
+    /// Its socket.
+    pub fn stream(&self) -> &TcpStream {
+        &self.stream
+    }
+
+    /// What it is about.
+    pub fn stage(&self) -> Stage {
+        self.stage
+    }
+
+    /// How the bytes of its request ended.
+    pub fn ending(&self) -> Ending {
+        self.ending
+    }
+
+    /// What it has sent of its request; once it is answered, its answer.
+    pub fn bytes(&self) -> &[u8] {
+        self.bytes.as_slice()
+    }
+
+    /// Its place among those that began to wait, and once it is answered the number of its turn.
+    pub fn number(&self) -> u64 {
+        self.number
+    }
+
+    /// It is the one of this number.
+    pub fn be_number(&mut self, number: u64) {
+        self.number = number;
+    }
+
+    /// When it is given up, on the monotonic clock.
+    pub fn end(&self) -> Instant {
+        self.deadline.end()
+    }
+
+    /// When something was last heard of it.
+    pub fn heard(&self) -> Instant {
+        self.heard
+    }
+
+    /// Whether its time is up at a reading of the clock.
+    pub fn is_late(&mut self, now: Instant) -> bool {
+        self.deadline.left(now).is_none()
+    }
+
+    /// Gives it so much more time.
+    pub fn put_off(&mut self, by: Duration) {
+        self.deadline.put_off(by);
+    }
+
+    /// Its request waits for its turn from now on.
+    fn wait(&mut self, ending: Ending) {
+        self.ending = ending;
+        self.stage = Stage::Waits;
+    }
+
+    /// Goes on as far as it can without waiting, by a piece of room for what is read. It says whether
+    /// something may be left that did not have to wait.
+    pub fn go_on<F: Framing>(&mut self, framing: &F, piece: &mut [u8], now: Instant) -> bool {
+        match self.stage {
+            Stage::Sends => self.receive(framing, piece, now),
+            Stage::Takes => self.send(),
+            Stage::Leaves(_) => self.take_rest(piece),
+            _ => false,
+        }
+    }
+
+    /// How many bytes may be read: as many as a head has at most, or as are wanted.
+    fn lacking(&self) -> usize {
+        self.wanted.max(FIRST).saturating_sub(self.bytes.len()).max(1)
+    }
+
+    /// Reads what has come of the request. Room for it is had before, so that nothing that was read is
+    /// lost where there is none.
+    fn receive<F: Framing>(&mut self, framing: &F, piece: &mut [u8], now: Instant) -> bool {
+        for _ in 0..MOST_PIECES {
+            let lacking = self.lacking();
+            if self.bytes.reserve_exact(lacking).is_err() {
+                self.wait(Ending::Starved);
+                return false;
+            }
+            let room = room_in(piece, lacking);
+            match Went::of((&self.stream).read(room)) {
+                Went::Some(size) => self.keep(framing, first_of(room, size), now),
+                Went::Ended => self.wait(Ending::Ended),
+                Went::Failed => self.wait(Ending::Failed),
+                Went::Waits => return false,
+            }
+            if self.stage != Stage::Sends {
+                return false;
+            }
+        }
+        true
+    }
+
+    /// Keeps what has come, and looks whether it is a whole request.
+    fn keep<F: Framing>(&mut self, framing: &F, piece: &[u8], now: Instant) {
+        self.heard = now;
+        if self.bytes.extend_from_slice(piece).is_err() {
+            self.wait(Ending::Failed);
+            return;
+        }
+        if self.bytes.len() < self.wanted {
+            return;
+        }
+        match framing.lacks(self.bytes.as_slice()) {
+            Some(wanted) => self.wanted = wanted,
+            None => self.wait(Ending::Whole),
+        }
+    }
+
+    /// Sends what is left of the answer. It says whether something may be left that the socket takes.
+    pub fn send(&mut self) -> bool {
+        for _ in 0..MOST_PIECES {
+            let rest = rest_of(self.bytes.as_slice(), self.sent);
+            if rest.is_empty() {
+                self.stage = Stage::Taken;
+                return false;
+            }
+            match Went::of((&self.stream).write(rest)) {
+                Went::Some(size) => self.sent = self.sent.saturating_add(size),
+                Went::Waits => return false,
+                _ => {
+                    self.stage = Stage::Unsent;
+                    return false;
+                }
+            }
+        }
+        true
+    }
+
+    /// Takes what comes behind the request of one that has its answer. It says whether something came.
+    pub fn take_rest(&mut self, piece: &mut [u8]) -> bool {
+        let Stage::Leaves(left) = self.stage else {
+            return false;
+        };
+        match Went::of((&self.stream).read(room_in(piece, FIRST))) {
+            Went::Some(_) => {
+                self.stage = if left > 0 {
+                    Stage::Leaves(left - 1)
+                } else {
+                    Stage::Gone
+                };
+                true
+            }
+            Went::Waits => false,
+            _ => {
+                self.stage = Stage::Gone;
+                false
+            }
+        }
+    }
+
+    /// Gives it up: its request has failed to come, or its answer is not sent, or it is gone.
+    pub fn give_up(&mut self) {
+        match self.stage {
+            Stage::Sends => self.wait(Ending::Failed),
+            Stage::Takes => self.stage = Stage::Unsent,
+            Stage::Leaves(_) => self.stage = Stage::Gone,
+            _ => {}
+        }
+    }
+
+    /// How many bytes of its answer it has not taken yet.
+    pub fn untaken(&self) -> usize {
+        match self.stage {
+            Stage::Takes => self.bytes.len().saturating_sub(self.sent),
+            _ => 0,
+        }
+    }
+
+    /// It has this answer now, in the turn of this number, and until the deadline to take it.
+    pub fn answer(&mut self, answer: Vec<u8>, number: u64, deadline: Deadline) {
+        self.bytes = answer;
+        self.sent = 0;
+        self.number = number;
+        self.deadline = deadline;
+        self.stage = Stage::Takes;
+    }
+
+    /// Its answer is sent, or is not: nothing more is, and what it still sends is taken for a while
+    /// (RFC 9112, section 9.6). One whose request failed to come, or that did not take its answer, is
+    /// gone at once.
+    pub fn leave(&mut self, now: Instant) {
+        self.deadline = Deadline::after(now, Duration::from_secs(LINGERING_SECONDS));
+        let lingers = self.stage == Stage::Taken && self.ending != Ending::Failed;
+        self.stage = if lingers && self.stream.shutdown(Shutdown::Write).is_ok() {
+            Stage::Leaves(MOST_TAKINGS)
+        } else {
+            Stage::Gone
+        };
+    }
+}
