@@ -1,6 +1,6 @@
 //! The connections that are there, and the lines of the log that wait.
 
-ghost use Rattle.std.specs.Prelude.{◌≡◌, ◌<◌, ◌++◌, ◌∷◌, ⊥, [], IfOk, IfErr, IfSome, IfNone};
+ghost use Rattle.std.specs.Prelude.{◌≡◌, ◌<◌, ◌++◌, ◌∷◌, [], IfOk, IfErr, IfSome, IfNone};
 ghost use Rattle.std.specs.Time.{instant_nanos};
 ghost use Rattle.std.specs.VecDeque.{deque_len, deque_capacity};
 ghost use Rattle.fab_wire_serving.specs.Pending.{Advances, AreMarked};

@@ -4,10 +4,11 @@ ghost use Rattle.std.specs.Prelude.{⊤};
 
 use fab_wire_gathering::stream::Stream;
 use fab_wire_serving::Listens;
+use std::alloc::Global;
 use std::cell::Cell;
 use std::io;
 use std::io::{ErrorKind, Read, Write};
-use std::net::{TcpListener, TcpStream};
+use std::net::{Net, TcpListener, TcpStream};
 use std::os::fd::{AsRawFd, RawFd};
 use std::time::{Clock, Duration};
 
@@ -157,6 +158,56 @@ impl<'l> Listens for Busy<'l> {
         self.calls.set(call.saturating_add(1));
         if call == self.fails_at {
             return Err(io::Error::from(ErrorKind::Other));
+        }
+        self.listener.connection()
+    }
+
+    fn set_waiting(&self, waits: bool) -> io::Result<()> {
+        self.listener.set_waiting(waits)
+    }
+
+    fn descriptor(&self) -> RawFd {
+        self.listener.as_raw_fd()
+    }
+}
+
+/// A listener to which a client comes whenever a connection is asked for, as often as it is told. All send
+/// nothing but the last one, which sends a byte.
+#[derive(Drop)]
+pub struct Crowd<'l, R> {
+    pub rt: &'l R,
+    pub alloc: Global,
+    pub listener: &'l TcpListener,
+    pub left: Cell<u64>,
+    pub clients: Cell<Vec<TcpStream>>,
+}
+
+impl<'l, R: Net<Stream = TcpStream>> Crowd<'l, R> {
+    /// One more client comes.
+    fn come(&self) -> io::Result<()> {
+        let left = self.left.get().saturating_sub(1);
+        self.left.set(left);
+        let mut client = TcpStream::connect(self.rt, self.listener.local_addr()?)?;
+        if left == 0 {
+            client.write_all(b"a")?;
+        }
+        let mut clients = self.clients.replace(Vec::new(self.alloc));
+        let kept = clients.push(client).is_ok();
+        self.clients.set(clients);
+        if kept {
+            Ok(())
+        } else {
+            Err(io::Error::from(ErrorKind::OutOfMemory))
+        }
+    }
+}
+
+impl<'l, R: Net<Stream = TcpStream>> Listens for Crowd<'l, R> {
+    ghost fails = { λ listener. ⊤ };
+
+    fn connection(&self) -> io::Result<TcpStream> {
+        if self.left.get() > 0 {
+            self.come()?;
         }
         self.listener.connection()
     }

@@ -1,8 +1,9 @@
-//! Connections over loopback, whose bytes are sent before they are served.
+//! Connections over loopback. The bytes of most of them are sent before they are served.
 
-use super::doubles::{Broken, Full, Late, Leaky, Ticking};
+use super::doubles::{Broken, Busy, Crowd, Full, Leaky, Ticking};
 use super::echo::{Echo, Held};
-use fab_wire_serving::{ServeFault, Watch, serve_on};
+use fab_wire_serving::{Listens, ServeFault, Watch, serve_on};
+use mio::Poll;
 use std::cell::Cell;
 use std::io::{BufWriter, Read, Write};
 use std::net::{Ipv4Addr, Net, Shutdown, SocketAddr, TcpListener, TcpStream};
@@ -72,18 +73,23 @@ fn are_answered(rt: &(impl Abort + AllocGlobal), streams: &[TcpStream], turns: T
     true
 }
 
+/// What tells which connections have sent something.
+fn polled(rt: &(impl Abort + Net)) -> Poll {
+    Poll::new(rt).expect(rt, "a poll")
+}
+
 /// What a log has taken that was handed on to it.
 fn taken(rt: &impl Abort, log: BufWriter<Vec<u8>>) -> String {
     let (bytes, _) = log.into_parts();
     String::from_utf8(bytes).expect(rt, "a text")
 }
 
-/// What the log says of as many connections as `stores` has values. They come at 1000, 1001 and so on;
-/// what the echo is opened anew over is taken from `stores` in its order, where there is something, and
+/// What the log says of as many connections as `stores` has values. They have their turns at 1000, 1001
+/// and so on; what the echo is opened anew over is taken from `stores` in its order, where there is something, and
 /// only where it has let go of what it was opened over before. The clock is read whenever it is opened,
 /// so that by a clock that goes on at each reading that takes time.
 fn log_of<C: Clock>(
-    rt: &(impl Abort + AllocGlobal),
+    rt: &(impl Abort + AllocGlobal + Net),
     clock: &C,
     most_milliseconds: u64,
     listener: &TcpListener,
@@ -95,7 +101,7 @@ fn log_of<C: Clock>(
 
 /// The same, where this says whether an echo has what it was opened over.
 fn log_while<'h, C: Clock>(
-    rt: &(impl Abort + AllocGlobal),
+    rt: &(impl Abort + AllocGlobal + Net),
     clock: &C,
     most_milliseconds: u64,
     listener: &TcpListener,
@@ -103,7 +109,7 @@ fn log_while<'h, C: Clock>(
     held: &'h Cell<bool>,
 ) -> String {
     let log = BufWriter::new(rt.alloc(), Vec::new(rt.alloc())).expect(rt, "a log");
-    let mut watch = Watch::new(rt.alloc(), clock, log);
+    let mut watch = Watch::new(rt.alloc(), clock, log, polled(rt));
     watch.most = Duration::from_millis(most_milliseconds);
     let mut moment = 999u64;
     let mut opened = stores.iter();
@@ -165,14 +171,14 @@ fn serves(
 }
 
 /// What ends the serving of connections, one at most.
-fn end_of<C: Clock>(
-    rt: &impl AllocGlobal,
+fn end_of<C: Clock, L: Listens>(
+    rt: &(impl Abort + AllocGlobal + Net),
     clock: &C,
-    listener: &TcpListener,
+    listener: &L,
     moment: Option<u64>,
     count: Option<u64>,
 ) -> &'static str {
-    let mut watch = Watch::new(rt.alloc(), clock, Full);
+    let mut watch = Watch::new(rt.alloc(), clock, Full, polled(rt));
     let mut echo = Echo::over(None);
     let ended = serve_on(
         &mut watch,
@@ -225,15 +231,16 @@ fn a_halted_server_is_opened_anew_before_the_next(rt: HostRuntime) {
 }
 
 /// Bytes, how many seconds the clock goes on at each reading, how many milliseconds a connection may
-/// last, and the line. The clock is read as the connection comes and as its time begins, before the
-/// read, before what there is to write is sent, and for the line.
+/// last, and the line. From when a connection is taken up the clock is read before its server is opened
+/// anew and as its time begins, before the read, before what there is to write is written, when it is
+/// served, and when its turn has ended and for the line.
 const LINES: &[(&[u8], u64, u64, &str)] = &[
-    (b"a", 1, LONG, "1000 200 4000 ms\n"),
-    (b"", 1, LONG, "1000 empty 3000 ms\n"),
-    (b"a", 10, 20001, "1000 200 40000 ms\n"),
-    (b"a", 10, 20000, "1000 unsent 40000 ms\n"),
-    (b"a", 10, 10001, "1000 unsent 40000 ms\n"),
-    (b"a", 10, 10000, "1000 unread 30000 ms\n"),
+    (b"a", 1, LONG, "1000 200 7000 ms\n"),
+    (b"", 1, LONG, "1000 empty 6000 ms\n"),
+    (b"a", 10, 20001, "1000 200 70000 ms\n"),
+    (b"a", 10, 20000, "1000 unsent 70000 ms\n"),
+    (b"a", 10, 10001, "1000 unsent 70000 ms\n"),
+    (b"a", 10, 10000, "1000 unread 60000 ms\n"),
 ];
 
 #[test]
@@ -246,39 +253,43 @@ fn each_connection_has_its_line(rt: HostRuntime) {
 const ANEW: Turns = &[(b"!", b"halted"), (b"a", b"a")];
 
 /// Opening the server anew takes ten seconds, which the log counts, and the 20 seconds and a bit that
-/// the connection has do not: it has as many as the one before.
+/// the connection has do not: it has as many as the one before. Both are taken up at one time.
 #[test]
 fn opening_anew_is_no_part_of_a_connections_time(rt: HostRuntime) {
-    let log = "1000 503 40000 ms\n1001 200 50000 ms\n";
+    let log = "1000 503 70000 ms\n1001 200 160000 ms\n";
     serves(&rt, ANEW, (10, 20001), &[Some(true), None], log);
 }
 
-/// The clock goes on by a thousand seconds while a connection is waited for: that is before its moment,
-/// and no part of its time.
+/// The first connection sends the end of its request when the second one has its turn, which is at 1000;
+/// so its own is later.
 #[test]
-fn a_connections_moment_is_that_at_which_it_came(rt: HostRuntime) {
+fn turns_are_in_the_order_in_which_requests_are_whole(rt: HostRuntime) {
     let listener = listen(&rt);
-    let streams = told_each(&rt, &listener, TWO);
-    let clock = Ticking::by(0);
-    let late = Late {
-        listener: &listener,
-        clock: &clock,
-    };
+    let mut first = told(&rt, &listener, b"+a");
+    let second = told_whole(&rt, &listener, b"bb");
     let log = BufWriter::new(rt.alloc(), Vec::new(rt.alloc())).expect(&rt, "a log");
-    let mut watch = Watch::new(rt.alloc(), &clock, log);
+    let mut watch = Watch::new(rt.alloc(), &rt, log, polled(&rt));
     let mut echo = Echo::over(None);
+    let mut moment = 999u64;
     serve_on(
         &mut watch,
         &mut echo,
-        &late,
-        &mut || Some(clock.shows()),
+        &listener,
+        &mut || {
+            moment = moment.saturating_add(1);
+            if moment == 1000 && first.write_all(b".").is_err() {
+                return None;
+            }
+            Some(moment)
+        },
         Some(2),
         &mut || Err(()),
     )
     .expect(&rt, "connections");
     let came = taken(&rt, watch.log.into_inner());
-    assert_eq!(rt; came.as_str(), "1000 200 0 ms\n2000 200 0 ms\n");
-    assert!(rt; are_answered(&rt, streams.as_slice(), TWO));
+    assert!(rt; came.starts_with("1000 200 ") && came.contains("\n1001 200 "));
+    assert!(rt; is_answered(&rt, &second, b"bb"));
+    assert!(rt; is_answered(&rt, &first, b"+a."));
 }
 
 /// What a log has of two connections, one of whose writes was refused, and how many refusals were counted.
@@ -294,7 +305,7 @@ fn leaked(
         calls: 0,
         fails_at,
     };
-    let mut watch = Watch::new(rt.alloc(), &clock, log);
+    let mut watch = Watch::new(rt.alloc(), &clock, log, polled(rt));
     let mut echo = Echo::over(None);
     serve_on(
         &mut watch,
@@ -345,13 +356,154 @@ fn an_answer_is_not_lost_where_more_is_sent_than_read(rt: HostRuntime) {
     assert!(rt; is_answered(&rt, &stream, &[b'x'; 64]));
 }
 
+/// A client that came first and sends nothing, and one that came after it.
+#[test]
+fn a_silent_client_delays_no_other(rt: HostRuntime) {
+    let listener = listen(&rt);
+    let _silent = told(&rt, &listener, b"");
+    let stream = told(&rt, &listener, b"a");
+    let log = log_of(&rt, &rt, 300, &listener, &[None, None]);
+    assert!(rt; log.starts_with("1000 200 ") && log.contains("\n1001 unread 3"));
+    assert!(rt; is_answered(&rt, &stream, b"a"));
+}
+
+/// A client that came first and takes nothing of its answer; and one that came after it, whose answer is
+/// sent meanwhile, and whose line comes behind that of the first.
+#[test]
+fn a_client_that_takes_nothing_delays_no_other(rt: HostRuntime) {
+    let listener = listen(&rt);
+    let _full = told(&rt, &listener, b"*");
+    let stream = told_whole(&rt, &listener, b"a");
+    let log = log_of(&rt, &rt, 1000, &listener, &[None, None]);
+    assert!(rt; log.starts_with("1000 unsent 1"));
+    assert!(rt; first_of_second_line(log.as_str()) == "1001 200");
+    assert!(rt; is_answered(&rt, &stream, b"a"));
+}
+
+/// The moment and what came of it, of the second line of a log.
+fn first_of_second_line(log: &str) -> &str {
+    match log.split_once('\n') {
+        Some((_, second)) => second.get(..8).unwrap_or(""),
+        None => "",
+    }
+}
+
+/// Two clients take nothing of answers that are more than is kept together: the first one is let go when
+/// the second one is answered, long before its time is up.
+#[test]
+fn answers_that_nobody_takes_are_bounded(rt: HostRuntime) {
+    let listener = listen(&rt);
+    let _first = told(&rt, &listener, b"*");
+    let _second = told(&rt, &listener, b"*");
+    let begun = rt.monotonic().expect(&rt, "a clock");
+    let log = log_of(&rt, &rt, 4000, &listener, &[None, None]);
+    let took = rt.monotonic().expect(&rt, "a clock").saturating_sub(begun);
+    assert!(rt; log.starts_with("1000 unsent "));
+    assert!(rt; log.contains("\n1001 unsent "));
+    assert!(rt; !log.starts_with("1000 unsent 4") && took < Duration::from_secs(12));
+}
+
+/// So many connections over which nothing is sent.
+fn silent(
+    rt: &(impl Abort + AllocGlobal + Net<Stream = TcpStream>),
+    listener: &TcpListener,
+    count: usize,
+) -> Vec<TcpStream> {
+    let mut streams = Vec::new(rt.alloc());
+    for _ in 0..count {
+        streams.push(told(rt, listener, b"")).expect(rt, "memory");
+    }
+    streams
+}
+
+/// How many turns there are where 127 silent clients are before one that asks: as many as may wait for a
+/// connection at once.
+const FEW: usize = 128;
+
+/// The seats are enough for all that come at once.
+#[test]
+fn many_silent_clients_delay_no_other(rt: HostRuntime) {
+    let listener = listen(&rt);
+    let _silent = silent(&rt, &listener, FEW - 1);
+    let stream = told(&rt, &listener, b"a");
+    let log = log_of(&rt, &rt, 500, &listener, &[None; FEW]);
+    assert!(rt; log.starts_with("1000 200 ") && log.contains("\n1001 unread 5"));
+    assert!(rt; is_answered(&rt, &stream, b"a"));
+}
+
+/// How many clients there are with one more than has a seat.
+const CROWD: u64 = 257;
+
+/// All seats are taken by clients that send nothing, and one more comes, which asks: after two seconds one
+/// of them is let go for it.
+#[test]
+fn silent_clients_make_way_for_a_newcomer(rt: HostRuntime) {
+    let listener = listen(&rt);
+    let crowd = Crowd {
+        rt: &rt,
+        alloc: rt.alloc(),
+        listener: &listener,
+        left: Cell::new(CROWD),
+        clients: Cell::new(Vec::new(rt.alloc())),
+    };
+    let log = BufWriter::new(rt.alloc(), Vec::new(rt.alloc())).expect(&rt, "a log");
+    let mut watch = Watch::new(rt.alloc(), &rt, log, polled(&rt));
+    watch.most = Duration::from_secs(4);
+    let mut echo = Echo::over(None);
+    serve_on(
+        &mut watch,
+        &mut echo,
+        &crowd,
+        &mut || Some(1000),
+        Some(CROWD),
+        &mut || Err(()),
+    )
+    .expect(&rt, "connections");
+    let log = taken(&rt, watch.log.into_inner());
+    assert!(rt; log.starts_with("1000 unread 2"));
+    assert!(rt; log.contains(" ms\n1000 200 "));
+    let mut clients = crowd.clients.replace(Vec::new(rt.alloc()));
+    let last = clients.pop().expect(&rt, "a client");
+    assert!(rt; is_answered(&rt, &last, b"a"));
+}
+
+/// There is no memory for the bytes of the first: it is served as if nothing were gathered, and answered.
+#[test]
+fn want_of_memory_for_a_request_is_no_failed_read(rt: HostRuntime) {
+    let listener = listen(&rt);
+    let first = told_whole(&rt, &listener, b"#much");
+    let second = told_whole(&rt, &listener, b"b");
+    let log = log_of(&rt, &Ticking::by(0), LONG, &listener, &[None, None]);
+    assert_eq!(rt; log.as_str(), "1000 200 0 ms\n1001 200 0 ms\n");
+    assert!(rt; is_answered(&rt, &first, b"#much"));
+    assert!(rt; is_answered(&rt, &second, b"b"));
+}
+
+/// Accepting fails once, while the first connection is there: that one is served, and then the second.
+#[test]
+fn a_refused_connection_is_waited_for_while_others_are_there(rt: HostRuntime) {
+    let listener = listen(&rt);
+    let streams = told_each(&rt, &listener, TWO);
+    let busy = Busy {
+        listener: &listener,
+        calls: Cell::new(0),
+        fails_at: 1,
+    };
+    assert!(rt; end_of(&rt, &rt, &busy, Some(1), Some(2)) == "done");
+    assert!(rt; are_answered(&rt, streams.as_slice(), TWO));
+}
+
 /// A log that takes nothing ends nothing.
 #[test]
 fn serving_ends_with_the_count_the_listener_or_a_clock(rt: HostRuntime) {
     let listener = listen(&rt);
-    listener.set_nonblocking(true).expect(&rt, "no blocking");
     assert!(rt; end_of(&rt, &rt, &listener, Some(1), Some(0)) == "done");
-    assert!(rt; end_of(&rt, &rt, &listener, Some(1), None) == "listener");
+    let deaf = Busy {
+        listener: &listener,
+        calls: Cell::new(0),
+        fails_at: 0,
+    };
+    assert!(rt; end_of(&rt, &rt, &deaf, Some(1), None) == "listener");
     assert!(rt; end_of_one(&rt, &rt, &listener, None) == "no clock");
     assert!(rt; end_of_one(&rt, &Broken, &listener, Some(1)) == "no clock");
     let stream = told_whole(&rt, &listener, b"2");
