@@ -1,10 +1,12 @@
 -- What a desk that serves connections does.
-use Rattle.std.specs.Prelude.{ℕ, ◌≡◌, Bool, None, is_none}
+use Rattle.std.specs.Prelude.{ℕ, ◌≡◌, List, Bool, None, is_none}
 use Rattle.fab_wire_serving.specs.Sides.{Side, Sides}
 use Rattle.fab_store.specs.declared.OpenFault.{OpenFault}
 use Rattle.fab_store.specs.declared.Store as store
+use Rattle.fab_wire_base.specs.Whole.{IsWhole}
 use Rattle.fab_wire.specs.Desks.{IsOpened, IsUnopened}
 use Rattle.fab_wire.specs.Handled.{policy_of, world_of, serving_of}
+use Rattle.fab_wire.specs.Known.{is_known}
 use Rattle.fab_wire.specs.Serving.{Serves}
 use Rattle.fab_wire.specs.Serving as wire
 use Rattle.fab_wire.specs.declared.Desk.{Desk}
@@ -13,6 +15,10 @@ use Rattle.fab_wire.specs.declared.outcome.Outcome.{Outcome}
 -- no store serves
 abbrev pub is_halted_desk : {A S B R : Type 0} → Desk A S B R → Bool
 is_halted_desk d = is_none (serving_of d)
+
+-- whatever comes behind these bytes, a connection asks what they ask
+abbrev pub IsWholeDesk : {A S B R : Type 0} → Desk A S B R → List ℕ → Type 0
+IsWholeDesk d bytes = IsWhole (is_known (policy_of d)) bytes
 
 -- the store that was left aside is let go of
 abbrev pub ReleasesDesk : {A S B R : Type 0} → Desk A S B R → Desk A S B R → Type 0

@@ -3,9 +3,11 @@ ghost use Rattle.std.specs.Prelude.{◌≡◌};
 
 use crate::database::ProgramDesk;
 use fab_store::{OpenFault, Store};
-use fab_wire::{Outcome, serve_one};
+use fab_wire::{KnownTo, Outcome, serve_one};
 use fab_wire_base::routes::Routes;
-use fab_wire_serving::{Bounded, Server, Shown};
+use fab_wire_base::whole::lacks;
+use fab_wire_gathering::bounds::Bounded;
+use fab_wire_serving::{Server, Shown};
 use fab_wire_streams::counted::Counted;
 use std::alloc::Global;
 use std::io::{Read, Write};
@@ -28,7 +30,7 @@ impl<S: Store<Global>> Server for Front<S> {
 
     type Outcome = Outcome;
 
-    ghost use Rattle.fab_program_base.specs.Fronts.{is_halted_desk, ServesDesk, ReleasesDesk, ReopensDesk, RefusesDesk};
+    ghost use Rattle.fab_program_base.specs.Fronts.{is_halted_desk, IsWholeDesk, ServesDesk, ReleasesDesk, ReopensDesk, RefusesDesk};
     ghost use Rattle.fab_wire_serving.specs.Shown.{shown_text};
     ghost use Rattle.fab_wire.specs.Telling.{outcome_text};
 
@@ -38,11 +40,17 @@ impl<S: Store<Global>> Server for Front<S> {
 
     ghost shows = { outcome_text };
 
+    ghost is_whole = { λ f bytes. IsWholeDesk f.desk bytes };
+
     ghost releases = { λ f g. ReleasesDesk f.desk g.desk };
 
     ghost reopens = { λ f store g. ReopensDesk S.Store f.desk store g.desk };
 
     ghost refuses = { λ f store fault. RefusesDesk S.Store store fault };
+
+    fn lacks(&self, bytes: &[u8]) -> Option<usize> {
+        lacks(&self.routes, &KnownTo::of(&self.desk), bytes)
+    }
 
     fn halted(&self) -> bool {
         self.desk.halted()

@@ -15,6 +15,7 @@ use fab_program_outside::{Fault, Files, policy_of};
 use fab_store::{OpenFault, Store};
 use fab_wire_base::routes::Routes;
 use fab_wire_serving::{ServeFault, Server, Watch, serve_on};
+use mio::Poll;
 use std::alloc::Global;
 use std::io::Write;
 
@@ -132,7 +133,7 @@ fn serve_at<
 {
     match outside.listen(asked.listen) {
         Some(listener) => {
-            let mut watch = Watch::new(rt.alloc(), rt, log);
+            let mut watch = Watch::new(rt.alloc(), rt, log, Poll::new(rt).ok());
             let came = serve_on(&mut watch, front, &listener, now, asked.count, again);
             end_of(came)
         }

@@ -9,6 +9,7 @@ use fab_store::{OpenFault, SqlStore, Store};
 use fab_wire::Desk;
 use fab_wire_base::routes::Routes;
 use fab_wire_serving::{Watch, serve_on};
+use mio::Poll;
 use sqlite::{Alter, Connection};
 use std::alloc::Global;
 use std::io::{BufWriter, Read, Write};
@@ -79,12 +80,13 @@ fn is_answered(rt: &(impl Abort + AllocGlobal), stream: &TcpStream, asking: &Ask
 
 /// Serves as many connections as there are requests, the first at second 59 and each a second later.
 fn serve<S: Store<Global>>(
-    rt: &(impl Abort + AllocGlobal + Clock),
+    rt: &(impl Abort + AllocGlobal + Clock + Net),
     listener: &TcpListener,
     front: &mut Front<S>,
 ) {
     let log = BufWriter::new(rt.alloc(), Vec::new(rt.alloc())).expect(rt, "a log");
-    let mut watch = Watch::new(rt.alloc(), rt, log);
+    let poll = Poll::new(rt).expect(rt, "a poll");
+    let mut watch = Watch::new(rt.alloc(), rt, log, poll);
     let mut moment = 58u64;
     let mut now = || {
         moment = moment.saturating_add(1);

@@ -5,3 +5,4 @@ pub mod Serving
 pub mod Telling
 pub mod InTurn
 pub mod Runs
+pub mod Beginnings

@@ -3,6 +3,7 @@
 ghost use Rattle.std.specs.Prelude.{◌≡◌, IfOk, OnErr};
 ghost use Rattle.fab_desk.specs.Desks.{IsCleanDesk, IsTiedDesk};
 ghost use Rattle.fab_desk.specs.Handled.{aside_of, policy_of, serving_of, world_of};
+ghost use Rattle.fab_wire.specs.Beginnings.{BeginningsServe};
 ghost use Rattle.fab_wire.specs.InTurn.{AreServed, IsServed};
 ghost use Rattle.fab_wire.specs.Runs.{LeadTo};
 
@@ -91,4 +92,12 @@ fn serve<A: Allocator + Copy, S: Store<A>, B: PathBook<A>, R: Read + Drop, W: Wr
         reader,
         writer,
     }
+}
+
+/// What serving a beginning does that is whole, serving each input does that begins so. So a request is
+/// gathered until it is whole, and then served, whatever comes behind it.
+pub fn beginnings_serve<A: Allocator + Copy, S: Store<A>, B: PathBook<A>>(desk: &Desk<A, S, B>)
+    ensures { BeginningsServe S.Store desk.now }
+{
+    let _desk = desk;
 }
