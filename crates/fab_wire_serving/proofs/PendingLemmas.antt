@@ -1,6 +1,6 @@
 -- Lines that wait, become others, and come into the log in their order.
-use Rattle.std.proofs.Common.{◌≡◌, ℕ, ◌+◌, ◌⊎◌, inl, inr, refl, sym, subst, ap, ◌∙◌, arith, List, [], ◌∷◌, ◌++◌, length, length-append, append_assoc, Result, Option, Some, IfSome}
-use Rattle.std.specs.Prelude.{codes, slice_set, slice_index_or}
+use Rattle.std.proofs.Common.{◌≡◌, ℕ, zero, suc, Bool, true, false, unwrap_or, ◌+◌, ◌⊎◌, inl, inr, refl, sym, subst, ap, ◌∙◌, arith, List, [], ◌∷◌, ◌++◌, length, length-append, append_assoc, Result, Ok, Err, OnOk, Option, None, Some, IfSome}
+use Rattle.std.specs.Prelude.{codes, slice_set, slice_index_or, IsSome}
 use Rattle.std.specs.Time.{instant_nanos}
 use Rattle.fab_wire_streams.specs.declared.counted.Counted.{Counted}
 use Rattle.fab_wire_serving.specs.Coming.{CameSo, came_text}
@@ -21,10 +21,15 @@ either_twice a b c u h (inr k) = inr k
 either_twice a b c u (inl h) (inl k) = inl (k ∙ h)
 either_twice a b c u (inr h) (inl k) = inr (k ∙ h)
 
+-- a number that is there is that number, whatever stands for none
+pub known_number : (o : Option ℕ) (d n : ℕ) → IsSome o → n ≡ unwrap_or o d → o ≡ Some n
+known_number None d n h e = absurd (cc h)
+known_number (Some x) d n h e = ap Some (sym e)
+
 module _ (tells : ℕ → Type 0) (fails : Type 0) where
   -- what a line became became another
   pub marked_twice : (x y z : Line) → IsMarked tells fails x y → IsMarked tells fails y z → IsMarked tells fails x z
-  marked_twice x y z (inl e) k = subst (λ (w : Line). IsMarked tells fails w z) (sym e) k
+  marked_twice x y z (inl e) k = subst (λ (w : Line). IsMarked tells fails w z) e k
   marked_twice x y z (inr h) (inl e) = subst (λ (w : Line). IsMarked tells fails x w) (sym e) (inr h)
   marked_twice x y z (inr (moment, start, shown, timed)) (inr (moment', start', shown', timed')) =
       inr (moment' ∙ moment, start' ∙ start, either_twice (shown_text x.shown) (shown_text y.shown) (shown_text z.shown) (codes "unsent") shown shown', timed')
@@ -45,10 +50,10 @@ module _ (tells : ℕ → Type 0) (fails : Type 0) where
   are_marked_behind (line ∷ front) xs ys h = (inl refl, are_marked_behind front xs ys h)
 
   -- one of them became another
-  pub are_marked_at : (lines : List Line) (i : ℕ) (line : Line) → IsMarked tells fails (slice_index_or lines i line) line → AreMarked tells fails lines (slice_set lines i line)
-  are_marked_at [] i line h = tt
-  are_marked_at (x ∷ lines) zero line h = (h, are_marked_refl lines)
-  are_marked_at (x ∷ lines) (suc i) line h = (inl refl, are_marked_at lines i line h)
+  pub are_marked_at : (lines : List Line) (i : ℕ) (old new : Line) → old ≡ slice_index_or lines i old → IsMarked tells fails old new → AreMarked tells fails lines (slice_set lines i new)
+  are_marked_at [] i old new e h = tt
+  are_marked_at (x ∷ lines) zero old new e h = (subst (λ (w : Line). IsMarked tells fails w new) e h, are_marked_refl lines)
+  are_marked_at (x ∷ lines) (suc i) old new e h = (inl refl, are_marked_at lines i old new e h)
 
   pub marked_length : (xs ys : List Line) → AreMarked tells fails xs ys → length ys ≡ length xs
   marked_length [] [] h = refl
@@ -170,3 +175,15 @@ module _ {S Store Fault Outcome W : Type 0} (g : server.Ghosts S Store Fault Out
       → (moments : List ℕ) × AreTurns g opens gives tells fails contents most s log moments t last × (length moments ≡ count)
   all_noted s log count t last (moments, middle, turns, waiting, counted) =
       (moments, subst (λ (x : S). AreTurns g opens gives tells fails contents most s log moments x last) (sym waiting) turns, omega (arith, counted))
+
+  -- the lines advance before a turn is taken
+  pub taken_behind : (s : S) (log : Counted W) (lines : List Line) (mid : Counted W) (lines' : List Line) (t : S) (last : Counted W) (lines'' : List Line)
+      → Advances tells fails contents log lines mid lines' → IsTurnTaken g opens gives tells fails contents most s mid lines' t last lines''
+      → IsTurnTaken g opens gives tells fails contents most s log lines t last lines''
+  taken_behind s log lines mid lines' t last lines'' before (between, others, line, advance, turn, after) =
+      (between, others, line, advances_twice tells fails contents log lines mid lines' between others before advance, turn, after)
+
+-- what follows of a call that succeeded
+pub on_ok_map : {A E : Type 0} (r : Result A E) (P Q : Type 0) → (P → Q) → OnOk r P → OnOk r Q
+on_ok_map (Ok x) P Q f h = f h
+on_ok_map (Err e) P Q f h = tt

@@ -415,7 +415,10 @@ impl Room {
             watch.old.log self.old.pending.lines.items watch.new.log self.new.pending.lines.items }
     {
         for _ in 0..u64::MAX {
-            if self.gathering.is_empty() || self.go_round(watch, server).is_none() {
+            if self.gathering.is_empty() {
+                return;
+            }
+            if self.go_round(watch, server).is_none() {
                 return;
             }
         }

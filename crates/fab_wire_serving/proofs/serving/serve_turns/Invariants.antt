@@ -12,4 +12,3 @@ invariant-loop g l =
     × (l.watch.clock.now ≡ l.fn.watch.clock.now)
     × (l.watch.most ≡ l.fn.watch.most)
     × AreTold (g.C.Ticks.tells l.fn.watch.clock.now) l.room.starts.items
-    × (l.end ≡ l.fn.most)

@@ -1,4 +1,4 @@
-use Rattle.std.proofs.Common.{rules}
+use Rattle.std.proofs.Common.{rules, refl}
 use Rattle.fab_wire_serving.proofs.PendingLemmas.{advances_refl, advances_twice}
 use Rattle.fab_wire_serving.proofs.pending.Pending.note_all.Goals as goal
 
@@ -6,3 +6,6 @@ pub loop-preserved : goal.loop-preserved
 loop-preserved g c =
     let next = rw c.loop.invariant.1 at c.note_first.ensures.lines in
     (advances_twice (g.C.Ticks.tells c.args.watch.now.clock.now) (g.C.Ticks.fails c.args.watch.now.clock.now) g.W.Write.contents _ _ _ _ _ _ c.loop.invariant.0 next, search rules, search rules, search rules, c.loop.invariant.4)
+
+pub loop-init : goal.loop-init
+loop-init g c = (advances_refl (g.C.Ticks.tells c.args.watch.now.clock.now) (g.C.Ticks.fails c.args.watch.now.clock.now) g.W.Write.contents _ _, refl, refl, search rules, search rules)

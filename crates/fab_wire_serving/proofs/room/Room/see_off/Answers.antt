@@ -1,0 +1,19 @@
+use Rattle.std.proofs.Common.{rules, refl}
+use Rattle.fab_wire_serving.proofs.PendingLemmas.{advances_refl, advances_twice}
+use Rattle.fab_wire_serving.proofs.room.Room.see_off.Goals as goal
+
+pub loop-init : goal.loop-init
+loop-init g c = (advances_refl (g.C.Ticks.tells c.args.watch.now.clock.now) (g.C.Ticks.fails c.args.watch.now.clock.now) g.W.Write.contents _ _, refl, refl)
+
+pub returns-then-is_empty-clause-lines : goal.returns-then-is_empty-clause-lines
+returns-then-is_empty-clause-lines g c = c.loop.invariant.0
+
+pub loop-preserved : goal.loop-preserved
+loop-preserved g c =
+    let next = rw c.loop.invariant.1 at c.go_round.ensures.lines in
+    (advances_twice (g.C.Ticks.tells c.args.watch.now.clock.now) (g.C.Ticks.fails c.args.watch.now.clock.now) g.W.Write.contents _ _ _ _ _ _ c.loop.invariant.0 next, search rules, search rules)
+
+pub returns-then-is_none-clause-lines : goal.returns-then-is_none-clause-lines
+returns-then-is_none-clause-lines g c =
+    let next = rw c.loop.invariant.1 at c.go_round.ensures.lines in
+    advances_twice (g.C.Ticks.tells c.args.watch.now.clock.now) (g.C.Ticks.fails c.args.watch.now.clock.now) g.W.Write.contents _ _ _ _ _ _ c.loop.invariant.0 next
