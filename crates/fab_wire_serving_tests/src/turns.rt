@@ -389,18 +389,39 @@ fn first_of_second_line(log: &str) -> &str {
 }
 
 /// Two clients take nothing of answers that are more than is kept together: the first one is let go when
-/// the second one is answered, long before its time is up.
+/// the second one is answered, long before its time is up. The second one goes away when a third one has
+/// its turn.
 #[test]
 fn answers_that_nobody_takes_are_bounded(rt: HostRuntime) {
     let listener = listen(&rt);
     let _first = told(&rt, &listener, b"*");
-    let _second = told(&rt, &listener, b"*");
+    let mut second = Some(told(&rt, &listener, b"*"));
+    let _third = told_whole(&rt, &listener, b"a");
+    let log = BufWriter::new(rt.alloc(), Vec::new(rt.alloc())).expect(&rt, "a log");
+    let mut watch = Watch::new(rt.alloc(), &rt, log, polled(&rt));
+    watch.most = Duration::from_secs(50);
+    let mut echo = Echo::over(None);
+    let mut moment = 999u64;
     let begun = rt.monotonic().expect(&rt, "a clock");
-    let log = log_of(&rt, &rt, 4000, &listener, &[None, None]);
+    serve_on(
+        &mut watch,
+        &mut echo,
+        &listener,
+        &mut || {
+            moment = moment.saturating_add(1);
+            if moment == 1002 {
+                drop(second.take());
+            }
+            Some(moment)
+        },
+        Some(3),
+        &mut || Err(()),
+    )
+    .expect(&rt, "connections");
     let took = rt.monotonic().expect(&rt, "a clock").saturating_sub(begun);
-    assert!(rt; log.starts_with("1000 unsent "));
-    assert!(rt; log.contains("\n1001 unsent "));
-    assert!(rt; !log.starts_with("1000 unsent 4") && took < Duration::from_secs(12));
+    let log = taken(&rt, watch.log.into_inner());
+    assert!(rt; log.starts_with("1000 unsent ") && log.contains("\n1001 unsent "));
+    assert!(rt; took < Duration::from_secs(45));
 }
 
 /// So many connections over which nothing is sent.
