@@ -58,12 +58,7 @@ impl<'g> Exchange<'g> {
 ///
 /// # Errors
 /// That of the socket, which waits for so long at most; then nothing is kept any more.
-fn keep(
-    kept: &mut Vec<u8>,
-    mut stream: &TcpStream,
-    most: Duration,
-    buf: &[u8],
-) -> io::Result<usize>
+fn keep(kept: &mut Vec<u8>, mut stream: &TcpStream, most: Duration, buf: &[u8]) -> io::Result<usize>
     ensures { WritesAtMost result buf.now }
 {
     if kept.extend_from_slice(buf).is_ok() {

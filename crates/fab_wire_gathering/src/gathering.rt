@@ -67,11 +67,8 @@ pub struct Ended {
 /// What the system answers, where it does not watch the descriptor.
 fn watch(poll: &Poll, token: Token, descriptor: RawFd) -> io::Result<()> {
     let ways = Interest::READABLE | Interest::WRITABLE;
-    poll.registry().register(
-        &mut SourceFd(&descriptor),
-        token,
-        ways,
-    )
+    poll.registry()
+        .register(&mut SourceFd(&descriptor), token, ways)
 }
 
 /// Has the listener reported. What it gives without being waited for has to be asked for until there is
@@ -92,11 +89,9 @@ pub fn leave_listener(poll: &Poll, descriptor: RawFd) {
 /// with all others.
 fn watch_again(poll: &Poll, place: usize, descriptor: RawFd) {
     let ways = Interest::READABLE | Interest::WRITABLE;
-    let _ = poll.registry().reregister(
-        &mut SourceFd(&descriptor),
-        Token(place),
-        ways,
-    );
+    let _ = poll
+        .registry()
+        .reregister(&mut SourceFd(&descriptor), Token(place), ways);
 }
 
 /// Goes on with one as far as it can without waiting. Whoever begins to wait for its turn is given a

@@ -159,7 +159,10 @@ impl Guest {
 
     /// How many bytes may be read: as many as a head has at most, or as are wanted.
     fn lacking(&self) -> usize {
-        self.wanted.max(FIRST).saturating_sub(self.bytes.len()).max(1)
+        self.wanted
+            .max(FIRST)
+            .saturating_sub(self.bytes.len())
+            .max(1)
     }
 
     /// Reads what has come of the request. Room for it is had before, so that nothing that was read is
@@ -168,7 +171,7 @@ impl Guest {
         for _ in 0..MOST_PIECES {
             let lacking = self.lacking();
             if self.bytes.reserve_exact(lacking).is_err() {
-                self.wait(Ending::Starved);
+                self.starve(piece);
                 return false;
             }
             let room = room_in(piece, lacking);
@@ -183,6 +186,14 @@ impl Guest {
             }
         }
         true
+    }
+
+    /// There is no memory for what it sends. Where it has sent something, that is read in its turn.
+    fn starve(&mut self, piece: &mut [u8]) {
+        match Went::of(self.stream.peek(room_in(piece, 1))) {
+            Went::Waits => {}
+            _ => self.wait(Ending::Starved),
+        }
     }
 
     /// Keeps what has come, and looks whether it is a whole request.

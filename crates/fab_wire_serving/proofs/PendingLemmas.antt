@@ -101,7 +101,7 @@ module _ {S Store Fault Outcome W : Type 0} (g : server.Ghosts S Store Fault Out
   waiting_marked s x y t (inl e) h = subst (λ (w : Line). IsWaiting g opens gives tells fails contents most s w t) (sym e) h
   waiting_marked s x y t (inr (moment, start, shown, timed)) (played, told, before) = (
     subst (λ (m : ℕ). IsPlayed g opens gives tells fails contents most s m (shown_text y.shown) t) (sym moment)
-    (played_shown s x.moment (shown_text x.shown) (shown_text y.shown) t shown played),
+        (played_shown s x.moment (shown_text x.shown) (shown_text y.shown) t shown played),
     rw start told,
     timed,
   )

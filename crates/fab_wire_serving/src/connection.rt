@@ -10,9 +10,9 @@ ghost use Rattle.fab_wire_serving.specs.Shown.{shown_text};
 ghost use Rattle.fab_wire_serving.specs.Sides.{begun_sides};
 
 use crate::Server;
+use crate::shown::Shown;
 use fab_wire_gathering::clock::Ticks;
 use fab_wire_gathering::deadline::{Deadline, Timed};
-use crate::shown::Shown;
 use fab_wire_gathering::stream::Stream;
 use fab_wire_streams::counted::Counted;
 use std::alloc::Global;

@@ -14,8 +14,9 @@ use crate::{Listens, Server, Watch};
 use fab_wire_gathering::clock::Ticks;
 use fab_wire_gathering::deadline::{Deadline, Timed};
 use fab_wire_gathering::framing::Framing;
-use fab_wire_gathering::gathering::{Ended, Gathering, MOST_GUESTS, Seating};
-use fab_wire_gathering::gathering::{leave_listener, watch_listener};
+use fab_wire_gathering::gathering::{
+    Ended, Gathering, MOST_GUESTS, Seating, leave_listener, watch_listener,
+};
 use fab_wire_gathering::guest::{Ending, Guest};
 use std::io;
 use std::io::{ErrorKind, Write};
@@ -213,7 +214,8 @@ impl Room {
         ensures pending { self.new.pending ≡ self.old.pending }
     {
         let framed = Framed { server };
-        self.gathering.seat(&watch.poll, &framed, stream, now, watch.most)
+        self.gathering
+            .seat(&watch.poll, &framed, stream, now, watch.most)
     }
 
     /// How long may be waited for something to do.
@@ -324,14 +326,8 @@ impl Room {
         } = turn;
         match place {
             Some(place) if guest.ending() != Ending::Starved => {
-                self.gathering.hand(
-                    &watch.poll,
-                    place,
-                    guest,
-                    answer,
-                    number,
-                    deadline,
-                )
+                self.gathering
+                    .hand(&watch.poll, place, guest, answer, number, deadline)
             }
             _ => {
                 self.end_carried(watch, &guest, number, deadline);
@@ -404,11 +400,7 @@ impl Room {
     }
 
     /// Goes on until nobody is there any more.
-    fn see_off<C: Ticks, W: Write, D: Server>(
-        &mut self,
-        watch: &mut Watch<'_, C, W>,
-        server: &D,
-    )
+    fn see_off<C: Ticks, W: Write, D: Server>(&mut self, watch: &mut Watch<'_, C, W>, server: &D)
         ensures clock { watch.new.clock.now ≡ watch.old.clock.now }
         ensures most { watch.new.most ≡ watch.old.most }
         ensures lines { Advances (C.tells watch.old.clock.now) (C.fails watch.old.clock.now) W.contents

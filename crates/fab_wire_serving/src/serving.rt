@@ -42,7 +42,10 @@ pub enum ServeFault {
 
 /// Opens a halted server anew, over a store that `again` opens, once the store that it halted on is
 /// dropped. Where none is opened, or the server is refused over it, it stays halted.
-pub(crate) fn restore<D: Server, O: FnMut() -> Result<D::Store, D::Fault>>(server: &mut D, again: &mut O)
+pub(crate) fn restore<D: Server, O: FnMut() -> Result<D::Store, D::Fault>>(
+    server: &mut D,
+    again: &mut O,
+)
     requires { (state : O) → O.pre state }
     ensures { IsRestored D.Server (Gives O.step) server.old server.new }
 {
@@ -296,5 +299,13 @@ pub fn serve_on<
         close(watch, listener);
         return serve_alone(watch, server, listener, now, count, again);
     }
-    serve_room(watch, server, listener, &mut room, now, turns_of(count), again)
+    serve_room(
+        watch,
+        server,
+        listener,
+        &mut room,
+        now,
+        turns_of(count),
+        again,
+    )
 }

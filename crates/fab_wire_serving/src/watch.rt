@@ -7,9 +7,9 @@ ghost use Rattle.fab_wire_streams.specs.Counting.{inner_of, failures_of};
 ghost use Rattle.fab_wire_serving.specs.Shown.{shown_text};
 ghost use Rattle.fab_wire_serving.specs.Lines.{line_text, Notes, Lasted};
 
-use fab_wire_gathering::clock::Ticks;
 use crate::line::put_line;
 use crate::shown::Shown;
+use fab_wire_gathering::clock::Ticks;
 use fab_wire_streams::counted::Counted;
 use mio::Poll;
 use std::alloc::Global;

@@ -2,9 +2,9 @@
 
 use super::doubles::{Brittle, Ticking};
 use super::echo::Echo;
+use fab_wire_gathering::deadline::Deadline;
 use fab_wire_serving::Shown;
 use fab_wire_serving::connection::serve_stream;
-use fab_wire_gathering::deadline::Deadline;
 use std::alloc::Global;
 use std::process::Abort;
 use std::time::{Duration, Instant};

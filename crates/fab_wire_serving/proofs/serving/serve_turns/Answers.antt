@@ -14,7 +14,7 @@ loop-preserved g c =
     let taken = rw (c.loop.invariant.1, c.loop.invariant.2) at c.in_ok-serve_next.ensures.turn in
     let told = rw c.loop.invariant.1 at c.in_ok-serve_next.ensures.told in
     let all = turn_taken g.D.Server (Gives (O-step g)) (Gives (N-step g)) (g.C.Ticks.tells clock) (g.C.Ticks.fails clock) g.W.Write.contents (as_nanos c.args.watch.now.most)
-        _ _ _ _ _ _ _ _ _ c.loop.invariant.0 taken in
+    _ _ _ _ _ _ _ _ _ c.loop.invariant.0 taken in
     (all, search rules, search rules, told)
 
 pub returns-in_err-serve_next-clause-turns : goal.returns-in_err-serve_next-clause-turns
@@ -23,5 +23,5 @@ returns-in_err-serve_next-clause-turns g c =
     let lines = rw c.loop.invariant.1 at c.in_err-serve_next.ensures.lines in
     let kept = c.in_err-serve_next.ensures.kept in
     let all = played_advances g.D.Server (Gives (O-step g)) (Gives (N-step g)) (g.C.Ticks.tells clock) (g.C.Ticks.fails clock) g.W.Write.contents (as_nanos c.args.watch.now.most)
-        _ _ _ _ _ _ _ _ c.loop.invariant.0 lines in
+    _ _ _ _ _ _ _ _ c.loop.invariant.0 lines in
     (c.loop.counter, rw kept all, search rules, search rules)
