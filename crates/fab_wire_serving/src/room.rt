@@ -228,13 +228,13 @@ impl Room {
     }
 
     /// Notes the turns that have ended.
-    fn mark_ended<C: Ticks, W: Write>(&mut self, watch: &Watch<'_, C, W>, now: Instant)
+    fn mark_ended<C: Ticks, W: Write>(&mut self, watch: &Watch<'_, C, W>)
         ensures starts { self.new.starts ≡ self.old.starts }
         ensures lines { AreMarked (C.tells watch.now.clock.now) (C.fails watch.now.clock.now)
             self.old.pending.lines.items self.new.pending.lines.items }
     {
         for _ in 0..MOST_GUESTS {
-            match self.gathering.next_ended(&watch.poll, now) {
+            match self.gathering.next_ended() {
                 Some(ended) => self.pending.end(watch, ended),
                 None => return,
             }
@@ -257,8 +257,9 @@ impl Room {
         ensures none { IfNone result (C.fails watch.old.clock.now) }
     {
         let now = reading(watch.clock)?;
-        self.mark_ended(watch, now);
+        self.mark_ended(watch);
         self.pending.note(watch);
+        self.gathering.see_off(&watch.poll, now);
         let time = self.time_to_wait(now);
         let knocks = self.gathering.wait(&mut watch.poll, time);
         let now = reading(watch.clock)?;
