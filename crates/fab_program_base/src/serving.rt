@@ -1,8 +1,8 @@
 //! Connections served over a database.
-ghost use Rattle.std.specs.Prelude.{◌≡◌, ◌<◌, OnOk, OnErr};
+ghost use Rattle.std.specs.Prelude.{◌≡◌};
 ghost use Rattle.fab_program_outside.specs.Coming.{After};
 ghost use Rattle.fab_program_base.specs.Exits.{served};
-ghost use Rattle.fab_wire_serving.specs.Turns.{Gives, most_turns};
+ghost use Rattle.fab_wire_serving.specs.Turns.{Gives};
 ghost use Rattle.fab_program_base.specs.Servings.{AreServed, ComesServing, IsServedAt, IsServedBy, IsServedOver};
 
 use crate::addresses::Addresses;
@@ -15,11 +15,9 @@ use fab_program_outside::{Fault, Files, policy_of};
 use fab_store::{OpenFault, Store};
 use fab_wire_base::routes::Routes;
 use fab_wire_serving::{ServeFault, Server, Watch, serve_on};
-use fab_wire_streams::counted::Counted;
 use mio::Poll;
 use std::alloc::Global;
-use std::io::{self, Write};
-use std::net::TcpListener;
+use std::io::Write;
 
 /// Serves connections: as many as are asked for, or until accepting one fails. Each has its line in
 /// the log.
@@ -135,60 +133,11 @@ fn serve_at<
 {
     match outside.listen(asked.listen) {
         Some(listener) => {
-            let came = serve_those(rt, asked, front, &listener, now, log, again);
+            let mut watch = Watch::new(rt.alloc(), rt, log, Poll::new(rt).ok());
+            let came = serve_on(&mut watch, front, &listener, now, asked.count, again);
             end_of(came)
         }
         None => Err(Fault::Listen),
-    }
-}
-
-/// Serves the connections of a listener, if the system can tell which of them are ready.
-///
-/// # Errors
-/// As `serve_on`.
-fn serve_those<
-    S: Store<Global>,
-    N: FnMut() -> Option<u64>,
-    W: Write + Drop,
-    F: FnMut() -> Result<S, OpenFault>,
->(
-    rt: &HostRuntime,
-    asked: &Serve<'_>,
-    front: &mut Front<S>,
-    listener: &TcpListener,
-    now: &mut N,
-    log: W,
-    again: &mut F,
-) -> Result<(), ServeFault>
-    requires now { (state : N) → N.pre state }
-    requires again { (state : F) → F.pre state }
-    ensures { AreServed ⟦<Front<S> as Server>⟧ W.contents (Gives F.step) (Gives N.step) asked.now.count front.old log result }
-{
-    match Poll::new(rt) {
-        Ok(poll) => {
-            let mut watch = Watch::new(rt.alloc(), rt, log, poll);
-            serve_on(&mut watch, front, listener, now, asked.count, again)
-        }
-        Err(error) => {
-            let _begun = Counted::new(log);
-            unserved(asked.count, error)
-        }
-    }
-}
-
-/// How serving ends where the system cannot tell which connections are ready: that is no fault where
-/// none was asked for.
-///
-/// # Errors
-/// `Listener`, with what the system answers.
-fn unserved(count: Option<u64>, error: io::Error) -> Result<(), ServeFault>
-    ensures none { OnOk result (most_turns count ≡ 0) }
-    ensures some { OnErr result (0 < most_turns count) }
-{
-    if count == Some(0) {
-        Ok(())
-    } else {
-        Err(ServeFault::Listener(error))
     }
 }
 

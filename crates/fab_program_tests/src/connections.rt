@@ -85,7 +85,7 @@ fn serve<S: Store<Global>>(
     front: &mut Front<S>,
 ) {
     let log = BufWriter::new(rt.alloc(), Vec::new(rt.alloc())).expect(rt, "a log");
-    let poll = Poll::new(rt).expect(rt, "a poll");
+    let poll = Poll::new(rt).ok();
     let mut watch = Watch::new(rt.alloc(), rt, log, poll);
     let mut moment = 58u64;
     let mut now = || {

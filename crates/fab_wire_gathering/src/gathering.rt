@@ -206,7 +206,7 @@ impl Gathering {
         for (place, seat) in self.seats.iter().enumerate() {
             if let Some(guest) = seat
                 && guest.stage() == Stage::Waits
-                && is_less(guest.number(), &first)
+                && is_before(guest.number(), &first)
             {
                 first = Some((place, guest.number()));
             }
@@ -464,9 +464,9 @@ impl Gathering {
         }
     }
 
-    /// A turn that has ended, of which was not told before. Its connection is let go.
-    pub fn next_ended(&mut self, poll: &Poll, now: Instant) -> Option<Ended> {
-        for (place, seat) in self.seats.iter_mut().enumerate() {
+    /// A turn that has ended, of which was not told before.
+    pub fn next_ended(&mut self) -> Option<Ended> {
+        for seat in &mut self.seats {
             if let Some(guest) = seat
                 && matches!(guest.stage(), Stage::Taken | Stage::Unsent)
             {
@@ -474,14 +474,25 @@ impl Gathering {
                     number: guest.number(),
                     is_taken: guest.stage() == Stage::Taken,
                 };
-                guest.leave(now);
-                if guest.take_rest(&mut self.piece) {
-                    watch_again(poll, place, guest.stream().as_raw_fd());
-                }
+                guest.be_told();
                 return Some(ended);
             }
         }
         None
+    }
+
+    /// Sees off those of whom was told that they have their answers.
+    pub fn see_off(&mut self, poll: &Poll, now: Instant) {
+        for (place, seat) in self.seats.iter_mut().enumerate() {
+            if let Some(guest) = seat
+                && guest.stage() == Stage::Told
+            {
+                guest.leave(now);
+                if guest.take_rest(&mut self.piece) {
+                    watch_again(poll, place, guest.stream().as_raw_fd());
+                }
+            }
+        }
     }
 
     /// Gives up those that take their answers.
@@ -540,18 +551,10 @@ fn end_of(guest: &Guest, is_crowded: bool) -> Instant {
     }
 }
 
-/// Whether a number is below that of the first so far.
-fn is_less(number: u64, first: &Option<(usize, u64)>) -> bool {
+/// Whether a value is before that of the first so far.
+fn is_before<T: Ord + Copy>(value: T, first: &Option<(usize, T)>) -> bool {
     match first {
-        Some((_, other)) => number < *other,
-        None => true,
-    }
-}
-
-/// Whether a time is before that of the first so far.
-fn is_before(time: Instant, first: &Option<(usize, Instant)>) -> bool {
-    match first {
-        Some((_, other)) => time < *other,
+        Some((_, other)) => value < *other,
         None => true,
     }
 }

@@ -46,6 +46,8 @@ pub enum Stage {
     Taken,
     /// It did not take all of its answer.
     Unsent,
+    /// It has taken its answer, and that was told. Nothing more is to be sent.
+    Told,
     /// What it still sends is taken, so many pieces more.
     Leaves(usize),
     /// It is gone.
@@ -281,13 +283,20 @@ impl Guest {
         self.stage = Stage::Takes;
     }
 
-    /// Its answer is sent, or is not: nothing more is, and what it still sends is taken for a while
-    /// (RFC 9112, section 9.6). One whose request failed to come, or that did not take its answer, is
-    /// gone at once.
+    /// What came of its answer was told. One whose request failed to come, or that did not take its
+    /// answer, is gone then.
+    pub fn be_told(&mut self) {
+        self.stage = if self.stage == Stage::Taken && self.ending != Ending::Failed {
+            Stage::Told
+        } else {
+            Stage::Gone
+        };
+    }
+
+    /// Nothing more is sent, and what it still sends is taken for a while (RFC 9112, section 9.6).
     pub fn leave(&mut self, now: Instant) {
         self.deadline = Deadline::after(now, Duration::from_secs(LINGERING_SECONDS));
-        let lingers = self.stage == Stage::Taken && self.ending != Ending::Failed;
-        self.stage = if lingers && self.stream.shutdown(Shutdown::Write).is_ok() {
+        self.stage = if self.stream.shutdown(Shutdown::Write).is_ok() {
             Stage::Leaves(MOST_TAKINGS)
         } else {
             Stage::Gone

@@ -18,6 +18,7 @@ use fab_wire_gathering::gathering::{
     Ended, Gathering, MOST_GUESTS, Seating, leave_listener, watch_listener,
 };
 use fab_wire_gathering::guest::{Ending, Guest};
+use mio::Poll;
 use std::io;
 use std::io::{ErrorKind, Write};
 use std::net::TcpStream;
@@ -49,9 +50,11 @@ pub(crate) struct Turn {
 }
 
 /// The connections that are there, when each was taken up, by its seat, and the lines that wait; the
-/// connection that has no seat yet, how many are still to be taken up, and whether one may wait for that.
+/// connection that has no seat yet, how many are still to be taken up, and whether one may wait for that;
+/// and what tells who is ready.
 #[derive(Drop)]
 pub(crate) struct Room {
+    poll: Poll,
     gathering: Gathering,
     pub starts: Vec<Instant>,
     pub pending: Pending,
@@ -101,7 +104,11 @@ impl Room {
     ///
     /// # Errors
     /// There is no memory for the seats or the lines, or no clock.
-    pub(crate) fn new<C: Ticks, W: Write>(watch: &Watch<'_, C, W>, left: u64) -> io::Result<Self>
+    pub(crate) fn new<C: Ticks, W: Write>(
+        watch: &Watch<'_, C, W>,
+        poll: Poll,
+        left: u64,
+    ) -> io::Result<Self>
         ensures told { IfOk result (λ room. AreTold (C.tells watch.now.clock.now) room.starts.items) }
         ensures lines { IfOk result (λ room. room.pending.lines.items ≡ []) }
     {
@@ -110,6 +117,7 @@ impl Room {
         let pending = Pending::new(watch.alloc)?;
         let gathering = Gathering::new(watch.alloc, now)?;
         Ok(Room {
+            poll,
             gathering,
             starts,
             pending,
@@ -117,6 +125,21 @@ impl Room {
             left,
             knocks: true,
         })
+    }
+
+    /// Has connections reported, and waited for no more.
+    ///
+    /// # Errors
+    /// What the system answers; then connections are waited for as before.
+    pub(crate) fn open<L: Listens>(&self, listener: &L) -> io::Result<()> {
+        watch_listener(&self.poll, listener.descriptor())?;
+        listener.set_waiting(false)
+    }
+
+    /// Has connections reported no more, and waited for again.
+    pub(crate) fn close<L: Listens>(&self, listener: &L) {
+        leave_listener(&self.poll, listener.descriptor());
+        let _ = listener.set_waiting(true);
     }
 
     /// The next connection that wants a seat, if there is one. Where none can be accepted while others
@@ -215,7 +238,7 @@ impl Room {
     {
         let framed = Framed { server };
         self.gathering
-            .seat(&watch.poll, &framed, stream, now, watch.most)
+            .seat(&self.poll, &framed, stream, now, watch.most)
     }
 
     /// How long may be waited for something to do.
@@ -228,13 +251,13 @@ impl Room {
     }
 
     /// Notes the turns that have ended.
-    fn mark_ended<C: Ticks, W: Write>(&mut self, watch: &Watch<'_, C, W>, now: Instant)
+    fn mark_ended<C: Ticks, W: Write>(&mut self, watch: &Watch<'_, C, W>)
         ensures starts { self.new.starts ≡ self.old.starts }
         ensures lines { AreMarked (C.tells watch.now.clock.now) (C.fails watch.now.clock.now)
             self.old.pending.lines.items self.new.pending.lines.items }
     {
         for _ in 0..MOST_GUESTS {
-            match self.gathering.next_ended(&watch.poll, now) {
+            match self.gathering.next_ended() {
                 Some(ended) => self.pending.end(watch, ended),
                 None => return,
             }
@@ -257,12 +280,13 @@ impl Room {
         ensures none { IfNone result (C.fails watch.old.clock.now) }
     {
         let now = reading(watch.clock)?;
-        self.mark_ended(watch, now);
+        self.mark_ended(watch);
         self.pending.note(watch);
+        self.gathering.see_off(&self.poll, now);
         let time = self.time_to_wait(now);
-        let knocks = self.gathering.wait(&mut watch.poll, time);
+        let knocks = self.gathering.wait(&mut self.poll, time);
         let now = reading(watch.clock)?;
-        let are_tried = self.gathering.go_on(&watch.poll, &Framed { server }, now);
+        let are_tried = self.gathering.go_on(&self.poll, &Framed { server }, now);
         self.knocks = self.knocks || knocks || are_tried;
         Some(now)
     }
@@ -327,7 +351,7 @@ impl Room {
         match place {
             Some(place) if guest.ending() != Ending::Starved => {
                 self.gathering
-                    .hand(&watch.poll, place, guest, answer, number, deadline)
+                    .hand(&self.poll, place, guest, answer, number, deadline)
             }
             _ => {
                 self.end_carried(watch, &guest, number, deadline);
@@ -456,22 +480,4 @@ fn waited_for<C: Ticks, W: Write, L: Listens>(
         Some(now) => Ok(carried(watch, stream, now)),
         None => Err(ServeFault::NoClock),
     }
-}
-
-/// Has connections reported, and waited for no more.
-///
-/// # Errors
-/// What the system answers; then connections are waited for.
-pub(crate) fn open<C: Ticks, W: Write, L: Listens>(
-    watch: &Watch<'_, C, W>,
-    listener: &L,
-) -> io::Result<()> {
-    watch_listener(&watch.poll, listener.descriptor())?;
-    listener.set_waiting(false)
-}
-
-/// Has connections reported no more, and waited for again.
-pub(crate) fn close<C: Ticks, W: Write, L: Listens>(watch: &Watch<'_, C, W>, listener: &L) {
-    leave_listener(&watch.poll, listener.descriptor());
-    let _ = listener.set_waiting(true);
 }

@@ -1,7 +1,7 @@
 //! Connections served in turn: requests are gathered, and answers sent, side by side; what they ask is done
 //! one after the other.
 
-ghost use Rattle.std.specs.Prelude.{◌≡◌, ◌<◌, ◌⊎◌, ℕ, List, [], Some, None, length, IfOk, IfErr, OnOk, OnErr};
+ghost use Rattle.std.specs.Prelude.{◌≡◌, ◌<◌, ◌⊎◌, ℕ, List, [], Some, None, length, IfOk, IfErr, IfSome, OnOk, OnErr};
 ghost use Rattle.std.specs.Duration.{as_nanos};
 ghost use Rattle.std.specs.Time.{instant_nanos};
 ghost use Rattle.fab_wire_gathering.specs.Deadlines.{end_of};
@@ -17,7 +17,7 @@ ghost use Rattle.fab_wire_serving.specs.declared.connection.Came.{Came};
 use crate::alone::{begun, serve_alone};
 use crate::connection::{Came, serve_stream};
 use crate::pending::Line;
-use crate::room::{Room, Turn, close, open};
+use crate::room::{Room, Turn};
 use crate::{Listens, Server, Shown, Watch};
 use fab_wire_gathering::clock::Ticks;
 use fab_wire_gathering::deadline::Deadline;
@@ -239,7 +239,7 @@ fn serve_room<
 {
     let came = serve_turns(watch, server, listener, room, now, most, again);
     room.finish(watch, server);
-    close(watch, listener);
+    room.close(listener);
     came
 }
 
@@ -251,6 +251,31 @@ fn turns_of(count: Option<u64>) -> u64
         Some(count) => count,
         None => u64::MAX,
     }
+}
+
+/// A room for the connections of a listener, of which so many are to be taken up; none where there is no
+/// memory for it, or the system does not tell who is ready.
+fn room_for<C: Ticks, W: Write, L: Listens>(
+    watch: &mut Watch<'_, C, W>,
+    listener: &L,
+    left: u64,
+) -> Option<Room>
+    ensures clock { watch.new.clock.now ≡ watch.old.clock.now }
+    ensures most { watch.new.most ≡ watch.old.most }
+    ensures log { watch.new.log ≡ watch.old.log }
+    ensures told { IfSome result (λ room. AreTold (C.tells watch.old.clock.now) room.starts.items) }
+    ensures lines { IfSome result (λ room. room.pending.lines.items ≡ []) }
+{
+    let poll = watch.poll.take()?;
+    let room = match Room::new(watch, poll, left) {
+        Ok(room) => room,
+        Err(_) => return None,
+    };
+    if room.open(listener).is_err() {
+        room.close(listener);
+        return None;
+    }
+    Some(room)
 }
 
 /// Serves connections in turn: as many as `count` says, or without end. `now` gives the Unix seconds,
@@ -292,20 +317,16 @@ pub fn serve_on<
         × OnOk result (length moments ≡ most_turns count) × OnErr result (length moments < most_turns count) }
     ensures fault { IfErr result (IsStopped (L.fails listener.now) (Gives N.step None ⊎ C.fails watch.old.clock.now)) }
 {
-    let Ok(mut room) = Room::new(watch, turns_of(count)) else {
-        return serve_alone(watch, server, listener, now, count, again);
-    };
-    if open(watch, listener).is_err() {
-        close(watch, listener);
-        return serve_alone(watch, server, listener, now, count, again);
+    match room_for(watch, listener, turns_of(count)) {
+        Some(mut room) => serve_room(
+            watch,
+            server,
+            listener,
+            &mut room,
+            now,
+            turns_of(count),
+            again,
+        ),
+        None => serve_alone(watch, server, listener, now, count, again),
     }
-    serve_room(
-        watch,
-        server,
-        listener,
-        &mut room,
-        now,
-        turns_of(count),
-        again,
-    )
 }

@@ -32,14 +32,15 @@ pub struct Watch<'c, C: Ticks, W: Write> {
     pub most: Duration,
     /// Where each connection has its line, and how many writes of it have failed.
     pub log: Counted<W>,
-    /// What tells which connections have sent something, or take more.
-    pub poll: Poll,
+    /// What tells which connections have sent something, or take more, if the system has it; `serve_on`
+    /// takes it.
+    pub poll: Option<Poll>,
 }
 
 impl<'c, C: Ticks, W: Write> Watch<'c, C, W> {
     /// Requests and answers take `MOST_SECONDS` at most by this clock, and connections have their lines in
     /// this log.
-    pub fn new(alloc: Global, clock: &'c C, log: W, poll: Poll) -> Self
+    pub fn new(alloc: Global, clock: &'c C, log: W, poll: Option<Poll>) -> Self
         ensures clock { result.clock.now ≡ clock.entry.now }
         ensures most { as_nanos result.most ≡ 27 * 1_000_000_000 }
         ensures log { inner_of result.log ≡ log }

@@ -74,8 +74,8 @@ fn are_answered(rt: &(impl Abort + AllocGlobal), streams: &[TcpStream], turns: T
 }
 
 /// What tells which connections have sent something.
-fn polled(rt: &(impl Abort + Net)) -> Poll {
-    Poll::new(rt).expect(rt, "a poll")
+fn polled(rt: &(impl Abort + Net)) -> Option<Poll> {
+    Some(Poll::new(rt).expect(rt, "a poll"))
 }
 
 /// What a log has taken that was handed on to it.
