@@ -16,8 +16,8 @@ mod view;
 pub use book::{Delta, PathBook};
 pub use config::Config;
 pub use listing::{
-    MOST_PATHS, PathsFault, add_pair, all_paths, few_paths, host_of, listed, paths_from, plain_paths,
-    targets_of,
+    MOST_PATHS, PathsFault, add_pair, all_paths, few_paths, host_of, listed, paths_from,
+    plain_paths, targets_of,
 };
 pub use owners::{initiators, paths_of};
 pub use path::Path;
