@@ -1,0 +1,4 @@
+pub mod Staying
+pub mod Bounds
+pub mod SetLoops
+mod RowsTold

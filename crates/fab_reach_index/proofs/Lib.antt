@@ -1,0 +1,5 @@
+pub mod Placed
+pub mod ZonesPlaced
+pub mod Patching
+pub mod Patched
+mod Regathering

@@ -1,0 +1,4 @@
+pub mod Indexes
+pub mod KeyLaws
+pub mod Patches
+pub mod Inner
