@@ -1,0 +1,4 @@
+mod Leading
+mod Going
+mod ZonesGathered
+mod GroupsGathered

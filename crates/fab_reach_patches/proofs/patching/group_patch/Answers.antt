@@ -1,0 +1,20 @@
+use Rattle.std.proofs.Common.{ℕ, List}
+use Rattle.std.specs.Ordering.{nat_cmp}
+use Rattle.fab_names.specs.Orders.{name_cmp}
+use Rattle.fab_reach_base.specs.Orders.{path_cmp}
+use Rattle.fab_reach_base.specs.Views.{seen}
+use Rattle.fab_reach_books.specs.Inner.Sets.{HasName, HasPortIn}
+use Rattle.fab_reach_books.specs.Pairs.{pair_cmp}
+use Rattle.fab_reach_index.specs.Indexes.{zone_cmp, PortInZone, ZoneHasPort, IsHostServed, IsHeldBy, IsTargetOf, IsHostGroupOf, IsRowOf}
+use Rattle.fab_reach_index.specs.Inner.Placing.{IsIn}
+use Rattle.fab_reach_moves.specs.Inner.Listing.{SaysHeld}
+use Rattle.fab_reach_moves.specs.Inner.Saying.{IsSaid, SaysServing}
+use Rattle.fab_reach_patches.specs.Inner.Rows.{IsRowIn}
+use Rattle.fab_reach_patches.proofs.Leading.{leads_by}
+use Rattle.fab_reach_patches.proofs.Going.{groups_go}
+use Rattle.fab_reach_patches.proofs.patching.group_patch.Goals as goal
+
+pub returns : goal.returns
+returns g c v t touched =
+    let w = seen c.args.before.now in
+    leads_by name_cmp name_cmp (IsHostServed w) (λ q n. HasName c.args.touched.now n × IsHostServed w q n) (λ q n. HasName c.args.touched.now n × IsHostServed v q n) (IsHostServed v) c.args.index.now.groups c.in_ok-gone.gone c.in_ok-come.come c.in_ok-groups.groups c.requires.groups c.in_ok-gone.ensures (c.in_ok-come.ensures v t) (groups_go w v c.args.touched.now touched) c.in_ok-groups.ensures

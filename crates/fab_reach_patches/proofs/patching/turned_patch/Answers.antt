@@ -1,0 +1,19 @@
+use Rattle.std.proofs.Common.{ℕ, List}
+use Rattle.std.specs.Ordering.{nat_cmp}
+use Rattle.fab_names.specs.Orders.{name_cmp}
+use Rattle.fab_reach_base.specs.Orders.{path_cmp}
+use Rattle.fab_reach_base.specs.Views.{seen}
+use Rattle.fab_reach_books.specs.Inner.Sets.{HasName, HasPortIn}
+use Rattle.fab_reach_books.specs.Pairs.{pair_cmp}
+use Rattle.fab_reach_index.specs.Indexes.{zone_cmp, PortInZone, ZoneHasPort, IsHostServed, IsHeldBy, IsTargetOf, IsHostGroupOf, IsRowOf}
+use Rattle.fab_reach_index.specs.Inner.Placing.{IsIn}
+use Rattle.fab_reach_moves.specs.Inner.Listing.{SaysHeld}
+use Rattle.fab_reach_moves.specs.Inner.Saying.{IsSaid, SaysServing}
+use Rattle.fab_reach_patches.specs.Inner.Rows.{IsRowIn}
+use Rattle.fab_reach_patches.proofs.Leading.{leads_by}
+use Rattle.fab_reach_patches.proofs.Going.{goes_round}
+use Rattle.fab_reach_patches.proofs.patching.turned_patch.Goals as goal
+
+pub returns : goal.returns
+returns g c w v are goes = leads_by zone_cmp nat_cmp (ZoneHasPort w) (λ z p. IsIn nat_cmp zone_cmp c.args.gone.now (p, z)) (λ z p. IsIn nat_cmp zone_cmp c.args.come.now (p, z)) (ZoneHasPort v) c.args.index.now.ports c.in_ok-gone.gone c.in_ok-come.come c.in_ok-ports.ports
+    are c.in_ok-gone.ensures c.in_ok-come.ensures (goes_round (PortInZone w) (λ p z. IsIn nat_cmp zone_cmp c.args.gone.now (p, z)) (λ p z. IsIn nat_cmp zone_cmp c.args.come.now (p, z)) (PortInZone v) goes) c.in_ok-ports.ensures

@@ -1,0 +1,12 @@
+use Rattle.std.proofs.Common.{ℕ, List}
+use Rattle.std.specs.Ordering.{nat_cmp}
+use Rattle.fab_names.specs.Orders.{name_cmp}
+use Rattle.fab_reach_base.specs.Views.{seen}
+use Rattle.fab_reach_books.specs.Inner.Sets.{HasName, HasPortIn}
+use Rattle.fab_reach_index.specs.Indexes.{zone_cmp, PortInZone, IsHostServed, IsTargetOf}
+use Rattle.fab_reach_index.specs.Inner.Placing.{IsIn}
+use Rattle.fab_reach_index.proofs.Placed.{tree_is}
+use Rattle.fab_reach_patches.proofs.zone_maps.zones_before.Goals as goal
+
+pub returns : goal.returns
+returns g c = tree_is nat_cmp zone_cmp (λ p z. HasPortIn c.args.ports.now p × IsIn nat_cmp zone_cmp c.args.index.now.zones (p, z)) c.new-zones.result c.add_all_before.new.zones c.new-zones.ensures.empty c.in_ok-add_all_before.ensures
