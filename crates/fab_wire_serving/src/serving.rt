@@ -317,16 +317,9 @@ pub fn serve_on<
         × OnOk result (length moments ≡ most_turns count) × OnErr result (length moments < most_turns count) }
     ensures fault { IfErr result (IsStopped (L.fails listener.now) (Gives N.step None ⊎ C.fails watch.old.clock.now)) }
 {
-    match room_for(watch, listener, turns_of(count)) {
-        Some(mut room) => serve_room(
-            watch,
-            server,
-            listener,
-            &mut room,
-            now,
-            turns_of(count),
-            again,
-        ),
+    let most = turns_of(count);
+    match room_for(watch, listener, most) {
+        Some(mut room) => serve_room(watch, server, listener, &mut room, now, most, again),
         None => serve_alone(watch, server, listener, now, count, again),
     }
 }

@@ -500,6 +500,29 @@ fn want_of_memory_for_a_request_is_no_failed_read(rt: HostRuntime) {
     assert!(rt; is_answered(&rt, &second, b"b"));
 }
 
+/// The system does not tell who is ready: connections are served one by one, from beginning to end.
+#[test]
+fn without_a_poll_connections_are_served_too(rt: HostRuntime) {
+    let listener = listen(&rt);
+    let streams = told_each(&rt, &listener, TWO);
+    let clock = Ticking::by(0);
+    let log = BufWriter::new(rt.alloc(), Vec::new(rt.alloc())).expect(&rt, "a log");
+    let mut watch = Watch::new(rt.alloc(), &clock, log, None);
+    let mut echo = Echo::over(None);
+    serve_on(
+        &mut watch,
+        &mut echo,
+        &listener,
+        &mut || Some(7),
+        Some(2),
+        &mut || Err(()),
+    )
+    .expect(&rt, "connections");
+    let log = taken(&rt, watch.log.into_inner());
+    assert_eq!(rt; log.as_str(), "7 200 0 ms\n7 200 0 ms\n");
+    assert!(rt; are_answered(&rt, streams.as_slice(), TWO));
+}
+
 /// Accepting fails once, while the first connection is there: that one is served, and then the second.
 #[test]
 fn a_refused_connection_is_waited_for_while_others_are_there(rt: HostRuntime) {
