@@ -18,6 +18,7 @@ A list has a line for each of these:
     # WHAT THE FILE IS                    first, or not at all
     = NAME                                a scenario: a new desk
     | LINE                                a line of its policy; without any, that of the one before
+    % COUNT                               its store hands on so many calls and refuses the next one
     @ MOMENT METHOD TARGET TOKEN          a request: no TOKEN where nobody asks
     > LINE                                a line of its body, whose length is told then
     < STATUS JSON                         the answer: its body without spaces, keys in their order
@@ -183,6 +184,10 @@ def text_of(listed):
             elif mark == "|" and place == "policy":
                 meant(rest)
                 text.append(f"{line}\n")
+            elif mark == "%" and place == "policy":
+                if not rest.isdecimal():
+                    raise Bad("no count of calls")
+                text.append(f"{line}\n")
             elif mark == "@" and place != "nothing":
                 end()
                 exchange, place = Exchange(rest), "request"
@@ -244,7 +249,7 @@ def list_of(text):
             if mark in ("=", "@"):
                 end()
                 moment, request, answer = (rest if mark == "@" else None), b"", b""
-            if mark in ("#", "=", "|"):
+            if mark in ("#", "=", "|", "%"):
                 listed.append(f"{line}\n")
             elif mark == ">":
                 request += meant(rest)
@@ -271,6 +276,7 @@ BAD_LISTS = (
     ("= a\n@ 0 GET /hosts/db1\n< 405 {}\n", "line 3: methods belong to 405"),
     ("= a\n@ 0 GET /hosts/db1\n> \\q\n", "line 3: an escape that is none"),
     ("= a\n| x\n@ 0 GET / t\n< 200 {}\n> y\n", "line 5: a line that is out of place"),
+    ("= a\n% x\n", "line 2: no count of calls"),
 )
 
 

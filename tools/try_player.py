@@ -43,23 +43,27 @@ GOOD = f"# A text.\n= one host\n{POLICY}{ASKED}{ANSWERED}"
 OTHER = ANSWERED.replace("404 Not Found", "200 OK").replace("not-found", "not\\\\found")
 
 
-def difference(reads):
-    """What is told of the answer that differs."""
+def difference(way, recorded=OTHER, answered=ANSWERED, outcome="404"):
+    """What is told of the answer that differs, where it is played in this way."""
     return (
-        f"text, line 11: one host, request 1, read {reads}\n"
-        f"recorded:\n{OTHER}answered:\n{ANSWERED}\n"
+        f"text, line 11: one host, request 1, {way}: {outcome}\n"
+        f"recorded:\n{recorded}answered:\n{answered}\n"
     )
 
 
 # What it is, the bytes of the text, the status, and what is written on standard output and error.
 CASES = (
-    ("what is recorded", GOOD.encode(), 0, "text: 2 answers as recorded, 0 otherwise\n", ""),
+    ("what is recorded", GOOD.encode(), 0, "text: 6 answers as recorded, 0 otherwise\n", ""),
     (
         "an answer that differs",
         f"# A text.\n= one host\n{POLICY}{ASKED}{OTHER}{ASKED}{ANSWERED}".encode(),
         1,
-        difference("whole") + difference("byte by byte")
-        + "text: 2 answers as recorded, 2 otherwise\n",
+        difference("read whole") + difference("read byte by byte")
+        + difference("read behind reads that fail")
+        + difference("answered until a write fails", "< HTTP/1.1 200 OK\\r\n< Content-Type: \\\n",
+                     "< HTTP/1.1 404 Not Found\\r\n< Content\\\n", "unsent")
+        + difference("served in a list")
+        + "text: 7 answers as recorded, 5 otherwise\n",
         "",
     ),
     ("no first line", GOOD[10:].encode(), 3, "", "text: line 1 is not of the form\n"),
@@ -70,6 +74,12 @@ CASES = (
     ("a mark alone", f"{GOOD}@\n".encode(), 3, "", "text: line 21 is not of the form\n"),
     ("no moment", f"{GOOD}@ now\n".encode(), 3, "", "text: line 21 is not of the form\n"),
     ("no scenario", f"# A text.\n{ASKED}".encode(), 3, "", "text: line 2 is not of the form\n"),
+    ("no count of calls", b"# A text.\n= a\n% x\n", 3, "", "text: line 3 is not of the form\n"),
+    ("a refused call too late", f"{GOOD}% 1\n".encode(), 3, "", "text: line 21 is not of the form\n"),
+    (
+        "a desk that is not opened", f"# A text.\n= a\n{POLICY}% 0\n{ASKED}".encode(), 3, "",
+        "text: the scenario of line 2 gets no desk\n",
+    ),
     ("a policy too late", f"{GOOD}| x\n".encode(), 3, "", "text: line 21 is not of the form\n"),
     ("a request too late", f"{GOOD}> x\n".encode(), 3, "", "text: line 21 is not of the form\n"),
     (

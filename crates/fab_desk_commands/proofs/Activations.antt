@@ -125,12 +125,12 @@ module _ (A : Type 0) (w : WorldRows) (caller n : List ℕ) (p : PlanRecord) (is
 -- what the activation changed
 pub changed_by : {A : Type 0} (w : WorldRows) (n : List ℕ) (c : ConfigRows) (next : Next A) → IsActivation w n c next → (change : Change) × IsDifference w.config c change.taken change.added × ((p : PlanRecord) → IsPlan w n p → next_world w next ≡ after w n p c change)
 changed_by w n c Same h = absurd h
-changed_by w n c (Stock v) h = absurd h
+changed_by w n c (Stock v d) h = absurd h
 changed_by w n c (Staged m p) h = absurd h
 changed_by w n c (Turned m t) h = absurd h
 changed_by w n c (Reconfigured config m Withdrawn order) h = absurd h.2
 changed_by w n c (Reconfigured config m (Approved given) order) h = absurd h.2
-changed_by w n c (Reconfigured config m RolledBack order) h = absurd h.2
+changed_by w n c (Reconfigured config m (RolledBack d) order) h = absurd h.2
 changed_by {A} w n c (Reconfigured config m (Activated d) order) h = (change_in d, h.2, world)
   where
     world : (p : PlanRecord) → IsPlan w n p → placed config order.items (turned_at m (Activated d) w) ≡ after w n p c (change_in d)
@@ -138,17 +138,17 @@ changed_by {A} w n c (Reconfigured config m (Activated d) order) h = (change_in 
 
 pub is_reconfiguration : {A : Type 0} (w : WorldRows) (n : List ℕ) (c : ConfigRows) (next : Next A) → IsActivation w n c next → IsReconfiguration n next
 is_reconfiguration w n c Same h = absurd h
-is_reconfiguration w n c (Stock v) h = absurd h
+is_reconfiguration w n c (Stock v d) h = absurd h
 is_reconfiguration w n c (Staged m p) h = absurd h
 is_reconfiguration w n c (Turned m t) h = absurd h
 is_reconfiguration w n c (Reconfigured config m t order) h = h.1
 
 pub activation_suits : {A : Type 0} (w : WorldRows) (n : List ℕ) (p : PlanRecord) → IsPlan w n p → state_of p.standing ≡ state.Staged → (c : ConfigRows) (next : Next A) → IsActivation w n c next → w.revision < MOST_CHANGES → Suits w next
 activation_suits w n p is waits c Same h few = absurd h
-activation_suits w n p is waits c (Stock v) h few = absurd h
+activation_suits w n p is waits c (Stock v d) h few = absurd h
 activation_suits w n p is waits c (Staged m q) h few = absurd h
 activation_suits w n p is waits c (Turned m t) h few = absurd h
 activation_suits w n p is waits c (Reconfigured config m Withdrawn order) h few = absurd h.2
 activation_suits w n p is waits c (Reconfigured config m (Approved given) order) h few = absurd h.2
-activation_suits w n p is waits c (Reconfigured config m RolledBack order) h few = absurd h.2
+activation_suits w n p is waits c (Reconfigured config m (RolledBack d) order) h few = absurd h.2
 activation_suits w n p is waits c (Reconfigured config m (Activated d) order) h few = ((p, subst (λ k. IsPlan w k p) (sym h.1) is, waits), few, subst (λ k. IsDifference w.config k d.taken.items d.added.items) (sym h.0) h.2)

@@ -55,7 +55,7 @@ module _ {A : Type 0} (w : WorldRows) where
   -- room is no port, no holder, no volume, and nothing of the configuration
   pub records_stay : (next : Next A) → records_of (with_room w next) ≡ records_of w
   records_stay Same = refl
-  records_stay (Stock v) = refl
+  records_stay (Stock v d) = refl
   records_stay (Staged n p) = refl
   records_stay (Turned n t) = refl
   records_stay (Reconfigured c n t order) = refl
@@ -63,7 +63,7 @@ module _ {A : Type 0} (w : WorldRows) where
   -- over the room the parts make the same world
   pub same_next : (next : Next A) → next_world (with_room w next) next ≡ next_world w next
   same_next Same = refl
-  same_next (Stock v) = refl
+  same_next (Stock v d) = refl
   same_next (Staged n p) = ap (with_plans w) (twice w.plans n (blank_plan n) p)
   same_next (Turned n t) = refl
   same_next (Reconfigured c n t order) = refl
@@ -71,7 +71,7 @@ module _ {A : Type 0} (w : WorldRows) where
   -- the parts are for the world with room for them
   pub room_made : (next : Next A) → Suits w next → IsReadyFor (with_room w next) next
   room_made Same h = h
-  room_made (Stock v) h = h
+  room_made (Stock v d) h = h
   room_made (Staged n p) h = put_there w.plans n (blank_plan n)
   room_made (Turned n t) h = h
   room_made (Reconfigured c n t order) h = h
@@ -79,7 +79,7 @@ module _ {A : Type 0} (w : WorldRows) where
   -- room that is given back
   pub given_back : (next : Next A) → Suits w next → without_room (with_room w next) next ≡ w
   given_back Same h = refl
-  given_back (Stock v) h = refl
+  given_back (Stock v d) h = refl
   given_back (Staged n p) h = ap (with_plans w) (taken_back w.plans n (blank_plan n) h)
   given_back (Turned n t) h = refl
   given_back (Reconfigured c n t order) h = refl

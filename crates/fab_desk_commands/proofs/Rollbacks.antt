@@ -18,6 +18,7 @@ use Rattle.fab_reach_base.specs.Records.{ConfigRows}
 use Rattle.fab_reach_base.proofs.Same.{same_some}
 use Rattle.fab_store_rows.specs.declared.record_row.PlanState.TheVariants as state
 use Rattle.fab_world.specs.History.{IsEarlier, changes_of, LeadsBack}
+use Rattle.fab_store_rows.specs.Differences.{IsDifference}
 use Rattle.fab_world.specs.PlanRecords.{PlanRecord, Standing, staged, active, rolled_back, withdrawn}
 use Rattle.fab_world.specs.Plans.{Change, state_of, undo_of, IsActive}
 use Rattle.fab_world.specs.Soundness.{IsSound, IsSoundPlan, ListsActive}
@@ -168,33 +169,33 @@ module _ (A : Type 0) (w : WorldRows) (caller n : List ℕ) (p : PlanRecord) (is
 
 -- ---- the parts of the world after it
 
-pub rolled_world : {A : Type 0} (w : WorldRows) (n : List ℕ) (c : ConfigRows) (rest : List (List ℕ)) (next : Next A) → IsRollback n c rest next → (p : PlanRecord) → IsPlan w n p → next_world w next ≡ after w n p c rest
+pub rolled_world : {A : Type 0} (w : WorldRows) (n : List ℕ) (c : ConfigRows) (rest : List (List ℕ)) (next : Next A) → IsRollback w n c rest next → (p : PlanRecord) → IsPlan w n p → next_world w next ≡ after w n p c rest
 rolled_world w n c rest Same h p is = absurd h
-rolled_world w n c rest (Stock v) h p is = absurd h
+rolled_world w n c rest (Stock v d) h p is = absurd h
 rolled_world w n c rest (Staged m q) h p is = absurd h
 rolled_world w n c rest (Turned m t) h p is = absurd h
 rolled_world w n c rest (Reconfigured config m Withdrawn order) h p is = absurd h
 rolled_world w n c rest (Reconfigured config m (Approved given) order) h p is = absurd h
 rolled_world w n c rest (Reconfigured config m (Activated d) order) h p is = absurd h
-rolled_world {A} w n c rest (Reconfigured config m RolledBack order) h p is =
-    (λ i. placed (h.0 i) (h.2 i) (turned_at {A = A} (h.1 i) RolledBack w)) ∙ ap (λ o. placed c rest (with_turn {A = A} n RolledBack o w)) is
+rolled_world {A} w n c rest (Reconfigured config m (RolledBack d) order) h p is =
+    (λ i. placed (h.0 i) (h.3 i) (turned_at (h.1 i) (RolledBack d) w)) ∙ ap (λ o. placed c rest (with_turn n (RolledBack d) o w)) is
 
-pub is_reconfiguration : {A : Type 0} (n : List ℕ) (c : ConfigRows) (rest : List (List ℕ)) (next : Next A) → IsRollback n c rest next → IsReconfiguration n next
-is_reconfiguration n c rest Same h = absurd h
-is_reconfiguration n c rest (Stock v) h = absurd h
-is_reconfiguration n c rest (Staged m q) h = absurd h
-is_reconfiguration n c rest (Turned m t) h = absurd h
-is_reconfiguration n c rest (Reconfigured config m Withdrawn order) h = absurd h
-is_reconfiguration n c rest (Reconfigured config m (Approved given) order) h = absurd h
-is_reconfiguration n c rest (Reconfigured config m (Activated d) order) h = absurd h
-is_reconfiguration n c rest (Reconfigured config m RolledBack order) h = h.1
+pub is_reconfiguration : {A : Type 0} (w : WorldRows) (n : List ℕ) (c : ConfigRows) (rest : List (List ℕ)) (next : Next A) → IsRollback w n c rest next → IsReconfiguration n next
+is_reconfiguration w n c rest Same h = absurd h
+is_reconfiguration w n c rest (Stock v d) h = absurd h
+is_reconfiguration w n c rest (Staged m q) h = absurd h
+is_reconfiguration w n c rest (Turned m t) h = absurd h
+is_reconfiguration w n c rest (Reconfigured config m Withdrawn order) h = absurd h
+is_reconfiguration w n c rest (Reconfigured config m (Approved given) order) h = absurd h
+is_reconfiguration w n c rest (Reconfigured config m (Activated d) order) h = absurd h
+is_reconfiguration w n c rest (Reconfigured config m (RolledBack d) order) h = h.1
 
-pub rollback_suits : {A : Type 0} (w : WorldRows) (n : List ℕ) (p : PlanRecord) → IsPlan w n p → state_of p.standing ≡ state.Active → (c : ConfigRows) (rest : List (List ℕ)) (next : Next A) → IsRollback n c rest next → w.revision < MOST_CHANGES → Suits w next
+pub rollback_suits : {A : Type 0} (w : WorldRows) (n : List ℕ) (p : PlanRecord) → IsPlan w n p → state_of p.standing ≡ state.Active → (c : ConfigRows) (rest : List (List ℕ)) (next : Next A) → IsRollback w n c rest next → w.revision < MOST_CHANGES → Suits w next
 rollback_suits w n p is works c rest Same h few = absurd h
-rollback_suits w n p is works c rest (Stock v) h few = absurd h
+rollback_suits w n p is works c rest (Stock v d) h few = absurd h
 rollback_suits w n p is works c rest (Staged m q) h few = absurd h
 rollback_suits w n p is works c rest (Turned m t) h few = absurd h
 rollback_suits w n p is works c rest (Reconfigured config m Withdrawn order) h few = absurd h
 rollback_suits w n p is works c rest (Reconfigured config m (Approved given) order) h few = absurd h
 rollback_suits w n p is works c rest (Reconfigured config m (Activated d) order) h few = absurd h
-rollback_suits w n p is works c rest (Reconfigured config m RolledBack order) h few = ((p, subst (λ k. IsPlan w k p) (sym h.1) is, works), few, tt)
+rollback_suits w n p is works c rest (Reconfigured config m (RolledBack d) order) h few = ((p, subst (λ k. IsPlan w k p) (sym h.1) is, works), few, subst (λ k. IsDifference w.config k d.taken.items d.added.items) (sym h.0) h.2)

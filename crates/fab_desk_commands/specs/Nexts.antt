@@ -5,6 +5,7 @@ use Rattle.fab_names.specs.Orders.{name_cmp}
 use Rattle.fab_reach_base.specs.Records.{ConfigRows}
 use Rattle.fab_store_rows.specs.Differences.{IsDifference}
 use Rattle.fab_store_rows.specs.declared.record_row.PlanState.TheVariants as state
+use Rattle.fab_store_world.specs.Inventories.{IsInventoryDifference}
 use Rattle.fab_world.specs.PlanRecords.{PlanRecord, active, rolled_back, withdrawn}
 use Rattle.fab_world.specs.Plans.{state_of}
 use Rattle.fab_world.specs.Worlds.{WorldRows}
@@ -23,7 +24,7 @@ abbrev pub turned : {A : Type 0} → Turn A → PlanRecord → PlanRecord
 turned Withdrawn p = record p { standing = withdrawn }
 turned (Approved approvals) p = record p { approvals = map.from_entries approvals.entries }
 turned (Activated change) p = record p { standing = active change.taken.items change.added.items }
-turned RolledBack p = record p { standing = rolled_back }
+turned (RolledBack change) p = record p { standing = rolled_back }
 
 -- the plans with this one of them after the turn, if it is there
 abbrev pub plans_turned : {A : Type 0} → List ℕ → Turn A → Option PlanRecord → map.FinMap name_cmp PlanRecord → map.FinMap name_cmp PlanRecord
@@ -41,7 +42,7 @@ turned_at n t w = with_turn n t (map.get w.plans n) w
 -- the world that the parts make of this one
 abbrev pub next_world : {A : Type 0} → WorldRows → Next A → WorldRows
 next_world w Same = w
-next_world w (Stock v) = counted (with_inventory v w)
+next_world w (Stock v change) = counted (with_inventory v w)
 next_world w (Staged n p) = with_plan n p w
 next_world w (Turned n t) = turned_at n t w
 next_world w (Reconfigured c n t order) = counted (record (turned_at n t w) { config = c; order = order.items })
@@ -50,22 +51,23 @@ next_world w (Reconfigured c n t order) = counted (record (turned_at n t w) { co
 
 -- the plan is in the state that the turn leads from
 abbrev pub Leads : {A : Type 0} → Turn A → PlanRecord → Type 0
-Leads RolledBack p = state_of p.standing ≡ state.Active
+Leads (RolledBack change) p = state_of p.standing ≡ state.Active
 Leads _ p = state_of p.standing ≡ state.Staged
 
 -- the plan of this name is there, in the state that the turn leads from
 abbrev pub LeadsAt : {A : Type 0} → WorldRows → List ℕ → Turn A → Type 0
 LeadsAt w n t = (p : PlanRecord) × IsPlan w n p × Leads t p
 
--- an activation tells what it takes from the one configuration and adds in the other
+-- an activation and a rollback tell what they take from the one configuration and add in the other
 abbrev pub TellsChange : {A : Type 0} → ConfigRows → ConfigRows → Turn A → Type 0
 TellsChange before after (Activated change) = IsDifference before after change.taken.items change.added.items
-TellsChange before after _ = Unit {0}
+TellsChange before after (RolledBack change) = IsDifference before after change.taken.items change.added.items
+TellsChange before after _ = ⊥
 
 -- the parts are for this world: it may take them over, once there is room for them
 abbrev pub Suits : {A : Type 0} → WorldRows → Next A → Type 0
 Suits w Same = Unit {0}
-Suits w (Stock v) = w.revision < MOST_CHANGES
+Suits w (Stock v change) = (w.revision < MOST_CHANGES) × IsInventoryDifference w.inventory v change
 Suits w (Staged n p) = map.contains_key w.plans n ≡ false
 Suits w (Turned n t) = LeadsAt w n t
 Suits w (Reconfigured c n t order) = LeadsAt w n t × (w.revision < MOST_CHANGES) × TellsChange w.config c t

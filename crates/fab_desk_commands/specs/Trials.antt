@@ -45,9 +45,9 @@ abbrev pub IsBeforePlan : WorldRows → PlanRecord → ConfigRows → Type 0
 IsBeforePlan w p before = (change : Change) × (undo_of p.standing ≡ Some change) × IsOnlyEarlier w.config change before
 
 -- the parts are those of a rollback that leads to the configuration, and leaves these in force
-abbrev pub IsRollback : {A : Type 0} → List ℕ → ConfigRows → List (List ℕ) → Next A → Type 0
-IsRollback n c rest (Reconfigured config m RolledBack order) = (config ≡ c) × (m ≡ n) × (order.items ≡ rest)
-IsRollback n c rest _ = ⊥
+abbrev pub IsRollback : {A : Type 0} → WorldRows → List ℕ → ConfigRows → List (List ℕ) → Next A → Type 0
+IsRollback w n c rest (Reconfigured config m (RolledBack change) order) = (config ≡ c) × (m ≡ n) × IsDifference w.config c change.taken.items change.added.items × (order.items ≡ rest)
+IsRollback w n c rest _ = ⊥
 
 -- why there is no way back: something is gone that the configuration from before the plan names, or
 -- there is no memory

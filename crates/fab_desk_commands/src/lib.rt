@@ -4,6 +4,7 @@
 #![tactic(auto)]
 
 mod activation;
+mod again;
 mod found;
 mod holders;
 mod imports;
@@ -18,6 +19,7 @@ mod turns;
 mod volumes;
 
 pub use activation::activated;
+pub use again::copied;
 pub use holders::{holder_dropped, holder_put};
 pub use imports::imported;
 pub use next::{Next, Turn};

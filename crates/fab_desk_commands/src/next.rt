@@ -11,6 +11,7 @@ use fab_inventory::Inventory;
 use fab_names::Name;
 use fab_reach_base::Config;
 use fab_store_rows::RowDifference;
+use fab_store_world::InventoryDifference;
 use fab_world::{KeptPlan, World};
 use std::alloc::{AllocError, Allocator};
 use std::collections::BTreeMap;
@@ -24,8 +25,8 @@ pub enum Turn<A: Allocator + Copy> {
     Approved(BTreeMap<Name, u64, A>),
     /// A staged plan is active, and its activation made this difference.
     Activated(RowDifference<A>),
-    /// An active plan is rolled back.
-    RolledBack,
+    /// An active plan is rolled back, and its rollback makes this difference.
+    RolledBack(RowDifference<A>),
 }
 
 /// The parts of the world that a change leaves others than they were. All memory for them is taken,
@@ -33,8 +34,11 @@ pub enum Turn<A: Allocator + Copy> {
 pub enum Next<A: Allocator + Copy> {
     /// The world stays as it is.
     Same,
-    /// Another inventory, by one change more.
-    Stock(Inventory<A>),
+    /// Another inventory, by one change more, and the rows in which it differs.
+    Stock {
+        inventory: Inventory<A>,
+        change: InventoryDifference<A>,
+    },
     /// One plan more, under a name that no plan has.
     Staged {
         name: Name,
@@ -60,7 +64,10 @@ impl<A: Allocator + Copy> Drop for Next<A> {
     fn drop(self) {
         match self {
             Next::Same => {}
-            Next::Stock(_) => {}
+            Next::Stock {
+                inventory: _,
+                change: _,
+            } => {}
             Next::Staged { name: _, plan: _ } => {}
             Next::Turned { name: _, turn: _ } => {}
             Next::Reconfigured {
@@ -167,7 +174,10 @@ impl<A: Allocator + Copy> Next<A> {
     {
         match self {
             Next::Same => {}
-            Next::Stock(inventory) => stock(world, inventory),
+            Next::Stock {
+                inventory,
+                change: _change,
+            } => stock(world, inventory),
             Next::Staged { name, plan } => put_plan(world, &name, plan),
             Next::Turned { name, turn } => turn_in(alloc, world, &name, turn),
             Next::Reconfigured {

@@ -1,5 +1,7 @@
 //! The rollback of the last plan in force.
 ghost use Rattle.std.specs.Prelude.{◌<◌, ℕ, List, length, IfOk, IfErr, MatchOption};
+ghost use Rattle.fab_reach_base.specs.Records.{ConfigRows};
+ghost use Rattle.fab_store_rows.specs.Differences.{IsDifference};
 ghost use Rattle.fab_mapping.specs.Gone.{IsFirstGone};
 ghost use Rattle.fab_mapping.specs.Soundness.{Fits};
 ghost use Rattle.fab_world.specs.Soundness.{IsSound};
@@ -14,12 +16,14 @@ ghost use Rattle.fab_desk_commands.specs.Nexts.{next_world, Suits};
 ghost use Rattle.fab_desk_commands.specs.Kinds.{IsReconfiguration};
 ghost use Rattle.fab_desk_commands.specs.Trials.{HasEarlier, IsBeforePlan, IsRollback, IsRestoreFault};
 
+use crate::again::turned_round;
 use crate::found::active_at;
 use crate::{Next, Turn};
 use fab_desk_base::DeskFault;
 use fab_mapping::Gone;
 use fab_names::Name;
 use fab_reach_base::Config;
+use fab_store_rows::RowDifference;
 use fab_world::{KeptPlan, World, earlier};
 use std::alloc::{AllocError, Allocator};
 
@@ -92,22 +96,43 @@ fn restored<A: Allocator + Copy>(
     }
 }
 
+/// What the rollback of the plan changes, which is there: what its activation changed, turned round.
+fn change_back<A: Allocator + Copy>(
+    alloc: A,
+    world: &World<A>,
+    kept: &KeptPlan<A>,
+) -> Result<RowDifference<A>, AllocError>
+    requires { HasEarlier world.now kept.now }
+    ensures { (before : ConfigRows) → IsBeforePlan world.now kept.now before → IfOk result (λ d. IsDifference world.now.config before d.taken.items d.added.items) }
+{
+    let _world = world;
+    let Some(undo) = kept.undo() else {
+        unreachable!();
+    };
+    turned_round(alloc, undo)
+}
+
 /// The parts of the world after the rollback of the plan, which leads to this configuration and
 /// leaves these plans in force.
 fn parts_before<A: Allocator + Copy>(
     alloc: A,
+    world: &World<A>,
+    kept: &KeptPlan<A>,
     plan: &Name,
     config: Config<A>,
     rest: &[Name],
 ) -> Result<Next<A>, AllocError>
-    ensures { IfOk result (IsRollback plan.now config rest.now) }
+    requires earlier { HasEarlier world.now kept.now }
+    requires before { IsBeforePlan world.now kept.now config }
+    ensures { IfOk result (IsRollback world.now plan.now config rest.now) }
 {
+    let change = change_back(alloc, world, kept)?;
     let mut order = Vec::new(alloc);
     order.extend_from_slice(rest)?;
     Ok(Next::Reconfigured {
         config,
         name: *plan,
-        turn: Turn::RolledBack,
+        turn: Turn::RolledBack(change),
         order,
     })
 }
@@ -144,7 +169,7 @@ pub fn rolled_back<A: Allocator + Copy>(
         Ok(config) => config,
         Err(fault) => return Err(fault),
     };
-    match parts_before(alloc, plan, config, rest) {
+    match parts_before(alloc, world, kept, plan, config, rest) {
         Ok(next) => Ok(next),
         Err(_) => Err(DeskFault::Memory),
     }

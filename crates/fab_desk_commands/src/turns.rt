@@ -80,7 +80,7 @@ fn to_turned<A: Allocator + Copy>(was: AnyPlan<A>, turn: Turn<A>) -> AnyPlan<A>
         Turn::Withdrawn => to_withdrawn(was),
         Turn::Approved(approvals) => to_approved(was, approvals),
         Turn::Activated(change) => to_active(was, change),
-        Turn::RolledBack => to_rolled_back(was),
+        Turn::RolledBack(_change) => to_rolled_back(was),
     }
 }
 

@@ -1,18 +1,22 @@
 -- What the trial of a command gives, said of the command.
-use Rattle.std.proofs.Common.{ℕ, ◌≡◌, List, [], Result, Ok, Err, IfOk, IfErr, true, sym, subst}
+use Rattle.std.proofs.Common.{ℕ, ◌≡◌, List, [], Result, Ok, Err, IfOk, IfErr, true, inl, inr, sym, subst}
 use Rattle.fab_inventory.specs.Inventories.{InventoryRows}
 use Rattle.fab_policy_base.specs.Policies.{PolicyRows}
+use Rattle.fab_store_world.specs.Inventories.{IsInventoryDifference}
+use Rattle.fab_store_world.specs.declared.inventories.InventoryDifference.{InventoryDifference}
 use Rattle.fab_world.specs.Worlds.{WorldRows}
 use Rattle.fab_desk_commands.specs.Nexts.{next_world, Suits}
 use Rattle.fab_desk_commands.specs.declared.next.Next.{Next}
+use Rattle.fab_desk_commands.specs.declared.next.Next.TheVariants.{Stock}
 use Rattle.fab_desk_base.specs.Answers.{IsThere}
 use Rattle.fab_desk_base.specs.Commands.{is_counted, tried}
 use Rattle.fab_desk_base.specs.Effects.{counted, with_inventory}
 use Rattle.fab_desk_base.specs.Trying.{IsMade, StaysSound, IsTryFault}
 use Rattle.fab_desk_base.specs.declared.command.Command.{Command}
 use Rattle.fab_desk_base.specs.declared.fault.DeskFault.{DeskFault}
-use Rattle.fab_desk_machine.specs.Trials.{stock_effect, plan_effect, MayCount, IsTried}
-use Rattle.fab_world.proofs.WholeWorld.{ok_as}
+use Rattle.fab_desk_machine.specs.Trials.{IsStockEffect, IsStockFault, plan_effect, MayCount, IsTried}
+use Rattle.fab_desk_machine.specs.declared.effects.Effect.{Effect}
+use Rattle.fab_desk_machine.specs.declared.effects.Effect.TheVariants.{Parts}
 
 -- a policy, where any does
 pub no_policy : PolicyRows
@@ -24,17 +28,25 @@ there w c k is h p id = subst (IsThere p w id) is (h p id)
 
 -- t is the command as it is tried
 module _ {A : Type 0} (w : WorldRows) (caller : List ℕ) (c t : Command A) (same : t ≡ tried c) where
-  pub stock_ok : (r : Result InventoryRows DeskFault) → is_counted t ≡ true → IfOk r (λ v. IsMade w caller t (counted (with_inventory v w))) → IfOk r (λ v. StaysSound w t (counted (with_inventory v w))) → IfOk (stock_effect r) (IsTried w caller c)
-  stock_ok (Ok v) counts made sound = record {
+  -- the effect on the inventory, once it is known which one
+  stock_tried : (v : InventoryRows) (d : InventoryDifference A) → is_counted t ≡ true → IsMade w caller t (counted (with_inventory v w)) → StaysSound w t (counted (with_inventory v w)) → IsInventoryDifference w.inventory v d → IsTried w caller c (Parts (Stock v d))
+  stock_tried v d counts made sound differs = record {
     made = subst (λ x. IsMade w caller x (counted (with_inventory v w))) same made;
-    suits = λ may. may (subst (λ x. is_counted x ≡ true) same counts);
+    suits = λ may. (may (subst (λ x. is_counted x ≡ true) same counts), differs);
     sound = subst (λ x. StaysSound w x (counted (with_inventory v w))) same sound;
   }
-  stock_ok (Err q) counts made sound = made
 
-  pub stock_err : (r : Result InventoryRows DeskFault) → IfErr r (IsTryFault w caller t) → IfErr (stock_effect {A = A} r) (IsTryFault w caller (tried c))
-  stock_err (Ok v) h = h
-  stock_err (Err q) h = subst (λ x. IsTryFault w caller x q) same h
+  pub stock_ok : (r : Result InventoryRows DeskFault) (x : Result (Effect A) DeskFault) → is_counted t ≡ true → IfOk r (λ v. IsMade w caller t (counted (with_inventory v w))) → IfOk r (λ v. StaysSound w t (counted (with_inventory v w))) → IfOk x (IsStockEffect w r) → IfOk x (IsTried w caller c)
+  stock_ok r (Ok e) counts made sound h =
+      let made_here = subst (λ y. IfOk y (λ v. IsMade w caller t (counted (with_inventory v w)))) h.1 made in
+      let sound_here = subst (λ y. IfOk y (λ v. StaysSound w t (counted (with_inventory v w)))) h.1 sound in
+      subst (IsTried w caller c) (sym h.2.1) (stock_tried h.0 h.2.0 counts made_here sound_here h.2.2)
+  stock_ok r (Err q) counts made sound h = h
+
+  pub stock_err : (r : Result InventoryRows DeskFault) (x : Result (Effect A) DeskFault) → IfErr r (IsTryFault w caller t) → IfErr x (IsStockFault r) → IfErr x (IsTryFault w caller (tried c))
+  stock_err r (Ok e) h why = why
+  stock_err r (Err q) h (inl e) = subst (IsTryFault w caller (tried c)) (sym e) tt
+  stock_err r (Err q) h (inr e) = subst (λ x. IsTryFault w caller x q) same (subst (λ y. IfErr y (IsTryFault w caller t)) e h)
 
   pub plan_ok : (r : Result (Next A) DeskFault) → IfOk r (λ n. IsMade w caller t (next_world w n)) → IfOk r (λ n. MayCount w t → Suits w n) → IfOk r (λ n. StaysSound w t (next_world w n)) → IfOk (plan_effect r) (IsTried w caller c)
   plan_ok (Ok n) made suits sound = record {

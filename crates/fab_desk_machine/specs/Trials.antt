@@ -1,10 +1,12 @@
 -- What a command that is tried would make of the world, and when it is ready.
-use Rattle.std.specs.Prelude.{ℕ, ◌≡◌, ◌<◌, List, Option, None, Some, Result, Ok, Err, Bool, true, false}
+use Rattle.std.specs.Prelude.{ℕ, ◌≡◌, ◌<◌, ◌⊎◌, List, Option, None, Some, Result, Ok, Err, Bool, true, false}
 use Rattle.std.specs.FinMap as map
 use Rattle.fab_inventory.specs.Inventories.{InventoryRows}
 use Rattle.fab_policy.specs.declared.act.Verdict.{Verdict}
 use Rattle.fab_policy.specs.declared.act.Verdict.TheVariants.{Allowed, Denied}
 use Rattle.fab_reach_base.specs.Records.{Records}
+use Rattle.fab_store_world.specs.Inventories.{IsInventoryDifference}
+use Rattle.fab_store_world.specs.declared.inventories.InventoryDifference.{InventoryDifference}
 use Rattle.fab_world.specs.Soundness.{IsSound}
 use Rattle.fab_world.specs.Worlds.{WorldRows, records_of}
 use Rattle.fab_world.specs.declared.limits.TheConstants.{MOST_CHANGES}
@@ -35,10 +37,13 @@ abbrev pub effect_world : {A : Type 0} → WorldRows → List ℕ → Command A 
 effect_world w caller c (Parts next) = next_world w next
 effect_world w caller c NewPlan = planned w caller c
 
--- the inventory after a command is its effect
-abbrev pub stock_effect : {A : Type 0} → Result InventoryRows DeskFault → Result (Effect A) DeskFault
-stock_effect (Ok v) = Ok (Parts (Stock v))
-stock_effect (Err q) = Err q
+-- the inventory after a command is its effect, with the rows in which it differs
+abbrev pub IsStockEffect : {A : Type 0} → WorldRows → Result InventoryRows DeskFault → Effect A → Type 0
+IsStockEffect {A} w r e = (v : InventoryRows) × (r ≡ Ok v) × ((change : InventoryDifference A) × (e ≡ Parts (Stock v change)) × IsInventoryDifference w.inventory v change)
+
+-- why it has none: the refusal of the command, or there is no memory
+abbrev pub IsStockFault : Result InventoryRows DeskFault → DeskFault → Type 0
+IsStockFault r q = (q ≡ fault.Memory) ⊎ (r ≡ Err q)
 
 -- the parts after a command on a plan are its effect
 abbrev pub plan_effect : {A : Type 0} → Result (Next A) DeskFault → Result (Effect A) DeskFault

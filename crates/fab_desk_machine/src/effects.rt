@@ -5,7 +5,7 @@ ghost use Rattle.fab_policy_base.specs.Policies.{PolicyRows};
 ghost use Rattle.fab_desk_base.specs.Answers.{IsThere};
 ghost use Rattle.fab_desk_base.specs.Commands.{IsGiven, action_of, tried};
 ghost use Rattle.fab_desk_base.specs.Trying.{IsTryFault};
-ghost use Rattle.fab_desk_machine.specs.Trials.{IsTried, stock_effect, plan_effect, staging_effect};
+ghost use Rattle.fab_desk_machine.specs.Trials.{IsTried, IsStockEffect, IsStockFault, plan_effect, staging_effect};
 
 use fab_desk_base::{Command, DeskFault};
 use fab_desk_commands::{
@@ -14,6 +14,7 @@ use fab_desk_commands::{
 };
 use fab_inventory::Inventory;
 use fab_names::Name;
+use fab_store_world::inventory_difference;
 use fab_world::World;
 use std::alloc::Allocator;
 
@@ -26,15 +27,25 @@ pub enum Effect<A: Allocator + Copy> {
     NewPlan,
 }
 
-/// The effect of a command on the inventory.
+/// The effect of a command on the inventory: it tells the rows in which the inventory differs.
+///
+/// # Errors
+/// The refusal, or `Memory`.
 fn of_stock<A: Allocator + Copy>(
+    alloc: A,
+    world: &World<A>,
     tried: Result<Inventory<A>, DeskFault>,
 ) -> Result<Effect<A>, DeskFault>
-    ensures { result ≡ stock_effect tried }
+    ensures ok { IfOk result (IsStockEffect world.now tried) }
+    ensures err { IfErr result (IsStockFault tried) }
 {
-    match tried {
-        Ok(inventory) => Ok(Effect::Parts(Next::Stock(inventory))),
-        Err(fault) => Err(fault),
+    let inventory = match tried {
+        Ok(inventory) => inventory,
+        Err(fault) => return Err(fault),
+    };
+    match inventory_difference(alloc, &world.inventory, &inventory) {
+        Ok(change) => Ok(Effect::Parts(Next::Stock { inventory, change })),
+        Err(_) => Err(DeskFault::Memory),
     }
 }
 
@@ -78,16 +89,24 @@ pub fn effect_of<A: Allocator + Copy>(
     ensures err { IfErr result (IsTryFault world.now caller.now (tried command.now)) }
 {
     match command {
-        Command::Import { fabric, rows } => of_stock(imported(world, *fabric, rows)),
+        Command::Import { fabric, rows } => of_stock(alloc, world, imported(world, *fabric, rows)),
         Command::PutHolder {
             kind,
             name,
             tenant,
             ports,
-        } => of_stock(holder_put(world, *kind, name, tenant, ports)),
-        Command::PutVolume { name, volume } => of_stock(volume_put(world, name, volume)),
-        Command::DropHolder { kind, name } => of_stock(holder_dropped(world, *kind, name)),
-        Command::DropVolume { name } => of_stock(volume_dropped(world, name)),
+        } => of_stock(alloc, world, holder_put(world, *kind, name, tenant, ports)),
+        Command::PutVolume { name, volume } => of_stock(
+            alloc,
+            world,
+            volume_put(world, name, volume),
+        ),
+        Command::DropHolder { kind, name } => of_stock(
+            alloc,
+            world,
+            holder_dropped(world, *kind, name),
+        ),
+        Command::DropVolume { name } => of_stock(alloc, world, volume_dropped(world, name)),
         Command::Stage { plan, steps } => of_staging(is_staged_already(world, caller, plan, steps)),
         Command::Withdraw { plan } => of_plan(withdrawn(world, plan)),
         Command::Approve { plan } => of_plan(approved(alloc, world, caller, plan)),

@@ -31,7 +31,7 @@ pub fn moved_view<'a, A: Allocator + Copy>(
     ensures { (caller : List ℕ) (c : Command A) → MatchOption result (KeepsRecords world.now caller c effect.now) (λ view. AreRecordsAfter world.now caller c effect.now (seen view)) }
 {
     match effect {
-        Effect::Parts(Next::Stock(inventory)) => Some(View::of(inventory, &world.config)),
+        Effect::Parts(Next::Stock { inventory, .. }) => { Some(View::of(inventory, &world.config)) }
         Effect::Parts(Next::Reconfigured { config, .. }) => {
             Some(View::of(&world.inventory, config))
         }

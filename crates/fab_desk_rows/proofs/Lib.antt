@@ -1,5 +1,6 @@
 pub mod WorldPlans
 pub mod CountRows
+pub mod InventoriesTold
 pub mod Listed
 pub mod Sorted
 pub mod OnePlan

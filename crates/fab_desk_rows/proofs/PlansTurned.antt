@@ -28,13 +28,13 @@ author_stays : {A : Type 0} (t : Turn A) (p : PlanRecord) → (turned t p).autho
 author_stays Withdrawn p = refl
 author_stays (Approved m) p = refl
 author_stays (Activated d) p = refl
-author_stays RolledBack p = refl
+author_stays (RolledBack d) p = refl
 
 steps_stay : {A : Type 0} (t : Turn A) (p : PlanRecord) → (turned t p).steps ≡ p.steps
 steps_stay Withdrawn p = refl
 steps_stay (Approved m) p = refl
 steps_stay (Activated d) p = refl
-steps_stay RolledBack p = refl
+steps_stay (RolledBack d) p = refl
 
 module _ {A : Type 0} (w v : WorldRows) (n : List ℕ) (t : Turn A) (ns : List (List ℕ)) (p : PlanRecord) (is : map.get w.plans n ≡ Some p) (turns : IsTurnedTo w n t ns v) where
   plans_are : v.plans ≡ map.insert w.plans n (turned t p)

@@ -1,5 +1,5 @@
 -- The plans of a world, looked up.
-use Rattle.std.proofs.Common.{◌≡◌, ℕ, List, Result, Ok, Err, IfOk}
+use Rattle.std.proofs.Common.{◌≡◌, ℕ, List}
 use Rattle.std.specs.BTreeMap.{BTreeMap, get}
 use Rattle.std.specs.FinMap as map
 use Rattle.fab_lemmas.proofs.SeenMaps.{same_look_ups}
@@ -7,7 +7,6 @@ use Rattle.fab_names.specs.Orders.{name_cmp}
 use Rattle.fab_names.proofs.OrderLaws.{name_total}
 use Rattle.fab_world.specs.PlanRecords.{PlanRecord}
 use Rattle.fab_world.specs.Worlds.{WorldRows}
-use Rattle.fab_world.proofs.WholeWorld.{ok_as}
 
 -- the tree of the plans of a world
 pub look : (t : BTreeMap (List ℕ) PlanRecord) (w : WorldRows) → map.from_entries t.entries ≡ w.plans → get name_cmp t ≡ map.get w.plans

@@ -115,6 +115,6 @@ pub fn turned_approvals<A: Allocator + Copy>(
 {
     match turn {
         Turn::Approved(approvals) => approvals_moved(alloc, name, kept, approvals),
-        Turn::Withdrawn | Turn::Activated(_) | Turn::RolledBack => Ok(none_moved(alloc)),
+        Turn::Withdrawn | Turn::Activated(_) | Turn::RolledBack(_) => Ok(none_moved(alloc)),
     }
 }

@@ -17,7 +17,7 @@ fn revision_after<A: Allocator + Copy>(world: &World<A>, next: &Next<A>) -> u64
     ensures { result ≡ (next_world world.now next.now).revision }
 {
     match next {
-        Next::Stock(_) | Next::Reconfigured { .. } => world.revision + 1,
+        Next::Stock { .. } | Next::Reconfigured { .. } => world.revision + 1,
         Next::Same | Next::Staged { .. } | Next::Turned { .. } => world.revision,
     }
 }

@@ -12,12 +12,11 @@ ghost use Rattle.fab_desk_commands.specs.Nexts.{next_world, Suits, TellsChange};
 ghost use Rattle.fab_desk_rows.specs.Moves.{ArePartsMoved};
 
 use crate::paths::path_rows_moved;
-use fab_desk_commands::{Next, Turn};
+use fab_desk_commands::{Next, Turn, copied};
+use fab_inventory::Port;
 use fab_reach_base::{Config, Delta, View};
-use fab_store_rows::{ConfigRow, RowDifference, difference};
-use fab_store_world::{
-    InventoryDifference, InventoryLists, PathRowDifference, inventory_difference,
-};
+use fab_store_rows::{ConfigRow, HolderRow, RowDifference, VolumeRow};
+use fab_store_world::{InventoryDifference, InventoryLists, PathRowDifference};
 use fab_world::World;
 use std::alloc::{AllocError, Allocator};
 
@@ -34,7 +33,7 @@ fn view_after<'a, A: Allocator + Copy>(world: &'a World<A>, next: &'a Next<A>) -
     ensures { seen result ≡ records_of (next_world world.now next.now) }
 {
     match next {
-        Next::Stock(inventory) => View::of(inventory, &world.config),
+        Next::Stock { inventory, .. } => View::of(inventory, &world.config),
         Next::Reconfigured { config, .. } => View::of(&world.inventory, config),
         Next::Same | Next::Staged { .. } | Next::Turned { .. } => {
             View::of(&world.inventory, &world.config)
@@ -73,33 +72,54 @@ fn same_config<A: Allocator + Copy>(alloc: A) -> RowDifference<A>
     }
 }
 
+/// Rows of an inventory once more.
+fn lists_again<A: Allocator + Copy>(
+    alloc: A,
+    lists: &InventoryLists<A>,
+) -> Result<InventoryLists<A>, AllocError>
+    ensures { IfOk result (λ again. (again.ports.items ≡ lists.now.ports.items) × (again.holders.items ≡ lists.now.holders.items) × (again.volumes.items ≡ lists.now.volumes.items)) }
+{
+    let ports = copied::<A, Port>(alloc, lists.ports.as_slice())?;
+    let holders = copied::<A, HolderRow>(alloc, lists.holders.as_slice())?;
+    let volumes = copied::<A, VolumeRow>(alloc, lists.volumes.as_slice())?;
+    Ok(InventoryLists {
+        ports,
+        holders,
+        volumes,
+    })
+}
+
+/// The rows in which two inventories differ, once more.
+fn inventory_told<A: Allocator + Copy>(
+    alloc: A,
+    change: &InventoryDifference<A>,
+) -> Result<InventoryDifference<A>, AllocError>
+    ensures { IfOk result (λ again. (v w : InventoryRows) → IsInventoryDifference v w change.now → IsInventoryDifference v w again) }
+{
+    let taken = lists_again(alloc, &change.taken)?;
+    let added = lists_again(alloc, &change.added)?;
+    Ok(InventoryDifference { taken, added })
+}
+
 /// The rows of the inventory in which the next world differs.
 fn inventory_moved<A: Allocator + Copy>(
     alloc: A,
     world: &World<A>,
     next: &Next<A>,
 ) -> Result<InventoryDifference<A>, AllocError>
+    requires { Suits world.now next.now }
     ensures { IfOk result (IsInventoryDifference world.now.inventory (next_world world.now next.now).inventory) }
 {
+    let _world = world;
     match next {
-        Next::Stock(inventory) => inventory_difference(alloc, &world.inventory, inventory),
+        Next::Stock { change, .. } => inventory_told(alloc, change),
         Next::Same | Next::Staged { .. } | Next::Turned { .. } | Next::Reconfigured { .. } => {
             Ok(same_inventory(alloc))
         }
     }
 }
 
-/// Rows of a configuration once more.
-fn copied<A: Allocator + Copy>(
-    alloc: A,
-    rows: &[ConfigRow],
-) -> Result<Vec<ConfigRow, A>, AllocError>
-    ensures { IfOk result (λ copy. copy.items ≡ rows.now) }
-{
-    rows.iter().copied().collect(alloc)
-}
-
-/// The rows in which a configuration differs to which a turn leads: an activation tells them.
+/// The rows in which a configuration differs to which a turn leads: the turn tells them.
 fn rows_told<A: Allocator + Copy>(
     alloc: A,
     world: &World<A>,
@@ -109,15 +129,15 @@ fn rows_told<A: Allocator + Copy>(
     requires { TellsChange world.now.config config.now turn.now }
     ensures { IfOk result (λ d. IsDifference world.now.config config.now d.taken.items d.added.items) }
 {
+    let _world = world;
+    let _config = config;
     match turn {
-        Turn::Activated(change) => {
-            let taken = copied(alloc, change.taken.as_slice())?;
-            let added = copied(alloc, change.added.as_slice())?;
+        Turn::Activated(change) | Turn::RolledBack(change) => {
+            let taken = copied::<A, ConfigRow>(alloc, change.taken.as_slice())?;
+            let added = copied::<A, ConfigRow>(alloc, change.added.as_slice())?;
             Ok(RowDifference { taken, added })
         }
-        Turn::Withdrawn | Turn::Approved(_) | Turn::RolledBack => {
-            difference(alloc, &world.config, config)
-        }
+        Turn::Withdrawn | Turn::Approved(_) => unreachable!(),
     }
 }
 
@@ -132,7 +152,7 @@ fn config_moved<A: Allocator + Copy>(
 {
     match next {
         Next::Reconfigured { config, turn, .. } => rows_told(alloc, world, config, turn),
-        Next::Same | Next::Stock(_) | Next::Staged { .. } | Next::Turned { .. } => {
+        Next::Same | Next::Stock { .. } | Next::Staged { .. } | Next::Turned { .. } => {
             Ok(same_config(alloc))
         }
     }

@@ -107,7 +107,7 @@ fn state_after<A: Allocator + Copy>(turn: &Turn<A>) -> PlanState
         Turn::Withdrawn => PlanState::Withdrawn,
         Turn::Approved(_) => PlanState::Staged,
         Turn::Activated(_) => PlanState::Active,
-        Turn::RolledBack => PlanState::RolledBack,
+        Turn::RolledBack(_) => PlanState::RolledBack,
     }
 }
 
@@ -178,7 +178,7 @@ pub fn plan_tables_moved<A: Allocator + Copy>(
     ensures { IfOk result (ArePlanTablesMoved world.now (next_world world.now next.now)) }
 {
     match next {
-        Next::Same | Next::Stock(_) => Ok(no_tables(alloc)),
+        Next::Same | Next::Stock { .. } => Ok(no_tables(alloc)),
         Next::Staged { name, plan, .. } => staged_tables(alloc, world, name, plan),
         Next::Turned { name, turn } => {
             turned_tables(alloc, world, name, turn, world.order.as_slice())

@@ -108,7 +108,7 @@ pub fn turned_undo<A: Allocator + Copy>(
 {
     match turn {
         Turn::Activated(change) => rows_added(alloc, name, change),
-        Turn::RolledBack => undone(alloc, name, kept),
+        Turn::RolledBack(_change) => undone(alloc, name, kept),
         Turn::Withdrawn | Turn::Approved(_) => Ok(none_moved(alloc)),
     }
 }

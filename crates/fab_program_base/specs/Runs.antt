@@ -10,6 +10,9 @@ use Rattle.fab_program_outside.specs.Telling.{IsTold}
 use Rattle.fab_program_outside.specs.declared.faults.Fault.{Fault}
 use Rattle.fab_program_outside.specs.declared.faults.Fault.TheVariants as fault
 use Rattle.fab_program_outside.specs.declared.files.Files as files
+use Rattle.fab_wire_serving.specs.declared.server.Server as server
+use Rattle.fab_wire.specs.declared.outcome.Outcome.{Outcome}
+use Rattle.fab_store.specs.declared.OpenFault.{OpenFault}
 use Rattle.fab_store.specs.declared.Store as store
 use Rattle.fab_program_options.specs.declared.reading.WordsFault.{WordsFault}
 use Rattle.fab_program_options.specs.declared.reading.WordsFault.TheVariants as wrong
@@ -17,6 +20,7 @@ use Rattle.fab_program_options.specs.declared.words.Words.{Words}
 use Rattle.fab_program_options.specs.declared.words.Words.TheVariants as words
 use Rattle.fab_program_base.specs.Commands.{DryRunComes, ImportComes, ShowComes}
 use Rattle.fab_program_base.specs.Databases.{IsMade}
+use Rattle.fab_program_base.specs.Desks.{ProgramDesk}
 use Rattle.fab_program_base.specs.Exits.{end_of_making, end_only}
 use Rattle.fab_program_base.specs.Looks.{WhyComes, WhoComes, NamesComes}
 use Rattle.fab_program_base.specs.Once.{ComesOnce}
@@ -43,13 +47,14 @@ EndsLike {W} Came ended = (done : Result (W × End) Fault) × Came done × (ende
 abbrev pub EndsAt : {W : Type 0} → Option ℕ → (Option ℕ → Type 0) → (Result ℕ Fault → Result (W × End) Fault → Type 0) → Result End Fault → Type 0
 EndsAt given Tells Came ended = (moment : Result ℕ Fault) × IsMoment given Tells moment × EndsLike (Came moment) ended
 
-module _ {O F T M Reader Writer : Type 0} (f : files.Ghosts O F) (known : F → Option (List ℕ)) (d : databases.Ghosts O T) (a : addresses.Ghosts O)
-    (t : store.Ghosts T Global) (Makes : Result M Fault → Type 0) (m : store.Ghosts M Global) (remaining : Reader → Option (List ℕ)) (contents : Writer → Option (List ℕ)) (Tells : Option ℕ → Type 0) where
+module _ {O F T M D Reader Writer : Type 0} (f : files.Ghosts O F) (known : F → Option (List ℕ)) (d : databases.Ghosts O T) (a : addresses.Ghosts O)
+    (t : store.Ghosts T Global) (Makes : Result M Fault → Type 0) (m : store.Ghosts M Global) (remaining : Reader → Option (List ℕ)) (contents : Writer → Option (List ℕ)) (Tells : Option ℕ → Type 0)
+    (w : server.Ghosts D T OpenFault Outcome) (desk_of : D → ProgramDesk T) (gives : Option ℕ → Type 0) where
   -- what each subcommand comes to
   abbrev pub Comes : O → Words → Reader → Writer → Result End Fault → Type 0
   Comes outside (words.Init asked) reader writer ended =
       (made : Result (Unit {0}) Fault) × IsMade (f.measures outside asked.db.now) (d.makes outside asked.db.now) made × (ended ≡ end_of_making made)
-  Comes outside (words.Serve asked) reader writer ended = ComesServing f known d a t outside asked ended
+  Comes outside (words.Serve asked) reader writer ended = ComesServing f known d a t w desk_of contents gives outside asked writer ended
   Comes outside (words.Once asked) reader writer ended =
       EndsAt asked.now Tells (λ moment. ComesOnce f known d t Makes m remaining contents outside asked.over moment reader writer) ended
   Comes outside (words.Import asked) reader writer ended = EndsAt asked.now Tells (λ moment. ImportComes f known d t contents outside asked moment writer) ended

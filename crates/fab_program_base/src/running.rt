@@ -9,11 +9,13 @@ ghost use Rattle.fab_wire_streams.specs.Sinks.{Wrote, WroteSome};
 ghost use Rattle.fab_program_options.specs.Asking.{Asks};
 ghost use Rattle.fab_program_options.specs.declared.words.Words.{Words};
 ghost use Rattle.fab_program_base.specs.Exits.{IsExitStatus, end_of_making, end_only, status_of, words_status};
+ghost use Rattle.fab_wire_serving.specs.Turns.{Gives};
 ghost use Rattle.fab_program_base.specs.Runs.{Comes, IsToldOf, IsToldOfWords};
 
 use crate::addresses::Addresses;
 use crate::commands::{dry_run, export, import, paths, report};
 use crate::database::{Databases, make};
+use crate::front::Front;
 use crate::looks::{names, who, why};
 use crate::once::once;
 use crate::serving::serve;
@@ -21,6 +23,7 @@ use fab_files::End;
 use fab_program_options::{Words, WordsFault, read_words};
 use fab_program_outside::{Fault, Files, Machine, fail, moment_of, refuse_text};
 use fab_store::{SqlStore, Store};
+use fab_wire_serving::Server;
 use fab_wire_streams::counted::Counted;
 use sqlite::MemStore;
 use std::alloc::Global;
@@ -108,7 +111,7 @@ fn carry_out<
     writer: W,
 ) -> Result<End, Fault>
     requires { (state : N) → N.pre state }
-    ensures { Comes O.Files O.File.remaining O.Databases O.Addresses O.Tables.Store (λ made. IfOk made (λ tables. HasCleanDisk (state over_memory tables.conn) → IsNewDesk (tables_of (state over_memory tables.conn).now.trees))) ⟦<SqlStore<MemStore> as Store<Global>>⟧ R.remaining W.contents (λ told. N.step now.old told now.new) outside.now asked.now reader writer result }
+    ensures { Comes O.Files O.File.remaining O.Databases O.Addresses O.Tables.Store (λ made. IfOk made (λ tables. HasCleanDisk (state over_memory tables.conn) → IsNewDesk (tables_of (state over_memory tables.conn).now.trees))) ⟦<SqlStore<MemStore> as Store<Global>>⟧ R.remaining W.contents (λ told. N.step now.old told now.new) ⟦<Front<O::Tables> as Server>⟧ (λ front. front.desk) (Gives N.step) outside.now asked.now reader writer result }
 {
     let alloc = rt.alloc();
     match asked {

@@ -2,7 +2,8 @@
 ghost use Rattle.std.specs.Prelude.{◌≡◌};
 ghost use Rattle.fab_program_outside.specs.Coming.{After};
 ghost use Rattle.fab_program_base.specs.Exits.{served};
-ghost use Rattle.fab_program_base.specs.Servings.{ComesServing, IsServedAt, IsServedBy, IsServedOver};
+ghost use Rattle.fab_wire_serving.specs.Turns.{Gives};
+ghost use Rattle.fab_program_base.specs.Servings.{AreServed, ComesServing, IsServedAt, IsServedBy, IsServedOver};
 
 use crate::addresses::Addresses;
 use crate::database::{Databases, ProgramDesk, desk_over, tables_again};
@@ -13,7 +14,7 @@ use fab_program_options::Serve;
 use fab_program_outside::{Fault, Files, policy_of};
 use fab_store::{OpenFault, Store};
 use fab_wire_base::routes::Routes;
-use fab_wire_serving::{ServeFault, Watch, serve_on};
+use fab_wire_serving::{ServeFault, Server, Watch, serve_on};
 use std::alloc::Global;
 use std::io::Write;
 
@@ -30,7 +31,7 @@ pub fn serve<O: Files + Databases + Addresses, N: FnMut() -> Option<u64>, W: Wri
     log: W,
 ) -> Result<End, Fault>
     requires { (state : N) → N.pre state }
-    ensures { ComesServing O.Files O.File.remaining O.Databases O.Addresses O.Tables.Store outside.now asked.now result }
+    ensures { ComesServing O.Files O.File.remaining O.Databases O.Addresses O.Tables.Store ⟦<Front<O::Tables> as Server>⟧ (λ front. front.desk) W.contents (Gives N.step) outside.now asked.now log result }
 {
     let db = asked.db;
     match policy_of(rt.alloc(), outside, asked.policy) {
@@ -62,7 +63,7 @@ fn serve_over<
 ) -> Result<End, Fault>
     requires now { (state : N) → N.pre state }
     requires again { (state : F) → F.pre state }
-    ensures { After store (λ s. IsServedOver (O.listens outside.now asked.now.listen.now) S.Store s policy) result }
+    ensures { After store (λ s. IsServedOver ⟦<Front<S> as Server>⟧ W.contents (Gives F.step) (Gives N.step) asked.now.count (λ front. front.desk) (O.listens outside.now asked.now.listen.now) S.Store s policy log) result }
 {
     match store {
         Ok(store) => {
@@ -91,7 +92,7 @@ fn serve_by<
 ) -> Result<End, Fault>
     requires now { (state : N) → N.pre state }
     requires again { (state : F) → F.pre state }
-    ensures { After desk (λ d. IsServedBy (O.listens outside.now asked.now.listen.now)) result }
+    ensures { After desk (λ d. IsServedBy ⟦<Front<S> as Server>⟧ W.contents (Gives F.step) (Gives N.step) asked.now.count (λ front. front.desk) (O.listens outside.now asked.now.listen.now) d log) result }
 {
     match desk {
         Ok(desk) => match Routes::new(rt.alloc()) {
@@ -127,7 +128,7 @@ fn serve_at<
 ) -> Result<End, Fault>
     requires now { (state : N) → N.pre state }
     requires again { (state : F) → F.pre state }
-    ensures { IsServedAt (O.listens outside.now asked.now.listen.now) result }
+    ensures { IsServedAt (O.listens outside.now asked.now.listen.now) (AreServed ⟦<Front<S> as Server>⟧ W.contents (Gives F.step) (Gives N.step) asked.now.count front.old log) result }
 {
     match outside.listen(asked.listen) {
         Some(listener) => {

@@ -1,6 +1,6 @@
-//! Tests of the program `sandesk` by calls of `run`; of the statements of its tables; and want of memory
-//! under a desk that is asked over the wire, one of whose requests for memory is refused, the first,
-//! then the next, until a request meets no refusal. Nothing here is part of the product.
+//! Tests of the program `sandesk` by calls of `run`; and want of memory under a desk that is asked over
+//! the wire, one of whose requests for memory is refused, the first, then the next, until a request
+//! meets no refusal. Nothing here is part of the product.
 #![tactic(auto)]
 
 #[cfg(test)]
@@ -21,8 +21,6 @@ mod growth;
 mod quiet;
 #[cfg(test)]
 mod runs;
-#[cfg(test)]
-mod statements;
 #[cfg(test)]
 mod tables;
 #[cfg(test)]

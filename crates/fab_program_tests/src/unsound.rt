@@ -1,4 +1,5 @@
-//! Databases that somebody else changed: what the program says of each, and that it does nothing.
+//! Databases that somebody else changed: what the program says of each, and which status it ends with,
+//! each time that it is asked.
 
 use super::runs::{QUIET, Run, are_run, put};
 use fab_policy_base::TRIAL_POLICY;

@@ -2,7 +2,6 @@
 //! bytes, and the streams that carry them and fail once. It is no part of the product.
 #![tactic(auto)]
 
-pub mod bytes;
 pub mod rows;
 pub mod streams;
 mod turns;

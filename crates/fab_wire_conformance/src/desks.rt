@@ -1,20 +1,20 @@
-//! A new desk in memory, and what it answers.
+//! New desks in memory.
 
 use crate::faults::Fault;
-use crate::scenarios::Exchange;
-use crate::sips::Sips;
+use crate::scenarios::Scenario;
 use fab_policy_base::Policy;
 use fab_reach::PortBook;
-use fab_store::SqlStore;
-use fab_wire::{Desk, serve_one};
-use fab_wire_base::routes::Routes;
-use fab_wire_streams::counted::Counted;
+use fab_store::{RefusingStore, SqlStore};
+use fab_wire::Desk;
 use sqlite::{Connection, MemStore};
 use std::alloc::Global;
 use std::str;
 
-/// A desk over tables in memory.
-pub type MemoryDesk = Desk<Global, SqlStore<MemStore>, PortBook<Global>>;
+/// Tables in memory, of which one call may be refused.
+type MemoryStore = RefusingStore<SqlStore<MemStore>>;
+
+/// A desk over them.
+pub type MemoryDesk = Desk<Global, MemoryStore, PortBook<Global>>;
 
 /// The policy that a text spells.
 fn policy_of(alloc: Global, text: &[u8]) -> Option<Policy> {
@@ -27,62 +27,43 @@ fn policy_of(alloc: Global, text: &[u8]) -> Option<Policy> {
     }
 }
 
-/// New tables.
-fn new_tables(alloc: Global) -> Option<SqlStore<MemStore>> {
+/// New tables, of whose calls one is refused behind so many, if one is.
+fn new_tables(alloc: Global, calls: Option<u64>) -> Option<MemoryStore> {
     let Ok(connection) = Connection::open_in_memory(alloc) else {
         return None;
     };
     let mut tables = SqlStore::new(connection, alloc);
     match tables.init() {
-        Ok(()) => Some(tables),
+        Ok(()) => Some(RefusingStore::new(tables, calls.unwrap_or(u64::MAX))),
         Err(_) => None,
     }
 }
 
 /// A desk over these tables.
-fn desk_over(alloc: Global, tables: SqlStore<MemStore>, policy: Policy) -> Option<MemoryDesk> {
+fn desk_over(alloc: Global, tables: MemoryStore, policy: Policy) -> Option<MemoryDesk> {
     match Desk::open(alloc, tables, policy) {
         Ok(desk) => Some(desk),
         Err(_) => None,
     }
 }
 
-/// A new desk for the scenario that begins at this line, with the policy of this text.
+/// A new desk for a scenario, with the policy of this text.
 ///
 /// # Errors
 /// `Policy` where the text spells none, and `Desk` where there is no desk.
-pub fn new_desk(alloc: Global, line: usize, policy: &[u8]) -> Result<MemoryDesk, Fault> {
+pub fn new_desk(
+    alloc: Global,
+    scenario: &Scenario<'_>,
+    policy: &[u8],
+) -> Result<MemoryDesk, Fault> {
     let Some(policy) = policy_of(alloc, policy) else {
-        return Err(Fault::Policy(line));
+        return Err(Fault::Policy(scenario.line));
     };
-    let Some(tables) = new_tables(alloc) else {
-        return Err(Fault::Desk(line));
+    let Some(tables) = new_tables(alloc, scenario.calls) else {
+        return Err(Fault::Desk(scenario.line));
     };
     match desk_over(alloc, tables, policy) {
         Some(desk) => Ok(desk),
-        None => Err(Fault::Desk(line)),
+        None => Err(Fault::Desk(scenario.line)),
     }
-}
-
-/// What a desk answers to a request, of whose bytes each read gets so many at most.
-pub fn answer_of(
-    alloc: Global,
-    routes: &Routes,
-    desk: &mut MemoryDesk,
-    exchange: &Exchange,
-    most: usize,
-) -> Vec<u8> {
-    let bytes = exchange.request.as_slice();
-    let mut reader = Counted::new(Sips { bytes, most });
-    let mut writer = Counted::new(Vec::new(alloc));
-    let _outcome = serve_one(
-        alloc,
-        alloc,
-        routes,
-        desk,
-        exchange.moment,
-        &mut reader,
-        &mut writer,
-    );
-    writer.into_inner()
 }

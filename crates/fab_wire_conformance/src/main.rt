@@ -10,15 +10,17 @@
 //!
 //! None is made by the desk itself. Nothing here is part of the product.
 //!
-//! Each scenario is played by two new desks in memory: one reads each request whole, the other byte by
-//! byte. For each file a line says how many answers are as recorded. The form of a file is told in
+//! Each scenario is played by a new desk in memory in each of six ways: each request is read whole; byte
+//! by byte; behind others of which a read fails, of which nothing comes; with an answer that breaks off,
+//! or that nobody takes, though the desk has acted; and all of them as one list. For each file a line
+//! says how many answers are as recorded. The form of a file is told in
 //! `texts`; a line that is not of it ends the player, which tells the file and the line on standard
 //! error, with status 3. So does a policy that is none.
 //!
 //! An answer that differs is told on standard output, in the form of the files, and the status is 1:
 //!
 //! ```text
-//! rows.txt, line 77: default permit, request 3, read byte by byte
+//! rows.txt, line 77: default permit, request 3, read byte by byte: 404
 //! recorded:
 //! < HTTP/1.1 200 OK\r
 //! ..
@@ -30,24 +32,26 @@
 //! The line is that of the request's `@`; the number counts the requests of the scenario from 1 on. What
 //! comes behind the first difference of a scenario may follow from it, since the desk goes on from what
 //! it has done: so the first one is read, and the lines above it in the file say what the desk was asked
-//! before. Is only `read byte by byte` told, then the answer depends on how the input is cut.
+//! before. Is only one way told, then the answer depends on it. The first line tells what came of the
+//! connection: a status, `empty`, `read-failed` or `unsent`.
 //!
 //! To add a scenario, write its requests and the answers that the definitions ask for as a list, as
 //! `tools/record.py --help` tells, and put the text that the script makes of it at the end of `more.txt`.
 //! `tools/try_player.py` shows what the player does with a bad text and with an answer that differs.
 #![tactic(auto)]
 
+mod connections;
 mod desks;
 mod faults;
 mod playing;
 mod scenarios;
-mod sips;
 mod telling;
 mod texts;
+mod ways;
 
 use fab_wire_base::routes::Routes;
 use faults::Fault;
-use playing::{Tally, play_twice};
+use playing::{Tally, play_in_each_way};
 use scenarios::scenarios_of;
 use std::process::ExitCode;
 use std::{env, fs};
@@ -58,7 +62,7 @@ fn play_file(rt: &HostRuntime, routes: &Routes, path: &str) -> Result<bool, Faul
         return Err(Fault::File);
     };
     let scenarios = scenarios_of(rt.alloc(), text.as_str())?;
-    let Tally { right, wrong } = play_twice(rt, routes, path, scenarios.as_slice())?;
+    let Tally { right, wrong } = play_in_each_way(rt, routes, path, scenarios.as_slice())?;
     match println!(rt; "{path}: {right} answers as recorded, {wrong} otherwise") {
         Ok(()) => Ok(wrong == 0),
         Err(_) => Err(Fault::Output),

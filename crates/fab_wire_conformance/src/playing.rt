@@ -1,10 +1,17 @@
 //! Exchanges, played by new desks: what each answers is compared with what is recorded.
 
-use crate::desks::{MemoryDesk, answer_of, new_desk};
+use crate::connections::{End, Ending, Waiting, connection_of, serve};
+use crate::desks::{MemoryDesk, new_desk};
 use crate::faults::Fault;
 use crate::scenarios::{Exchange, Scenario};
 use crate::telling::{Place, tell};
+use crate::ways::{WAYS, Way};
+use fab_wire::laws::serve_all;
 use fab_wire_base::routes::Routes;
+use std::alloc::Global;
+
+/// How many times a request comes at most of which a read fails.
+const MOST_FAILURES: usize = 12;
 
 /// How many answers are as recorded, and how many otherwise.
 #[derive(Clone, Copy)]
@@ -24,92 +31,194 @@ impl Tally {
     }
 }
 
-/// How requests are read.
+/// What is played: a scenario of a file, in one way.
 #[derive(Clone, Copy)]
-enum Reads {
-    Whole,
-    ByteByByte,
+struct Part<'t> {
+    path: &'t str,
+    scenario: &'t Scenario<'t>,
+    way: Way,
 }
 
-impl Reads {
-    /// How many bytes a read gets at most.
-    fn most(self) -> usize {
-        match self {
-            Reads::Whole => usize::MAX,
-            Reads::ByteByByte => 1,
-        }
-    }
-
-    /// Its words.
-    fn words(self) -> &'static str {
-        match self {
-            Reads::Whole => "whole",
-            Reads::ByteByByte => "byte by byte",
-        }
-    }
-}
-
-/// Plays an exchange, and tells whether the answer is as recorded.
-fn play_one(
+/// Tells whether the connection of an exchange has ended as it has to. Where it has not, it is told.
+fn is_right(
     rt: &HostRuntime,
-    routes: &Routes,
-    desk: &mut MemoryDesk,
-    reads: Reads,
-    place: Place<'_>,
+    part: Part<'_>,
+    number: usize,
     exchange: &Exchange,
+    end: End,
+    ending: &Ending,
 ) -> Result<bool, Fault> {
-    let answer = answer_of(rt.alloc(), routes, desk, exchange, reads.most());
-    let is_right = answer.as_slice() == exchange.answer.as_slice();
+    let answer = exchange.answer.as_slice();
+    let is_right = end.is_met(ending, answer);
     if !is_right {
-        tell(rt, place, exchange.answer.as_slice(), answer.as_slice())?;
+        let place = Place {
+            path: part.path,
+            line: exchange.line,
+            name: part.scenario.name,
+            number,
+            way: part.way.words(),
+        };
+        tell(rt, place, end.written(answer), ending)?;
     }
     Ok(is_right)
 }
 
-/// Plays the exchanges of a scenario by a desk.
+/// Where the answer breaks off: at another byte in each exchange of a scenario, and nowhere where there
+/// is no answer.
+fn break_of(answer: &[u8], number: usize) -> End {
+    match number.saturating_mul(31).checked_rem(answer.len()) {
+        Some(byte) => End::Unsent(byte),
+        None => End::Sent,
+    }
+}
+
+/// What no byte is taken of: an answer, if there is one.
+fn untaken(answer: &[u8]) -> End {
+    if answer.is_empty() {
+        End::Sent
+    } else {
+        End::Untaken
+    }
+}
+
+/// How many bytes a read gets at most in this way, and how the exchange has to end.
+fn cut_of(way: Way, exchange: &Exchange, number: usize) -> (usize, End) {
+    let answer = exchange.answer.as_slice();
+    match way {
+        Way::Whole | Way::List => (usize::MAX, End::Sent),
+        Way::ByteByByte | Way::FailingReads => (1, End::Sent),
+        Way::BrokenAnswers => (usize::MAX, break_of(answer, number)),
+        Way::UntakenAnswers => (usize::MAX, untaken(answer)),
+    }
+}
+
+/// Serves an exchange, and tells whether it ends as recorded.
+fn play_one(
+    rt: &HostRuntime,
+    routes: &Routes,
+    desk: &mut MemoryDesk,
+    part: Part<'_>,
+    number: usize,
+    exchange: &Exchange,
+) -> Result<bool, Fault> {
+    let (reads, end) = cut_of(part.way, exchange, number);
+    let connection = connection_of(rt.alloc(), exchange, reads, end);
+    let ending = serve(rt.alloc(), routes, desk, connection);
+    is_right(rt, part, number, exchange, end, &ending)
+}
+
+/// Serves an exchange of which the read of one number fails, if it comes to that. What tells whether it
+/// ends as it has to, and whether no read failed: then the request was served.
+fn play_failing(
+    rt: &HostRuntime,
+    routes: &Routes,
+    desk: &mut MemoryDesk,
+    part: Part<'_>,
+    number: usize,
+    exchange: &Exchange,
+    read: usize,
+) -> Result<(bool, bool), Fault> {
+    let connection = connection_of(rt.alloc(), exchange, 1, End::Unread(read as u64));
+    let ending = serve(rt.alloc(), routes, desk, connection);
+    let is_served = !ending.has_failed_read();
+    let end = if is_served {
+        End::Sent
+    } else {
+        End::Unread(read as u64)
+    };
+    let is_right = is_right(rt, part, number, exchange, end, &ending)?;
+    Ok((is_right, is_served))
+}
+
+/// Serves an exchange several times, and another read fails each time, from the first to that of the
+/// end; and then as if nothing had been.
+fn play_through(
+    rt: &HostRuntime,
+    routes: &Routes,
+    desk: &mut MemoryDesk,
+    part: Part<'_>,
+    number: usize,
+    exchange: &Exchange,
+) -> Result<bool, Fault> {
+    for time in 0..=MOST_FAILURES {
+        let read = exchange.request.len().saturating_mul(time) / MOST_FAILURES;
+        let (is_right, is_served) = play_failing(rt, routes, desk, part, number, exchange, read)?;
+        if is_served || !is_right {
+            return Ok(is_right);
+        }
+    }
+    play_one(rt, routes, desk, part, number, exchange)
+}
+
+/// Plays the exchanges of a scenario by a desk, one by one.
 fn play_each(
     rt: &HostRuntime,
     routes: &Routes,
     desk: &mut MemoryDesk,
-    reads: Reads,
-    path: &str,
-    scenario: &Scenario<'_>,
+    part: Part<'_>,
     tally: &mut Tally,
 ) -> Result<(), Fault> {
-    for (index, exchange) in scenario.exchanges.iter().enumerate() {
-        let place = Place {
-            path,
-            line: exchange.line,
-            name: scenario.name,
-            number: index.saturating_add(1),
-            reads: reads.words(),
+    for (index, exchange) in part.scenario.exchanges.iter().enumerate() {
+        let number = index.saturating_add(1);
+        let is_right = match part.way {
+            Way::FailingReads => play_through(rt, routes, desk, part, number, exchange)?,
+            _ => play_one(rt, routes, desk, part, number, exchange)?,
         };
-        tally.count(play_one(rt, routes, desk, reads, place, exchange)?);
+        tally.count(is_right);
     }
     Ok(())
 }
 
-/// Plays a scenario by a new desk with this policy.
+/// The connections of exchanges, in their order.
+fn connections_of(alloc: Global, exchanges: &[Exchange]) -> Result<Vec<Waiting<'_>>, Fault> {
+    let mut connections = Vec::new(alloc);
+    for exchange in exchanges {
+        connections.push(connection_of(alloc, exchange, usize::MAX, End::Sent))?;
+    }
+    Ok(connections)
+}
+
+/// Plays the exchanges of a scenario by a desk, as one list.
+fn play_list(
+    rt: &HostRuntime,
+    routes: &Routes,
+    desk: &mut MemoryDesk,
+    part: Part<'_>,
+    tally: &mut Tally,
+) -> Result<(), Fault> {
+    let exchanges = part.scenario.exchanges.as_slice();
+    let connections = connections_of(rt.alloc(), exchanges)?;
+    let all = serve_all(rt.alloc(), rt.alloc(), routes, desk, connections)?;
+    for (index, (served, exchange)) in all.into_iter().zip(exchanges).enumerate() {
+        let number = index.saturating_add(1);
+        let ending = Ending::of(served);
+        tally.count(is_right(rt, part, number, exchange, End::Sent, &ending)?);
+    }
+    Ok(())
+}
+
+/// Plays a scenario in one way, by a new desk with this policy.
 fn play_scenario(
     rt: &HostRuntime,
     routes: &Routes,
     policy: &[u8],
-    reads: Reads,
-    path: &str,
-    scenario: &Scenario<'_>,
+    part: Part<'_>,
     tally: &mut Tally,
 ) -> Result<(), Fault> {
-    let mut desk = new_desk(rt.alloc(), scenario.line, policy)?;
-    play_each(rt, routes, &mut desk, reads, path, scenario, tally)
+    let mut desk = new_desk(rt.alloc(), part.scenario, policy)?;
+    match part.way {
+        Way::List => play_list(rt, routes, &mut desk, part, tally),
+        _ => play_each(rt, routes, &mut desk, part, tally),
+    }
 }
 
-/// Plays scenarios, each by a new desk.
+/// Plays scenarios in one way, each by a new desk.
 fn play_all(
     rt: &HostRuntime,
     routes: &Routes,
-    reads: Reads,
     path: &str,
     scenarios: &[Scenario<'_>],
+    way: Way,
     tally: &mut Tally,
 ) -> Result<(), Fault> {
     let mut policy: &[u8] = &[];
@@ -117,24 +226,29 @@ fn play_all(
         if !scenario.policy.is_empty() {
             policy = scenario.policy.as_slice();
         }
-        play_scenario(rt, routes, policy, reads, path, scenario, tally)?;
+        let part = Part {
+            path,
+            scenario,
+            way,
+        };
+        play_scenario(rt, routes, policy, part, tally)?;
     }
     Ok(())
 }
 
-/// Plays the scenarios of the file of this name: where each request is read whole, and again where it
-/// is read byte by byte. Each answer that differs is told.
+/// Plays the scenarios of the file of this name, in each way. Each answer that differs is told.
 ///
 /// # Errors
 /// `Policy` and `Desk` where a scenario gets no desk, `Memory` and `Output`.
-pub fn play_twice(
+pub fn play_in_each_way(
     rt: &HostRuntime,
     routes: &Routes,
     path: &str,
     scenarios: &[Scenario<'_>],
 ) -> Result<Tally, Fault> {
     let mut tally = Tally { right: 0, wrong: 0 };
-    play_all(rt, routes, Reads::Whole, path, scenarios, &mut tally)?;
-    play_all(rt, routes, Reads::ByteByByte, path, scenarios, &mut tally)?;
+    for &way in WAYS {
+        play_all(rt, routes, path, scenarios, way, &mut tally)?;
+    }
     Ok(tally)
 }

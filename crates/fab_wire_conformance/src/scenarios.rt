@@ -23,6 +23,9 @@ pub struct Scenario<'t> {
     pub name: &'t str,
     /// The text of its policy: without a byte where it has that of the scenario before.
     pub policy: Vec<u8>,
+    /// How many calls of its desk's store are handed on before one is refused, if one is. The first
+    /// call opens the desk.
+    pub calls: Option<u64>,
     pub exchanges: Vec<Exchange>,
 }
 
@@ -33,6 +36,7 @@ impl<'t> Scenario<'t> {
             line: line.number,
             name: line.text,
             policy: Vec::new(alloc),
+            calls: None,
             exchanges: Vec::new(alloc),
         }
     }
@@ -45,11 +49,20 @@ impl<'t> Scenario<'t> {
         push_line(&mut self.policy, line)
     }
 
+    /// Says which call of its store is refused: before its first exchange.
+    fn refuse(&mut self, line: Line<'_>) -> Result<(), Fault> {
+        if !self.exchanges.is_empty() {
+            return Err(Fault::Text(line.number));
+        }
+        self.calls = Some(line.count()?);
+        Ok(())
+    }
+
     /// Begins an exchange.
     fn begin_exchange(&mut self, alloc: Global, line: Line<'_>) -> Result<(), Fault> {
         let exchange = Exchange {
             line: line.number,
-            moment: line.moment()?,
+            moment: line.count()?,
             request: Vec::new(alloc),
             answer: Vec::new(alloc),
         };
@@ -79,6 +92,7 @@ impl<'t> Scenario<'t> {
     fn add(&mut self, alloc: Global, mark: &str, line: Line<'_>) -> Result<(), Fault> {
         match mark {
             "|" => self.add_policy(line),
+            "%" => self.refuse(line),
             "@" => self.begin_exchange(alloc, line),
             ">" => self.add_request(line),
             "<" => self.add_answer(line),

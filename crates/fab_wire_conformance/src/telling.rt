@@ -1,5 +1,6 @@
 //! How an answer that differs is told: in the form of the files.
 
+use crate::connections::Ending;
 use crate::faults::Fault;
 use std::alloc::Global;
 use std::fmt::Write;
@@ -38,17 +39,18 @@ fn lines_of(alloc: Global, bytes: &[u8]) -> Result<String, Fault> {
 }
 
 /// Where an answer differs: the file and the line at which its exchange begins, the scenario, the
-/// request's number in it from 1 on, and how its bytes are read.
+/// request's number in it from 1 on, and the words of the way in which it was played.
 #[derive(Clone, Copy)]
 pub struct Place<'t> {
     pub path: &'t str,
     pub line: usize,
     pub name: &'t str,
     pub number: usize,
-    pub reads: &'t str,
+    pub way: &'t str,
 }
 
-/// Tells an answer that differs, whole, beside the one that is recorded.
+/// Tells what was written of an answer that differs, beside what is recorded, and what came of the
+/// connection.
 ///
 /// # Errors
 /// `Memory`, and `Output` where it cannot be written.
@@ -56,19 +58,20 @@ pub fn tell(
     rt: &HostRuntime,
     place: Place<'_>,
     recorded: &[u8],
-    answered: &[u8],
+    ending: &Ending,
 ) -> Result<(), Fault> {
     let Place {
         path,
         line,
         name,
         number,
-        reads,
+        way,
     } = place;
     let recorded = lines_of(rt.alloc(), recorded)?;
-    let answered = lines_of(rt.alloc(), answered)?;
+    let answered = lines_of(rt.alloc(), ending.written())?;
+    let outcome = ending.outcome;
     match println!(rt;
-        "{path}, line {line}: {name}, request {number}, read {reads}\nrecorded:\n{recorded}answered:\n{answered}"
+        "{path}, line {line}: {name}, request {number}, {way}: {outcome}\nrecorded:\n{recorded}answered:\n{answered}"
     ) {
         Ok(()) => Ok(()),
         Err(_) => Err(Fault::Output),

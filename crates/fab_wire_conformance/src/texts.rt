@@ -5,6 +5,7 @@
 //! | `#` | what the file is; the first line, and no other |
 //! | `=` | the name of a scenario, which a new desk plays |
 //! | <code>&#124;</code> | its policy; where it has none, the policy of the scenario before stays |
+//! | `%` | how many calls of its store are handed on before one is refused; the first opens the desk |
 //! | `@` | the moment at which a request comes, in Unix seconds |
 //! | `>` | the request's bytes |
 //! | `<` | those of its answer: none where there is none |
@@ -33,13 +34,13 @@ impl<'t> Line<'t> {
         }
     }
 
-    /// The moment that it spells.
+    /// The number that it spells.
     ///
     /// # Errors
     /// `Text` where it spells no number of 64 bits.
-    pub fn moment(self) -> Result<u64, Fault> {
+    pub fn count(self) -> Result<u64, Fault> {
         match self.text.parse() {
-            Ok(moment) => Ok(moment),
+            Ok(count) => Ok(count),
             Err(_) => Err(Fault::Text(self.number)),
         }
     }

@@ -29,34 +29,34 @@ pub rolled_back-requires-clause-there : goal.rolled_back-requires-clause-there
 rolled_back-requires-clause-there g c = there c.args.world.now c.args.command.now (command.Rollback c.in-Rollback.plan) c.in-Rollback.is c.requires.there no_policy 0
 
 pub returns-in-Import-clause-ok : goal.returns-in-Import-clause-ok
-returns-in-Import-clause-ok g c = subst (λ x. IfOk x (IsTried c.args.world.now c.args.caller.now c.args.command.now)) (sym c.of_stock.ensures) (stock_ok c.args.world.now c.args.caller.now c.args.command.now (command.Import c.in-Import.fabric c.in-Import.rows) (ap tried (sym c.in-Import.is)) c.imported.result refl (c.imported.ensures.ok c.args.caller.now) c.imported.ensures.sound)
+returns-in-Import-clause-ok g c = stock_ok c.args.world.now c.args.caller.now c.args.command.now (command.Import c.in-Import.fabric c.in-Import.rows) (ap tried (sym c.in-Import.is)) c.imported.result c.of_stock.result refl (c.imported.ensures.ok c.args.caller.now) c.imported.ensures.sound c.of_stock.ensures.ok
 
 pub returns-in-Import-clause-err : goal.returns-in-Import-clause-err
-returns-in-Import-clause-err g c = subst (λ x. IfErr x (IsTryFault c.args.world.now c.args.caller.now (tried c.args.command.now))) (sym c.of_stock.ensures) (stock_err c.args.world.now c.args.caller.now c.args.command.now (command.Import c.in-Import.fabric c.in-Import.rows) (ap tried (sym c.in-Import.is)) c.imported.result (c.imported.ensures.err c.args.caller.now))
+returns-in-Import-clause-err g c = stock_err c.args.world.now c.args.caller.now c.args.command.now (command.Import c.in-Import.fabric c.in-Import.rows) (ap tried (sym c.in-Import.is)) c.imported.result c.of_stock.result (c.imported.ensures.err c.args.caller.now) c.of_stock.ensures.err
 
 pub returns-in-PutHolder-clause-ok : goal.returns-in-PutHolder-clause-ok
-returns-in-PutHolder-clause-ok g c = subst (λ x. IfOk x (IsTried c.args.world.now c.args.caller.now c.args.command.now)) (sym c.of_stock-in-PutHolder.ensures) (stock_ok c.args.world.now c.args.caller.now c.args.command.now (command.PutHolder c.in-PutHolder.kind c.in-PutHolder.name c.in-PutHolder.tenant c.in-PutHolder.ports) (ap tried (sym c.in-PutHolder.is)) c.holder_put.result refl (c.holder_put.ensures.ok c.args.caller.now) c.holder_put.ensures.sound)
+returns-in-PutHolder-clause-ok g c = stock_ok c.args.world.now c.args.caller.now c.args.command.now (command.PutHolder c.in-PutHolder.kind c.in-PutHolder.name c.in-PutHolder.tenant c.in-PutHolder.ports) (ap tried (sym c.in-PutHolder.is)) c.holder_put.result c.of_stock-in-PutHolder.result refl (c.holder_put.ensures.ok c.args.caller.now) c.holder_put.ensures.sound c.of_stock-in-PutHolder.ensures.ok
 
 pub returns-in-PutHolder-clause-err : goal.returns-in-PutHolder-clause-err
-returns-in-PutHolder-clause-err g c = subst (λ x. IfErr x (IsTryFault c.args.world.now c.args.caller.now (tried c.args.command.now))) (sym c.of_stock-in-PutHolder.ensures) (stock_err c.args.world.now c.args.caller.now c.args.command.now (command.PutHolder c.in-PutHolder.kind c.in-PutHolder.name c.in-PutHolder.tenant c.in-PutHolder.ports) (ap tried (sym c.in-PutHolder.is)) c.holder_put.result (c.holder_put.ensures.err c.args.caller.now))
+returns-in-PutHolder-clause-err g c = stock_err c.args.world.now c.args.caller.now c.args.command.now (command.PutHolder c.in-PutHolder.kind c.in-PutHolder.name c.in-PutHolder.tenant c.in-PutHolder.ports) (ap tried (sym c.in-PutHolder.is)) c.holder_put.result c.of_stock-in-PutHolder.result (c.holder_put.ensures.err c.args.caller.now) c.of_stock-in-PutHolder.ensures.err
 
 pub returns-in-PutVolume-clause-ok : goal.returns-in-PutVolume-clause-ok
-returns-in-PutVolume-clause-ok g c = subst (λ x. IfOk x (IsTried c.args.world.now c.args.caller.now c.args.command.now)) (sym c.of_stock-in-PutVolume.ensures) (stock_ok c.args.world.now c.args.caller.now c.args.command.now (command.PutVolume c.in-PutVolume.name c.in-PutVolume.volume) (ap tried (sym c.in-PutVolume.is)) c.volume_put.result refl (c.volume_put.ensures.ok c.args.caller.now) c.volume_put.ensures.sound)
+returns-in-PutVolume-clause-ok g c = stock_ok c.args.world.now c.args.caller.now c.args.command.now (command.PutVolume c.in-PutVolume.name c.in-PutVolume.volume) (ap tried (sym c.in-PutVolume.is)) c.volume_put.result c.of_stock-in-PutVolume.result refl (c.volume_put.ensures.ok c.args.caller.now) c.volume_put.ensures.sound c.of_stock-in-PutVolume.ensures.ok
 
 pub returns-in-PutVolume-clause-err : goal.returns-in-PutVolume-clause-err
-returns-in-PutVolume-clause-err g c = subst (λ x. IfErr x (IsTryFault c.args.world.now c.args.caller.now (tried c.args.command.now))) (sym c.of_stock-in-PutVolume.ensures) (stock_err c.args.world.now c.args.caller.now c.args.command.now (command.PutVolume c.in-PutVolume.name c.in-PutVolume.volume) (ap tried (sym c.in-PutVolume.is)) c.volume_put.result (c.volume_put.ensures.err c.args.caller.now))
+returns-in-PutVolume-clause-err g c = stock_err c.args.world.now c.args.caller.now c.args.command.now (command.PutVolume c.in-PutVolume.name c.in-PutVolume.volume) (ap tried (sym c.in-PutVolume.is)) c.volume_put.result c.of_stock-in-PutVolume.result (c.volume_put.ensures.err c.args.caller.now) c.of_stock-in-PutVolume.ensures.err
 
 pub returns-in-DropHolder-clause-ok : goal.returns-in-DropHolder-clause-ok
-returns-in-DropHolder-clause-ok g c = subst (λ x. IfOk x (IsTried c.args.world.now c.args.caller.now c.args.command.now)) (sym c.of_stock-in-DropHolder.ensures) (stock_ok c.args.world.now c.args.caller.now c.args.command.now (command.DropHolder c.in-DropHolder.kind c.in-DropHolder.name) (ap tried (sym c.in-DropHolder.is)) c.holder_dropped.result refl (c.holder_dropped.ensures.ok c.args.caller.now) c.holder_dropped.ensures.sound)
+returns-in-DropHolder-clause-ok g c = stock_ok c.args.world.now c.args.caller.now c.args.command.now (command.DropHolder c.in-DropHolder.kind c.in-DropHolder.name) (ap tried (sym c.in-DropHolder.is)) c.holder_dropped.result c.of_stock-in-DropHolder.result refl (c.holder_dropped.ensures.ok c.args.caller.now) c.holder_dropped.ensures.sound c.of_stock-in-DropHolder.ensures.ok
 
 pub returns-in-DropHolder-clause-err : goal.returns-in-DropHolder-clause-err
-returns-in-DropHolder-clause-err g c = subst (λ x. IfErr x (IsTryFault c.args.world.now c.args.caller.now (tried c.args.command.now))) (sym c.of_stock-in-DropHolder.ensures) (stock_err c.args.world.now c.args.caller.now c.args.command.now (command.DropHolder c.in-DropHolder.kind c.in-DropHolder.name) (ap tried (sym c.in-DropHolder.is)) c.holder_dropped.result (c.holder_dropped.ensures.err c.args.caller.now))
+returns-in-DropHolder-clause-err g c = stock_err c.args.world.now c.args.caller.now c.args.command.now (command.DropHolder c.in-DropHolder.kind c.in-DropHolder.name) (ap tried (sym c.in-DropHolder.is)) c.holder_dropped.result c.of_stock-in-DropHolder.result (c.holder_dropped.ensures.err c.args.caller.now) c.of_stock-in-DropHolder.ensures.err
 
 pub returns-in-DropVolume-clause-ok : goal.returns-in-DropVolume-clause-ok
-returns-in-DropVolume-clause-ok g c = subst (λ x. IfOk x (IsTried c.args.world.now c.args.caller.now c.args.command.now)) (sym c.of_stock-in-DropVolume.ensures) (stock_ok c.args.world.now c.args.caller.now c.args.command.now (command.DropVolume c.in-DropVolume.name) (ap tried (sym c.in-DropVolume.is)) c.volume_dropped.result refl (c.volume_dropped.ensures.ok c.args.caller.now) c.volume_dropped.ensures.sound)
+returns-in-DropVolume-clause-ok g c = stock_ok c.args.world.now c.args.caller.now c.args.command.now (command.DropVolume c.in-DropVolume.name) (ap tried (sym c.in-DropVolume.is)) c.volume_dropped.result c.of_stock-in-DropVolume.result refl (c.volume_dropped.ensures.ok c.args.caller.now) c.volume_dropped.ensures.sound c.of_stock-in-DropVolume.ensures.ok
 
 pub returns-in-DropVolume-clause-err : goal.returns-in-DropVolume-clause-err
-returns-in-DropVolume-clause-err g c = subst (λ x. IfErr x (IsTryFault c.args.world.now c.args.caller.now (tried c.args.command.now))) (sym c.of_stock-in-DropVolume.ensures) (stock_err c.args.world.now c.args.caller.now c.args.command.now (command.DropVolume c.in-DropVolume.name) (ap tried (sym c.in-DropVolume.is)) c.volume_dropped.result (c.volume_dropped.ensures.err c.args.caller.now))
+returns-in-DropVolume-clause-err g c = stock_err c.args.world.now c.args.caller.now c.args.command.now (command.DropVolume c.in-DropVolume.name) (ap tried (sym c.in-DropVolume.is)) c.volume_dropped.result c.of_stock-in-DropVolume.result (c.volume_dropped.ensures.err c.args.caller.now) c.of_stock-in-DropVolume.ensures.err
 
 pub returns-in-Withdraw-clause-ok : goal.returns-in-Withdraw-clause-ok
 returns-in-Withdraw-clause-ok g c = subst (λ x. IfOk x (IsTried c.args.world.now c.args.caller.now c.args.command.now)) (sym c.of_plan.ensures) (plan_ok c.args.world.now c.args.caller.now c.args.command.now (command.Withdraw c.in-Withdraw.plan) (ap tried (sym c.in-Withdraw.is)) c.withdrawn.result (c.withdrawn.ensures.ok c.args.caller.now) (ok_as c.withdrawn.result (λ n s _. s) c.withdrawn.ensures.suits) c.withdrawn.ensures.sound)

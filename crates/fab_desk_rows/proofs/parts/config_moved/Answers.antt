@@ -10,7 +10,7 @@ returns-in-Same g c =
     let stays : (next_world w c.args.next.now).config ≡ w.config = elim c.in-Same.is [
       | inl e ↦ ap (λ n. (next_world w n).config) e
       | inr more ↦ elim more [
-        | inl e ↦ ap (λ n. (next_world w n).config) e.1
+        | inl e ↦ ap (λ n. (next_world w n).config) e.2
         | inr more ↦ elim more [ inl e ↦ ap (λ n. (next_world w n).config) e.2 | inr e ↦ ap (λ n. (next_world w n).config) e.2 ]
       ]
     ] in

@@ -37,6 +37,6 @@ returns-in-Same g c =
     let w = c.args.world.now in
     let one : HaveOnePlans w (next_world w c.args.next.now) = elim c.in-Same.is [
       | inl e ↦ record { plans = ap (λ n. (next_world w n).plans) e; order = ap (λ n. (next_world w n).order) e }
-      | inr e ↦ record { plans = ap (λ n. (next_world w n).plans) e.1; order = ap (λ n. (next_world w n).order) e.1 }
+      | inr e ↦ record { plans = ap (λ n. (next_world w n).plans) e.2; order = ap (λ n. (next_world w n).order) e.2 }
     ] in
     c.no_tables.ensures w (next_world w c.args.next.now) one
