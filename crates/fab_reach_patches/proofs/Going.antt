@@ -52,11 +52,14 @@ module _ (w v : Records) (gone come : List Row) (d : IsRowDiff w v gone come) wh
         let named = name_of v p q.0 q.1 in
         let own = is_own v p q.0 q.1 in
         elim (d.after (row.Port q.0) own) [
-          | inl s ↦ inl (port_w h p q.0 s q.2 named, λ g.
-              let y = g.2 in
-              let l = d.left (row.Port y.0) (subst (Contains gone) y.1 g.1) in
-              let same : y.0 ≡ q.0 = sym (same_some (sym l.0 ∙ ap (port_at w.inventory.ports) (y.3 ∙ sym named) ∙ s) refl) in
-              l.1 (subst (λ k. port_at v.inventory.ports k.name ≡ Some k) (sym same) own))
+          | inl s ↦ inl (
+            port_w h p q.0 s q.2 named,
+            λ g.
+                let y = g.2 in
+                let l = d.left (row.Port y.0) (subst (Contains gone) y.1 g.1) in
+                let same : y.0 ≡ q.0 = sym (same_some (sym l.0 ∙ ap (port_at w.inventory.ports) (y.3 ∙ sym named) ∙ s) refl) in
+                l.1 (subst (λ k. port_at v.inventory.ports k.name ≡ Some k) (sym same) own),
+          )
           | inr c ↦ inr (row.Port q.0, c, (q.0, refl, q.2, named))
         ];
     stays = λ h p x none.
@@ -127,15 +130,15 @@ module _ (w v : Records) (moved : BTreeSet ℕ) (m : AreMoved w v moved) (zones 
 module _ (w v : Records) (touched : BTreeSet (List ℕ)) (t : AreTouched w v touched) where
   pub groups_go : Goes (IsHostServed w) (λ h n. HasName touched n × IsHostServed w h n) (λ h n. HasName touched n × IsHostServed v h n) (IsHostServed v)
   groups_go = some_goes (IsHostServed w) (IsHostServed v) (λ h n. contains name_cmp touched n) (λ h n is. (
-      (λ s. let k = (t n is).stays s.0 s.1 in (k.other, k.there, k.exposed s.2, k.serves h s.3)),
-      λ s. let k = (t n is).no_more s.0 s.1 in (k.other, k.there, k.exposed s.2, k.serves h s.3),
-    ))
+    (λ s. let k = (t n is).stays s.0 s.1 in (k.other, k.there, k.exposed s.2, k.serves h s.3)),
+    λ s. let k = (t n is).no_more s.0 s.1 in (k.other, k.there, k.exposed s.2, k.serves h s.3),
+  ))
 
   pub targets_go : Goes (IsTargetOf w) (λ q n. HasName touched n × IsTargetOf w q n) (λ q n. HasName touched n × IsTargetOf v q n) (IsTargetOf v)
   targets_go = some_goes (IsTargetOf w) (IsTargetOf v) (λ q n. contains name_cmp touched n) (λ q n is. (
-      (λ s. let k = (t n is).stays s.0 s.1 in (k.other, k.there, k.exposed s.2, k.targets q s.3)),
-      λ s. let k = (t n is).no_more s.0 s.1 in (k.other, k.there, k.exposed s.2, k.targets q s.3),
-    ))
+    (λ s. let k = (t n is).stays s.0 s.1 in (k.other, k.there, k.exposed s.2, k.targets q s.3)),
+    λ s. let k = (t n is).no_more s.0 s.1 in (k.other, k.there, k.exposed s.2, k.targets q s.3),
+  ))
 
 -- ---- paths
 
