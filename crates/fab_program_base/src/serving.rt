@@ -1,5 +1,5 @@
 //! Connections served over a database.
-ghost use Rattle.std.specs.Prelude.{◌≡◌};
+ghost use Rattle.std.specs.Prelude.{◌≡◌, ⊤};
 ghost use Rattle.fab_program_outside.specs.Coming.{After};
 ghost use Rattle.fab_program_base.specs.Exits.{served};
 ghost use Rattle.fab_wire_serving.specs.Turns.{Gives};
@@ -64,7 +64,7 @@ fn serve_over<
 ) -> Result<End, Fault>
     requires now { (state : N) → N.pre state }
     requires again { (state : F) → F.pre state }
-    ensures { After store (λ s. IsServedOver ⟦<Front<S> as Server>⟧ W.contents (Gives F.step) (Gives N.step) asked.now.count (λ front. front.desk) (O.listens outside.now asked.now.listen.now) S.Store s policy log) result }
+    ensures { After store (λ s. IsServedOver ⟦<Front<S> as Server>⟧ W.contents (λ again. ⊤) (Gives N.step) asked.now.count (λ front. front.desk) (O.listens outside.now asked.now.listen.now) S.Store s policy log) result }
 {
     match store {
         Ok(store) => {
