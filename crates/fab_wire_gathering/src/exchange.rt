@@ -37,9 +37,11 @@ impl<'g> Exchange<'g> {
         }
     }
 
-    /// What is kept of the answer.
+    /// What is kept of the answer, in no more memory than that takes.
     pub fn into_answer(self) -> Vec<u8> {
-        self.answer.into_inner()
+        let mut answer = self.answer.into_inner();
+        answer.shrink_to_fit();
+        answer
     }
 
     /// Reads what was gathered.

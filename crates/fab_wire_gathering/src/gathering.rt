@@ -14,8 +14,8 @@ use std::time::{Duration, Instant};
 /// How many connections are there at once. Others wait where the system keeps them.
 pub const MOST_GUESTS: usize = 256;
 
-/// How many bytes of answers are kept at most for those who have not taken them, when a turn begins.
-pub const MOST_UNTAKEN: usize = 67108864;
+/// How many bytes of answers are kept at most, between two turns, that are not taken whole.
+pub const MOST_KEPT: usize = 67108864;
 
 /// How many bytes are read at once.
 const PIECE: usize = 65536;
@@ -430,14 +430,14 @@ impl Gathering {
 
     /// How many bytes of answers are kept, and which seat has the first to be given up of those that
     /// take them.
-    fn untaken(&self) -> (usize, Option<usize>) {
+    fn kept(&self) -> (usize, Option<usize>) {
         let mut all = 0usize;
         let mut first: Option<(usize, Instant)> = None;
         for (place, seat) in self.seats.iter().enumerate() {
             if let Some(guest) = seat
-                && guest.untaken() > 0
+                && guest.kept() > 0
             {
-                all = all.saturating_add(guest.untaken());
+                all = all.saturating_add(guest.kept());
                 if is_before(guest.end(), &first) {
                     first = Some((place, guest.end()));
                 }
@@ -452,8 +452,8 @@ impl Gathering {
     /// Gives up the first to be given up, while too many bytes are kept.
     fn make_room(&mut self) {
         for _ in 0..MOST_GUESTS {
-            let (all, first) = self.untaken();
-            if all <= MOST_UNTAKEN {
+            let (all, first) = self.kept();
+            if all <= MOST_KEPT {
                 return;
             }
             if let Some(place) = first

@@ -266,10 +266,10 @@ impl Guest {
         }
     }
 
-    /// How many bytes of its answer it has not taken yet.
-    pub fn untaken(&self) -> usize {
+    /// How many bytes are kept of an answer that it has not taken whole.
+    pub fn kept(&self) -> usize {
         match self.stage {
-            Stage::Takes => self.bytes.len().saturating_sub(self.sent),
+            Stage::Takes => self.bytes.len(),
             _ => 0,
         }
     }

@@ -74,10 +74,10 @@ impl<'h> Echo<'h> {
     }
 }
 
-/// Says 64 million stars.
+/// Says 40 million stars.
 fn say_much<W: Write>(writer: &mut W) -> io::Result<()> {
     let stars = [b'*'; 16384];
-    for _ in 0..4096 {
+    for _ in 0..2560 {
         writer.write_all(&stars)?;
     }
     Ok(())

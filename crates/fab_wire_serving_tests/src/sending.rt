@@ -26,7 +26,7 @@ fn came(rt: &impl Abort, alloc: Global, told: &'static [u8], fails_at: u64) -> (
 }
 
 /// What is told, the write that fails, what the log shows, and how many writes there were. At `*` the
-/// answer has 1024 pieces of 65536 bytes.
+/// answer has 640 pieces of 65536 bytes.
 const SENT: &[(&[u8], u64, &str, u64)] = &[
     (b"a", u64::MAX, "answered", 1),
     (b"a", 0, "unsent", 1),
