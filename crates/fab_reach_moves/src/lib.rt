@@ -15,8 +15,6 @@ mod told;
 pub use after::{holder_after, holder_before, port_after};
 pub use groups::add_names;
 pub use heads::{has_same_units, is_exposed_after, is_exposed_before};
-pub use lists_after::{
-    add_held_after, hosts_after, hosts_before, targets_after, targets_before,
-};
+pub use lists_after::{add_held_after, hosts_after, hosts_before, targets_after, targets_before};
 pub use moved::{Moved, told_moved};
 pub use told::Told;

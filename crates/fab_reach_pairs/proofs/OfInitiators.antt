@@ -1,16 +1,12 @@
 -- What is known of ports after a step, and what kept storage groups offer them.
-use Rattle.std.proofs.Common.{ℕ, ◌≡◌, List, [], true, false, Contains, Option, None, Some, ◌⊎◌, inl, inr, refl, sym, ap, ◌∙◌, subst}
+use Rattle.std.proofs.Common.{ℕ, ◌≡◌, List, true, false, Option, None, Some, ◌⊎◌, inl, inr, refl, sym, ap, ◌∙◌, subst}
 use mathlib.Core.Bool.{true≢false}
-use Rattle.std.specs.Option.{option_map, option_and_then}
 use Rattle.std.specs.BTreeMap as tree
 use Rattle.std.specs.BTreeMap.{BTreeMap}
 use Rattle.std.specs.BTreeSet.{BTreeSet, contains}
 use Rattle.std.specs.FinMap as map
 use Rattle.std.specs.FinSet as set
 use Rattle.fab_names.specs.Orders.{name_cmp}
-use Rattle.fab_inventory.specs.declared.port.Known.{Known}
-use Rattle.fab_inventory.specs.declared.port.Port.{Port}
-use Rattle.fab_inventory.specs.Ports.{KnownPorts, port_at, port_of}
 use Rattle.fab_inventory.specs.Holders.{holder_in}
 use Rattle.fab_lemmas.specs.MapsOfSets.{in_tree, tree_has}
 use Rattle.fab_mapping_base.specs.Groups.{StorageGroupRows}
@@ -18,23 +14,16 @@ use Rattle.fab_mapping.specs.Mappings.{MappingRows}
 use Rattle.fab_reach_base.specs.Adding.{Adds}
 use Rattle.fab_reach_base.specs.Gathering.{Serves, HasTarget, IsTargeted}
 use Rattle.fab_reach_base.specs.Records.{Records}
-use Rattle.fab_reach_base.proofs.Adding.{Before, adds_as, adds_none, from_none}
-use Rattle.fab_reach_base.proofs.Sets.{none_in}
-use Rattle.fab_names.proofs.OrderLaws.{name_total, name_exact}
-use Rattle.fab_reach_base.proofs.Gathering.{name_of, is_own}
+use Rattle.fab_reach_base.proofs.Adding.{Before, adds_as, adds_none}
 use Rattle.fab_reach_base.proofs.Same.{same_some}
-use Rattle.fab_reach_books.specs.declared.row.Row.{Row}
-use Rattle.fab_reach_books.specs.declared.row.Row.TheVariants as row
 use Rattle.fab_reach_index.specs.declared.index.Index.{Index}
 use Rattle.fab_reach_moves.specs.Moves.{AreTouched}
 use Rattle.fab_reach_index.specs.Indexes.{IsIndexOf}
 use Rattle.fab_reach_books.specs.Inner.Moving.{IsOffered}
 use Rattle.fab_reach_books.specs.Inner.Sets.{HasPortIn, HasName}
 use Rattle.fab_reach_pairs.specs.Inner.Offering.{IsTargetAt, IsKeptAt, IsOfferedByKept}
-use Rattle.fab_reach_moves.specs.Inner.Listing.{NamesNoPort}
 use Rattle.fab_reach_books.specs.Pairs.{Pair}
-use Rattle.fab_reach_books.specs.Rows.{IsRowDiff}
-use Rattle.fab_reach_books.proofs.SetLoops.{same_option, adds_both, all_ports, all_names}
+use Rattle.fab_reach_books.proofs.SetLoops.{adds_both, all_ports, all_names}
 use Rattle.fab_reach_pairs.proofs.LooseLoops.{offered_from, offered_by}
 
 -- ---- storage groups that are not touched

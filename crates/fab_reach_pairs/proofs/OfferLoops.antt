@@ -1,28 +1,22 @@
 -- Ports and pairs that loops add.
-use Rattle.std.proofs.Common.{ℕ, ◌≡◌, List, [], true, Contains, Option, None, Some, IsTrue, refl, sym, ap, ◌∙◌, subst, cond}
+use Rattle.std.proofs.Common.{ℕ, ◌≡◌, List, true, Option, None, Some, IsTrue, refl, sym, ap, ◌∙◌, subst}
 use mathlib.Core.Bool.{true≢false}
 use Rattle.std.specs.Ordering.{nat_cmp}
-use Rattle.std.specs.Cmp.{nat_cmp_total}
 use Rattle.std.specs.BTreeMap as tree
-use Rattle.std.specs.BTreeMap.{BTreeMap, is_at}
+use Rattle.std.specs.BTreeMap.{BTreeMap}
 use Rattle.std.specs.BTreeSet.{BTreeSet, contains}
 use Rattle.std.specs.FinMap as map
 use Rattle.std.specs.FinSet as set
-use Rattle.std.proofs.lemmas.Map.Views.{btree_set_contains_iff}
 use Rattle.fab_names.specs.Orders.{name_cmp}
-use Rattle.fab_names.proofs.OrderLaws.{name_total, name_exact}
 use Rattle.fab_lemmas.specs.MapsOfSets.{in_tree}
 use Rattle.fab_mapping_base.specs.Groups.{HostGroupRows, StorageGroupRows}
 use Rattle.fab_mapping.specs.Mappings.{MappingRows}
 use Rattle.fab_reach_base.specs.Adding.{Adds}
 use Rattle.fab_reach_base.specs.Gathering.{ServesBy}
-use Rattle.fab_reach_base.proofs.Adding.{Before, adds_as, adds_none, from_none}
+use Rattle.fab_reach_base.proofs.Adding.{Before, adds_as, adds_none}
 use Rattle.fab_reach_base.proofs.Same.{same_some}
-use Rattle.fab_reach_base.proofs.Services.{listed_in}
-use Rattle.fab_reach_base.proofs.Sets.{adds_insert, none_in}
-use Rattle.fab_reach_books.specs.KeyLaws.{pair_total, pair_exact}
-use Rattle.fab_reach_books.specs.Inner.Sets.{HasPairIn, HasPortIn}
-use Rattle.fab_reach_books.specs.Pairs.{Pair, pair_cmp}
+use Rattle.fab_reach_books.specs.Inner.Sets.{HasPortIn}
+use Rattle.fab_reach_books.specs.Pairs.{Pair}
 use Rattle.fab_reach_index.specs.Inner.Holding.{Held, HoldsIn}
 use Rattle.fab_reach_books.proofs.SetLoops.{all_ports, all_names, all_in}
 use Rattle.fab_reach_pairs.specs.Inner.Offering.{IsHostPort, IsPortServed, IsPortServedBy, IsPortServedAt}

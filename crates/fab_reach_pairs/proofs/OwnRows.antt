@@ -1,18 +1,16 @@
 -- The paths of a host, from an index.
-use Rattle.std.proofs.Common.{ℕ, ◌≡◌, List, [], Bool, true, false, Contains, Option, None, Some, IsTrue, inl, inr, refl, sym, ap, ◌∙◌, subst}
+use Rattle.std.proofs.Common.{ℕ, ◌≡◌, List, false, Contains, Option, None, Some, refl, sym, ap, ◌∙◌, subst}
 use mathlib.Core.Bool.{true≢false}
 use Rattle.std.specs.Ordering.{nat_cmp}
 use Rattle.std.specs.BTreeMap as tree
 use Rattle.std.specs.BTreeMap.{BTreeMap, IsOrdered}
 use Rattle.std.specs.BTreeSet.{BTreeSet, contains}
-use Rattle.std.specs.FinMap as map
 use Rattle.std.proofs.lemmas.Map.Views.{btree_map_get_iff, btree_set_contains_iff}
 use Rattle.fab_lemmas.specs.MapsOfSets.{in_tree}
 use Rattle.fab_names.specs.Orders.{name_cmp}
-use Rattle.fab_inventory.specs.declared.port.Port.{Port}
 use Rattle.fab_reach_base.specs.Adding.{Adds}
 use Rattle.fab_reach_base.specs.Orders.{Has, path_cmp}
-use Rattle.fab_reach_base.specs.Reach.{IsPort, IsInitiator, IsInitiatorOf, ReachesFrom}
+use Rattle.fab_reach_base.specs.Reach.{IsPort, IsInitiator, ReachesFrom}
 use Rattle.fab_reach_base.specs.Records.{Records}
 use Rattle.fab_reach_base.specs.declared.path.Path.{Path}
 use Rattle.fab_reach_base.proofs.Adding.{Before, adds_as, adds_none}
@@ -24,15 +22,15 @@ use Rattle.fab_reach_books.specs.Inner.Sets.{HasPortIn}
 use Rattle.fab_reach_books.specs.KeyLaws.{pair_total, pair_exact}
 use Rattle.fab_reach_books.specs.Pairs.{Pair, pair_cmp}
 use Rattle.fab_reach_index.specs.Indexes.{IsIndexOf}
-use Rattle.fab_reach_index.specs.Inner.Holding.{Held, HoldsIn}
+use Rattle.fab_reach_index.specs.Inner.Holding.{Held}
 use Rattle.fab_reach_index.specs.Inner.Placing.{IsIn}
 use Rattle.fab_reach_index.specs.declared.index.Index.{Index}
 use Rattle.fab_reach_pairs.specs.Inner.Owned.{IsOwnedAt, IsOwned, IsOwnedBy}
 
 pub all_paths : (paths : BTreeSet Path) (ks : List Path) (old new : Path → Type 0) → ks ≡ paths.keys → Adds (Before (λ k x. x ≡ k) ks) old new → Adds (Has paths) old new
 all_paths paths ks old new is = adds_as (Before (λ k x. x ≡ k) ks) (Has paths) old new
-  (λ x h. (btree_set_contains_iff path_total path_exact paths x).1 (subst (λ ys. Contains ys x) is (subst (Contains ks) (sym h.2) h.1)))
-  (λ x h. (x, subst (λ ys. Contains ys x) (sym is) ((btree_set_contains_iff path_total path_exact paths x).0 h), refl))
+    (λ x h. (btree_set_contains_iff path_total path_exact paths x).1 (subst (λ ys. Contains ys x) is (subst (Contains ks) (sym h.2) h.1)))
+    (λ x h. (x, subst (λ ys. Contains ys x) (sym is) ((btree_set_contains_iff path_total path_exact paths x).0 h), refl))
 
 module _ (ports : BTreeSet ℕ) where
   pub is_own : (e : Pair × BTreeSet Path) (old new : Path → Type 0) → HasPortIn ports e.0.0 → Adds (Has e.1) old new → Adds (IsOwnedAt ports e) old new

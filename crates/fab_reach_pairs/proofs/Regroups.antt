@@ -1,14 +1,11 @@
 -- What storage groups offer before a step and after it.
-use Rattle.std.proofs.Common.{ℕ, ◌≡◌, List, [], Bool, true, false, Contains, Some, IsTrue, ◌⊎◌, inl, inr, refl, sym, ap, ◌∙◌, subst, not}
-use mathlib.Core.Bool.{true≢false}
+use Rattle.std.proofs.Common.{ℕ, ◌≡◌, List, [], Bool, true, Some, ◌⊎◌, inl, inr, refl, sym, ap, subst}
 use Rattle.std.specs.Cmp.{nat_cmp_total}
 use Rattle.std.specs.BTreeSet.{BTreeSet}
 use Rattle.std.specs.FinMap as map
 use Rattle.std.specs.FinSet as set
 use Rattle.fab_mapping_base.specs.Groups.{StorageGroupRows}
 use Rattle.fab_names.specs.declared.fabric.Fabric.{Fabric}
-use Rattle.fab_store_rows.specs.declared.config_row.GroupRow.TheVariants as group
-use Rattle.fab_store_rows.specs.declared.config_row.StorageGroupRow.{StorageGroupRow}
 use Rattle.fab_reach_base.specs.Adding.{Adds}
 use Rattle.fab_reach_base.specs.Gathering.{Serves}
 use Rattle.fab_reach_base.specs.Records.{Records}
@@ -16,18 +13,15 @@ use Rattle.fab_reach_base.proofs.Adding.{Before, adds_as, adds_none}
 use Rattle.fab_reach_base.proofs.Same.{same_some}
 use Rattle.fab_reach_base.proofs.Sets.{none_in}
 use Rattle.fab_reach_index.specs.declared.index.Index.{Index}
-use Rattle.fab_reach_moves.specs.declared.lists_after.Listed.TheVariants.{HostGroups, Hosts}
-use Rattle.fab_reach_books.specs.declared.row.Row.{Row}
-use Rattle.fab_reach_books.specs.declared.row.Row.TheVariants as row
 use Rattle.fab_reach_index.specs.Indexes.{IsHeldBy, IsIndexOf}
 use Rattle.fab_reach_pairs.specs.Inner.Finding.{ByGroup}
 use Rattle.fab_reach_books.specs.Inner.Sets.{HasName, HasPortIn}
-use Rattle.fab_reach_moves.specs.Inner.Listing.{name_row, target_row, IsExposedIn, IsHostOf, SaysHeadAmong, unit_row, SaysUnit, TellsUnits}
+use Rattle.fab_reach_moves.specs.Inner.Listing.{target_row, IsExposedIn, IsHostOf, TellsUnits}
 use Rattle.fab_reach_pairs.specs.Inner.Offering.{IsPortServed}
 use Rattle.fab_reach_books.specs.Pairs.{Pair}
 use Rattle.fab_reach_pairs.specs.Inner.Regrouping.{IsPortOf, AreOffered, IsOfferedOtherwise}
-use Rattle.fab_reach_books.specs.Rows.{Stands, IsRowDiff}
-use Rattle.fab_reach_books.proofs.SetLoops.{same_option, adds_both, all_ports, all_names}
+use Rattle.fab_reach_books.specs.Rows.{Stands}
+use Rattle.fab_reach_books.proofs.SetLoops.{adds_both, all_ports, all_names}
 
 -- ---- what it offers
 

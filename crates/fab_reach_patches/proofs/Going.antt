@@ -4,17 +4,12 @@ use mathlib.Core.Bool.{true≢false}
 use Rattle.std.specs.Ordering.{nat_cmp}
 use Rattle.std.specs.BTreeMap.{BTreeMap}
 use Rattle.std.specs.BTreeSet.{BTreeSet, contains}
-use Rattle.std.specs.FinMap as map
-use Rattle.std.specs.FinSet as set
-use Rattle.fab_lemmas.specs.MapsOfSets.{tree_has}
 use Rattle.fab_names.specs.Orders.{name_cmp}
 use Rattle.fab_inventory.specs.Ports.{port_at}
 use Rattle.fab_inventory.specs.declared.port.Port.{Port}
-use Rattle.fab_mapping_base.specs.Groups.{StorageGroupRows}
 use Rattle.fab_reach.proofs.Reached.{path_told}
 use Rattle.fab_reach_base.specs.Adding.{Adds}
-use Rattle.fab_reach_base.specs.Books.{IsGained, IsDelta}
-use Rattle.fab_reach_base.specs.Orders.{path_cmp}
+use Rattle.fab_reach_base.specs.Books.{IsDelta}
 use Rattle.fab_reach_base.specs.Reach.{PathOf, Reaches}
 use Rattle.fab_reach_base.specs.Records.{Records}
 use Rattle.fab_reach_base.specs.declared.path.Path.{Path}
@@ -23,17 +18,17 @@ use Rattle.fab_reach_base.proofs.Gathering.{name_of, is_own, reaches}
 use Rattle.fab_reach_base.proofs.Same.{same_some}
 use Rattle.fab_reach_books.proofs.Staying.{holder_known, known_held}
 use Rattle.fab_reach_books.specs.Inner.Sets.{HasName, HasPortIn}
-use Rattle.fab_reach_books.specs.Pairs.{Pair, pair_cmp}
-use Rattle.fab_reach_books.specs.Rows.{Stands, IsRowDiff}
+use Rattle.fab_reach_books.specs.Pairs.{Pair}
+use Rattle.fab_reach_books.specs.Rows.{IsRowDiff}
 use Rattle.fab_reach_books.specs.declared.row.Row.{Row}
 use Rattle.fab_reach_books.specs.declared.row.Row.TheVariants as row
-use Rattle.fab_reach_index.specs.Indexes.{IsTreeOf, Zone, zone_cmp, PortInZone, ZoneHasPort, IsHostServed, IsHeldBy, IsTargetOf, IsHostGroupOf, IsRowOf}
+use Rattle.fab_reach_index.specs.Indexes.{IsTreeOf, Zone, zone_cmp, PortInZone, IsHostServed, IsHeldBy, IsTargetOf, IsHostGroupOf, IsRowOf}
 use Rattle.fab_reach_index.specs.Inner.Placing.{IsIn}
 use Rattle.fab_reach_moves.specs.Inner.Listing.{name_row, SaysHeld}
 use Rattle.fab_reach_moves.specs.Inner.Saying.{IsSaid, SaysServing}
 use Rattle.fab_reach_moves.specs.Moves.{AreMoved, AreTouched}
 use Rattle.fab_reach_moves.specs.declared.lists_after.Listed.TheVariants.{HostGroups}
-use Rattle.fab_reach_patches.specs.Inner.Rows.{Goes, IsRowIn, AreZonesLeft}
+use Rattle.fab_reach_patches.specs.Inner.Rows.{Goes, IsRowIn}
 
 -- ---- what rows say
 
@@ -52,11 +47,14 @@ module _ (w v : Records) (gone come : List Row) (d : IsRowDiff w v gone come) wh
         let named = name_of v p q.0 q.1 in
         let own = is_own v p q.0 q.1 in
         elim (d.after (row.Port q.0) own) [
-          | inl s ↦ inl (port_w h p q.0 s q.2 named, λ g.
-              let y = g.2 in
-              let l = d.left (row.Port y.0) (subst (Contains gone) y.1 g.1) in
-              let same : y.0 ≡ q.0 = sym (same_some (sym l.0 ∙ ap (port_at w.inventory.ports) (y.3 ∙ sym named) ∙ s) refl) in
-              l.1 (subst (λ k. port_at v.inventory.ports k.name ≡ Some k) (sym same) own))
+          | inl s ↦ inl (
+            port_w h p q.0 s q.2 named,
+            λ g.
+                let y = g.2 in
+                let l = d.left (row.Port y.0) (subst (Contains gone) y.1 g.1) in
+                let same : y.0 ≡ q.0 = sym (same_some (sym l.0 ∙ ap (port_at w.inventory.ports) (y.3 ∙ sym named) ∙ s) refl) in
+                l.1 (subst (λ k. port_at v.inventory.ports k.name ≡ Some k) (sym same) own),
+          )
           | inr c ↦ inr (row.Port q.0, c, (q.0, refl, q.2, named))
         ];
     stays = λ h p x none.
@@ -127,15 +125,15 @@ module _ (w v : Records) (moved : BTreeSet ℕ) (m : AreMoved w v moved) (zones 
 module _ (w v : Records) (touched : BTreeSet (List ℕ)) (t : AreTouched w v touched) where
   pub groups_go : Goes (IsHostServed w) (λ h n. HasName touched n × IsHostServed w h n) (λ h n. HasName touched n × IsHostServed v h n) (IsHostServed v)
   groups_go = some_goes (IsHostServed w) (IsHostServed v) (λ h n. contains name_cmp touched n) (λ h n is. (
-      (λ s. let k = (t n is).stays s.0 s.1 in (k.other, k.there, k.exposed s.2, k.serves h s.3)),
-      λ s. let k = (t n is).no_more s.0 s.1 in (k.other, k.there, k.exposed s.2, k.serves h s.3),
-    ))
+    (λ s. let k = (t n is).stays s.0 s.1 in (k.other, k.there, k.exposed s.2, k.serves h s.3)),
+    λ s. let k = (t n is).no_more s.0 s.1 in (k.other, k.there, k.exposed s.2, k.serves h s.3),
+  ))
 
   pub targets_go : Goes (IsTargetOf w) (λ q n. HasName touched n × IsTargetOf w q n) (λ q n. HasName touched n × IsTargetOf v q n) (IsTargetOf v)
   targets_go = some_goes (IsTargetOf w) (IsTargetOf v) (λ q n. contains name_cmp touched n) (λ q n is. (
-      (λ s. let k = (t n is).stays s.0 s.1 in (k.other, k.there, k.exposed s.2, k.targets q s.3)),
-      λ s. let k = (t n is).no_more s.0 s.1 in (k.other, k.there, k.exposed s.2, k.targets q s.3),
-    ))
+    (λ s. let k = (t n is).stays s.0 s.1 in (k.other, k.there, k.exposed s.2, k.targets q s.3)),
+    λ s. let k = (t n is).no_more s.0 s.1 in (k.other, k.there, k.exposed s.2, k.targets q s.3),
+  ))
 
 -- ---- paths
 

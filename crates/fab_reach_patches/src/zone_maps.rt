@@ -115,9 +115,33 @@ fn add_zones_after<A: Allocator + Copy>(
     let Some((fabric, place)) = port.at else {
         return Ok(());
     };
-    add_zones_with(alloc, zones, before, told, *name, fabric, &Member::Port(port.name))?;
-    add_zones_with(alloc, zones, before, told, *name, fabric, &Member::Node(port.node))?;
-    add_zones_with(alloc, zones, before, told, *name, fabric, &Member::Place(place))?;
+    add_zones_with(
+        alloc,
+        zones,
+        before,
+        told,
+        *name,
+        fabric,
+        &Member::Port(port.name),
+    )?;
+    add_zones_with(
+        alloc,
+        zones,
+        before,
+        told,
+        *name,
+        fabric,
+        &Member::Node(port.node),
+    )?;
+    add_zones_with(
+        alloc,
+        zones,
+        before,
+        told,
+        *name,
+        fabric,
+        &Member::Place(place),
+    )?;
     Ok(())
 }
 

@@ -1,19 +1,14 @@
 -- How the pairs to ask about are found: what the private steps say of themselves. No public contract
 -- names anything of this file.
-use Rattle.std.specs.Prelude.{ℕ, ◌≡◌, ◌⊎◌, List, Some, Bool, true, false, IsTrue}
+use Rattle.std.specs.Prelude.{ℕ, ◌≡◌, ◌⊎◌, List, Bool, true, false}
 use Rattle.std.specs.BTreeSet.{BTreeSet, contains}
 use Rattle.std.specs.Ordering.{nat_cmp}
-use Rattle.std.specs.FinMap as map
-use Rattle.std.specs.FinSet as set
 use Rattle.fab_names.specs.Orders.{name_cmp}
 use Rattle.fab_names.specs.declared.fabric.Fabric.{Fabric}
-use Rattle.fab_names.specs.declared.fabric.Fabric.TheVariants.{A, B}
 use Rattle.fab_mapping_base.specs.Groups.{StorageGroupRows}
 use Rattle.fab_reach_base.specs.Records.{Records}
-use Rattle.fab_reach_base.specs.Gathering.{Serves}
-use Rattle.fab_reach_books.specs.Affected.{HasSameRow, HasSameZones, HasSameFlag, AreAt}
+use Rattle.fab_reach_books.specs.Affected.{AreAt}
 use Rattle.fab_reach_books.specs.Inner.Moving.{Offers, IsOffered, IsInNone, StillOffers}
-use Rattle.fab_reach_books.specs.Pairs.{Pair, pair_cmp}
 
 module _ (w v : Records) (moved : BTreeSet ℕ) (touched : BTreeSet (List ℕ)) (flagged : Fabric → Bool) where
   -- an initiator that is not as it was, with the targets of the storage groups that served its host before,

@@ -1,5 +1,5 @@
 -- What the loops that find pairs say of themselves. No public contract names anything of this file.
-use Rattle.std.specs.Prelude.{ℕ, ◌≡◌, List, Contains, Some, true, false, IsTrue}
+use Rattle.std.specs.Prelude.{ℕ, ◌≡◌, List, Some, true, false}
 use Rattle.std.specs.BTreeMap.{BTreeMap}
 use Rattle.std.specs.BTreeSet.{BTreeSet, contains}
 use Rattle.std.specs.Ordering.{nat_cmp}
@@ -17,8 +17,6 @@ use Rattle.fab_reach_base.specs.Records.{Records}
 use Rattle.fab_reach_base.specs.Reach.{IsPort}
 use Rattle.fab_reach_index.specs.Inner.Holding.{Held, HoldsIn}
 use Rattle.fab_reach_books.specs.Inner.Moving.{IsInNone, Offers}
-use Rattle.fab_reach_books.specs.declared.row.Row.{Row}
-use Rattle.fab_reach_books.specs.declared.row.Row.TheVariants as row
 
 -- a host of the host group holds the port
 abbrev pub IsHostPort : Held → HostGroupRows → ℕ → Type 0

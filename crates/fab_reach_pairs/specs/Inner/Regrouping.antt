@@ -1,21 +1,13 @@
 -- What a storage group that a step touches offers before and after it. No public contract names anything
 -- of this file.
-use Rattle.std.specs.Prelude.{ℕ, ◌≡◌, ◌⊎◌, List, Contains, Some, Bool, true}
+use Rattle.std.specs.Prelude.{ℕ, ◌⊎◌, List}
 use Rattle.std.specs.BTreeSet.{BTreeSet}
-use Rattle.std.specs.FinMap as map
 use Rattle.fab_mapping_base.specs.Groups.{StorageGroupRows}
-use Rattle.fab_store_rows.specs.declared.config_row.GroupRow.TheVariants as group
-use Rattle.fab_store_rows.specs.declared.config_row.StorageGroupRow.{StorageGroupRow}
-use Rattle.fab_store_rows.specs.declared.config_row.StoragePart.TheVariants as part
-use Rattle.fab_store_rows.specs.declared.config_row.PartRow.TheVariants as parts
 use Rattle.fab_reach_base.specs.Records.{Records}
-use Rattle.fab_reach_books.specs.declared.row.Row.{Row}
-use Rattle.fab_reach_books.specs.declared.row.Row.TheVariants as row
 use Rattle.fab_reach_index.specs.Indexes.{IsHeldBy}
 use Rattle.fab_reach_moves.specs.Inner.Listing.{IsHostOf}
 use Rattle.fab_reach_books.specs.Inner.Moving.{Offers, StillOffers}
 use Rattle.fab_reach_books.specs.Inner.Sets.{HasPortIn}
-use Rattle.fab_reach_books.specs.Rows.{Stands}
 
 -- it serves the port's holder
 abbrev pub IsPortOf : Records → List ℕ → ℕ → Type 0
