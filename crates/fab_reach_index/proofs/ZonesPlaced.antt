@@ -24,7 +24,7 @@ use Rattle.fab_reach_base.specs.Serving.{IsServing}
 use Rattle.fab_reach_base.proofs.Adding.{Before, adds_as, adds_none}
 use Rattle.fab_reach_base.proofs.Same.{same_some}
 use Rattle.fab_reach_books.specs.Affected.{IsInZone}
-use Rattle.fab_reach_index.specs.Indexes.{Zone, zone_cmp, IsTreeOf, PortInZone, ZoneHasPort}
+use Rattle.fab_reach_index.specs.Indexes.{Zone, zone_cmp, PortInZone}
 use Rattle.fab_reach_index.specs.KeyLaws.{zone_exact, zone_total}
 use Rattle.std.specs.BTreeMap as tree
 use Rattle.std.specs.BTreeMap.{BTreeMap, IsOrdered}

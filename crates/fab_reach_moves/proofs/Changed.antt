@@ -15,8 +15,7 @@ use Rattle.fab_names.specs.Places.{Position}
 use Rattle.fab_names.specs.declared.fabric.Fabric.{Fabric}
 use Rattle.fab_names.specs.declared.member.Member.{Member}
 use Rattle.fab_names.specs.declared.member.Member.TheVariants as member
-use Rattle.fab_names.specs.contracts.fabric.FabricOrd.TheImpl.Laws.{total-law as fabric_total}
-use Rattle.fab_names.proofs.OrderLaws.{name_total, member_total, member_exact}
+use Rattle.fab_names.proofs.OrderLaws.{member_total, member_exact}
 use Rattle.fab_inventory.specs.declared.port.Known.{Known}
 use Rattle.fab_inventory.specs.declared.port.Port.{Port}
 use Rattle.fab_inventory.specs.Ports.{port_at, port_of}
@@ -37,7 +36,7 @@ use Rattle.fab_reach_books.specs.declared.row.Row.TheVariants as row
 use Rattle.fab_reach_books.specs.Affected.{IsInZone}
 use Rattle.fab_reach_moves.specs.Inner.Changing.{Key, key_cmp, HasKey, active_of, AreActive, SaysPort, SaysPortAmong, IsChangedBy, IsPortChangedBy, IsPortChanged, IsRezoned}
 use Rattle.fab_reach_moves.specs.Moves.{IsSamePort, AreMoved}
-use Rattle.fab_reach_index.specs.Indexes.{Zone, zone_cmp}
+use Rattle.fab_reach_index.specs.Indexes.{zone_cmp}
 use Rattle.fab_reach_index.specs.KeyLaws.{zone_exact, zone_total}
 use Rattle.fab_reach_books.specs.Inner.Sets.{HasPortIn}
 use Rattle.fab_reach_books.specs.Rows.{IsRowDiff}

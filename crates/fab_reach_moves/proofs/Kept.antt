@@ -1,8 +1,7 @@
 -- Storage groups that no row touches are kept; and flags that no row says.
-use Rattle.std.proofs.Common.{ℕ, ◌≡◌, List, [], Bool, true, false, Option, None, Some, IsTrue, inl, inr, refl, sym, ap, ◌∙◌, subst, cond}
+use Rattle.std.proofs.Common.{ℕ, ◌≡◌, List, [], Bool, true, false, Option, None, Some, IsTrue, inl, inr, refl, sym, ap, ◌∙◌, subst}
 use mathlib.Core.Bool.{true≢false}
 use Rattle.std.specs.BTreeMap as tree
-use Rattle.std.specs.BTreeMap.{is_at}
 use Rattle.std.specs.BTreeSet.{BTreeSet, contains}
 use Rattle.std.specs.Cmp.{nat_cmp_total}
 use Rattle.std.specs.FinMap as map
@@ -10,7 +9,6 @@ use Rattle.std.specs.FinSet as set
 use Rattle.fab_names.specs.Orders.{name_cmp}
 use Rattle.fab_names.specs.declared.fabric.Fabric.{Fabric}
 use Rattle.fab_names.specs.declared.fabric.Fabric.TheVariants.{A, B}
-use Rattle.fab_names.proofs.OrderLaws.{name_total, name_exact}
 use Rattle.fab_lemmas.specs.MapsOfSets.{in_tree, tree_has}
 use Rattle.fab_mapping_base.specs.Groups.{StorageGroupRows}
 use Rattle.fab_zoning.specs.Zonings.{permits, flag_of, flag_of-permits}
@@ -21,7 +19,6 @@ use Rattle.fab_reach_base.specs.Adding.{Adds}
 use Rattle.fab_reach_base.specs.Records.{Records, zoning_at}
 use Rattle.fab_reach_base.proofs.Adding.{Before, adds_as, adds_none}
 use Rattle.fab_reach_base.proofs.Same.{same_some}
-use Rattle.fab_reach_base.proofs.Sets.{adds_insert}
 use Rattle.fab_reach_books.specs.declared.row.Row.{Row}
 use Rattle.fab_reach_books.specs.declared.row.Row.TheVariants.{DefaultZone, Group, Part}
 use Rattle.fab_reach_index.specs.declared.index.Index.{Index}

@@ -1,5 +1,5 @@
 -- Lists of the world after a step.
-use Rattle.std.proofs.Common.{ℕ, ◌≡◌, List, [], Bool, true, false, Contains, Option, None, Some, IsTrue, ◌⊎◌, inl, inr, refl, sym, ap, ◌∙◌, subst}
+use Rattle.std.proofs.Common.{ℕ, ◌≡◌, List, [], Bool, true, false, Contains, Option, None, Some, ◌⊎◌, inl, inr, refl, sym, ap, ◌∙◌, subst}
 use mathlib.Core.Bool.{true≢false}
 use Rattle.std.specs.Ordering.{nat_cmp}
 use Rattle.std.specs.Cmp.{nat_cmp_total}
@@ -12,7 +12,7 @@ use Rattle.std.specs.FinSet as set
 use Rattle.fab_names.specs.Orders.{name_cmp}
 use Rattle.fab_inventory.specs.declared.port.Port.{Port}
 use Rattle.fab_inventory.specs.Ports.{port_at}
-use Rattle.fab_lemmas.specs.MapsOfSets.{in_tree, tree_has}
+use Rattle.fab_lemmas.specs.MapsOfSets.{in_tree}
 use Rattle.fab_lemmas.proofs.SeenSets.{listed_decides}
 use Rattle.fab_mapping_base.specs.Groups.{HostGroupRows, StorageGroupRows}
 use Rattle.fab_reach_base.specs.Adding.{Adds}
@@ -30,7 +30,6 @@ use Rattle.fab_reach_index.specs.Indexes.{IsHeldBy, IsTreeOf}
 use Rattle.fab_reach_index.specs.Inner.Holding.{Held, HoldsIn}
 use Rattle.fab_reach_moves.specs.Inner.Listing.{IsHostOf, name_row, target_row, SaysHeld, NamesNoPort}
 use Rattle.fab_reach_moves.specs.Inner.Saying.{IsSaid}
-use Rattle.fab_reach_moves.specs.declared.lists_after.Listed.{Listed}
 use Rattle.fab_reach_moves.specs.declared.lists_after.Listed.TheVariants.{HostGroups, Hosts}
 
 -- ---- what rows say under keys

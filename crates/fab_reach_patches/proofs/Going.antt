@@ -4,17 +4,12 @@ use mathlib.Core.Bool.{true≢false}
 use Rattle.std.specs.Ordering.{nat_cmp}
 use Rattle.std.specs.BTreeMap.{BTreeMap}
 use Rattle.std.specs.BTreeSet.{BTreeSet, contains}
-use Rattle.std.specs.FinMap as map
-use Rattle.std.specs.FinSet as set
-use Rattle.fab_lemmas.specs.MapsOfSets.{tree_has}
 use Rattle.fab_names.specs.Orders.{name_cmp}
 use Rattle.fab_inventory.specs.Ports.{port_at}
 use Rattle.fab_inventory.specs.declared.port.Port.{Port}
-use Rattle.fab_mapping_base.specs.Groups.{StorageGroupRows}
 use Rattle.fab_reach.proofs.Reached.{path_told}
 use Rattle.fab_reach_base.specs.Adding.{Adds}
-use Rattle.fab_reach_base.specs.Books.{IsGained, IsDelta}
-use Rattle.fab_reach_base.specs.Orders.{path_cmp}
+use Rattle.fab_reach_base.specs.Books.{IsDelta}
 use Rattle.fab_reach_base.specs.Reach.{PathOf, Reaches}
 use Rattle.fab_reach_base.specs.Records.{Records}
 use Rattle.fab_reach_base.specs.declared.path.Path.{Path}
@@ -23,17 +18,17 @@ use Rattle.fab_reach_base.proofs.Gathering.{name_of, is_own, reaches}
 use Rattle.fab_reach_base.proofs.Same.{same_some}
 use Rattle.fab_reach_books.proofs.Staying.{holder_known, known_held}
 use Rattle.fab_reach_books.specs.Inner.Sets.{HasName, HasPortIn}
-use Rattle.fab_reach_books.specs.Pairs.{Pair, pair_cmp}
-use Rattle.fab_reach_books.specs.Rows.{Stands, IsRowDiff}
+use Rattle.fab_reach_books.specs.Pairs.{Pair}
+use Rattle.fab_reach_books.specs.Rows.{IsRowDiff}
 use Rattle.fab_reach_books.specs.declared.row.Row.{Row}
 use Rattle.fab_reach_books.specs.declared.row.Row.TheVariants as row
-use Rattle.fab_reach_index.specs.Indexes.{IsTreeOf, Zone, zone_cmp, PortInZone, ZoneHasPort, IsHostServed, IsHeldBy, IsTargetOf, IsHostGroupOf, IsRowOf}
+use Rattle.fab_reach_index.specs.Indexes.{IsTreeOf, Zone, zone_cmp, PortInZone, IsHostServed, IsHeldBy, IsTargetOf, IsHostGroupOf, IsRowOf}
 use Rattle.fab_reach_index.specs.Inner.Placing.{IsIn}
 use Rattle.fab_reach_moves.specs.Inner.Listing.{name_row, SaysHeld}
 use Rattle.fab_reach_moves.specs.Inner.Saying.{IsSaid, SaysServing}
 use Rattle.fab_reach_moves.specs.Moves.{AreMoved, AreTouched}
 use Rattle.fab_reach_moves.specs.declared.lists_after.Listed.TheVariants.{HostGroups}
-use Rattle.fab_reach_patches.specs.Inner.Rows.{Goes, IsRowIn, AreZonesLeft}
+use Rattle.fab_reach_patches.specs.Inner.Rows.{Goes, IsRowIn}
 
 -- ---- what rows say
 

@@ -1,10 +1,7 @@
 -- The storage groups that a step touches, by hosts and by targets.
-use Rattle.std.proofs.Common.{ℕ, ◌≡◌, List, Bool, true, false, Contains, Some, IsTrue, inl, inr, refl, sym, ap, ◌∙◌, subst}
-use Rattle.std.specs.Ordering.{nat_cmp}
-use Rattle.std.specs.BTreeSet.{BTreeSet, contains}
-use Rattle.std.specs.FinMap as map
+use Rattle.std.proofs.Common.{ℕ, ◌≡◌, List, true, refl, sym, subst}
+use Rattle.std.specs.BTreeSet.{BTreeSet}
 use Rattle.std.specs.FinSet as set
-use Rattle.fab_names.specs.Orders.{name_cmp}
 use Rattle.fab_mapping_base.specs.Groups.{StorageGroupRows}
 use Rattle.fab_reach_base.specs.Adding.{Adds}
 use Rattle.fab_reach_base.specs.Records.{Records}

@@ -1,5 +1,5 @@
 -- The zones of ports, before a step and after it.
-use Rattle.std.proofs.Common.{ℕ, ◌≡◌, List, Bool, true, false, Contains, Option, None, Some, IsTrue, ◌||◌, ◌⊎◌, inl, inr, refl, sym, ap, ◌∙◌, subst}
+use Rattle.std.proofs.Common.{ℕ, ◌≡◌, List, true, Option, None, Some, ◌||◌, refl, sym, ap, ◌∙◌, subst}
 use Rattle.std.specs.Ordering.{nat_cmp}
 use Rattle.std.specs.BTreeMap as tree
 use Rattle.std.specs.BTreeMap.{BTreeMap}
@@ -24,7 +24,7 @@ use Rattle.fab_reach_books.specs.Inner.Sets.{HasPortIn}
 use Rattle.fab_reach_index.specs.Indexes.{Zone, zone_cmp, PortInZone}
 use Rattle.fab_reach_index.specs.Inner.Placing.{IsIn, ByZone, ByZones}
 use Rattle.fab_reach_index.specs.Inner.Regathering.{HasIn}
-use Rattle.fab_reach_index.proofs.ZonesPlaced.{Placed, zones_as, zones_three}
+use Rattle.fab_reach_index.proofs.ZonesPlaced.{Placed, zones_three}
 use Rattle.fab_reach_moves.proofs.Changed.{zoned_by_three}
 use Rattle.fab_zoning.specs.Joins.{IsLoggedInAt, Holds}
 

@@ -4,6 +4,8 @@
 #[cfg(test)]
 mod books;
 #[cfg(test)]
+mod counted;
+#[cfg(test)]
 mod limits;
 #[cfg(test)]
 mod links;

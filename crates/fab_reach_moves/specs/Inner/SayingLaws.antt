@@ -1,14 +1,13 @@
 -- A row says one thing, under one key: laws of the trait of what rows say.
-use Rattle.std.proofs.Common.{ℕ, ◌≡◌, List, Bool, Some, sym, ap, ◌∙◌}
+use Rattle.std.proofs.Common.{◌≡◌, Some, sym, ap, ◌∙◌}
 use Rattle.fab_inventory.specs.declared.port.Port.{Port}
 use Rattle.fab_store_rows.specs.declared.config_row.ActiveRow.{ActiveRow}
 use Rattle.fab_store_rows.specs.declared.config_row.GroupRow.TheVariants as group
 use Rattle.fab_store_rows.specs.declared.config_row.StorageGroupRow.{StorageGroupRow}
 use Rattle.fab_store_rows.specs.declared.config_row.StoragePart.TheVariants as part
 use Rattle.fab_store_rows.specs.declared.config_row.PartRow.TheVariants as parts
-use Rattle.fab_reach_books.specs.declared.row.Row.{Row}
 use Rattle.fab_reach_books.specs.declared.row.Row.TheVariants as row
-use Rattle.fab_reach_moves.specs.Inner.Listing.{SaysHeld, SaysHead, unit_row}
+use Rattle.fab_reach_moves.specs.Inner.Listing.{SaysHeld, SaysHead}
 use Rattle.fab_reach_moves.specs.Inner.Saying.{SaysPortAt, SaysHost, SaysHostGroup, SaysServing, SaysTarget, SaysUnitAt, SaysZoned, IsOnce}
 
 pub once_port : IsOnce SaysPortAt

@@ -1,5 +1,5 @@
 -- A difference by key. No public contract of the room names anything of this file.
-use Rattle.std.specs.Prelude.{ℕ, List}
+use Rattle.std.specs.Prelude.{List}
 use Rattle.std.specs.Ordering.{nat_cmp}
 use Rattle.fab_names.specs.Orders.{name_cmp}
 use Rattle.fab_reach_base.specs.Records.{Records}

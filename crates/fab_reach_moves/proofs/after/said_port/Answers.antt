@@ -1,7 +1,4 @@
-use Rattle.std.proofs.Common.{◌≡◌, ◌∙◌, Contains, Option, MatchOption, None, Some, sym, subst}
-use Rattle.fab_inventory.specs.declared.port.Port.{Port}
-use Rattle.fab_reach_books.specs.declared.row.Row.TheVariants as row
-use Rattle.fab_reach_moves.specs.Inner.Listing.{NamesNoPort}
+use Rattle.std.proofs.Common.{None, Some}
 use Rattle.fab_reach_moves.proofs.PortsAfter.{port_said}
 use Rattle.fab_reach_moves.proofs.after.said_port.Goals as goal
 

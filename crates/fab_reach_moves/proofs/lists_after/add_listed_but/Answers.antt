@@ -12,7 +12,7 @@ use Rattle.fab_reach_books.specs.Rows.{Stands}
 use Rattle.fab_reach_moves.specs.Inner.Listing.{name_row}
 use Rattle.fab_reach_moves.specs.declared.lists_after.Listed.{Listed}
 use Rattle.fab_reach_moves.specs.declared.lists_after.Listed.TheVariants.{HostGroups, Hosts}
-use Rattle.fab_reach_moves.proofs.ListsAfter.{stand_left, none_left, host_groups_stand, no_host_groups, hosts_stand, no_hosts_stand}
+use Rattle.fab_reach_moves.proofs.ListsAfter.{stand_left, host_groups_stand, hosts_stand}
 use Rattle.fab_reach_moves.proofs.lists_after.add_listed_but.Goals as goal
 
 pub returns-in_ok-add_host_groups_but-in-HostGroups : goal.returns-in_ok-add_host_groups_but-in-HostGroups

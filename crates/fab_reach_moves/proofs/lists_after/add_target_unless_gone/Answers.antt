@@ -1,8 +1,7 @@
-use Rattle.std.proofs.Common.{ℕ, List, sym, ◌∙◌}
+use Rattle.std.proofs.Common.{ℕ, sym, ◌∙◌}
 use Rattle.std.specs.Option.{option_copied}
 use Rattle.std.specs.Ordering.{nat_cmp}
 use Rattle.fab_lemmas.specs.MapsOfSets.{in_tree}
-use Rattle.fab_names.specs.Orders.{name_cmp}
 use Rattle.fab_reach_books.specs.Inner.Sets.{HasPortIn}
 use Rattle.fab_reach_books.proofs.SetLoops.{adds_port}
 use Rattle.fab_reach_moves.proofs.ListsAfter.{is_left, is_gone}

@@ -9,7 +9,7 @@ use Rattle.fab_reach_base.specs.Views.{seen}
 use Rattle.fab_reach_books.specs.Inner.Sets.{HasPortIn}
 use Rattle.fab_reach_books.specs.Rows.{Stands}
 use Rattle.fab_reach_moves.specs.Inner.Listing.{target_row}
-use Rattle.fab_reach_moves.proofs.ListsAfter.{stand_left, none_left, targets_stand, no_targets_stand}
+use Rattle.fab_reach_moves.proofs.ListsAfter.{stand_left, targets_stand}
 use Rattle.fab_reach_moves.proofs.lists_after.add_targets_before.Goals as goal
 
 pub returns-in_ok-add_targets_but : goal.returns-in_ok-add_targets_but

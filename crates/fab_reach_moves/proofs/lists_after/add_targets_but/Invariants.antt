@@ -3,7 +3,6 @@ use Rattle.std.specs.FinSet as set
 use Rattle.std.specs.Option.{option_copied}
 use Rattle.std.specs.Ordering.{nat_cmp}
 use Rattle.fab_lemmas.specs.MapsOfSets.{in_tree}
-use Rattle.fab_names.specs.Orders.{name_cmp}
 use Rattle.fab_reach_base.specs.Adding.{Adds}
 use Rattle.fab_reach_base.proofs.Adding.{Before}
 use Rattle.fab_reach_books.specs.Inner.Sets.{HasPortIn}

@@ -1,4 +1,3 @@
-use Rattle.std.proofs.Common.{None, sym, ◌∙◌}
 use Rattle.fab_reach_books.specs.Inner.Sets.{HasPortIn}
 use Rattle.fab_reach_books.proofs.SetLoops.{adds_port}
 use Rattle.fab_reach_moves.proofs.ListsAfter.{is_unsaid, is_said}

@@ -1,4 +1,4 @@
-use Rattle.std.proofs.Common.{◌≡◌, ℕ, List, Contains, true, sym, subst}
+use Rattle.std.proofs.Common.{◌≡◌, Contains, true, sym, subst}
 use Rattle.std.specs.Option.{option_copied}
 use Rattle.fab_lemmas.specs.MapsOfSets.{in_tree}
 use Rattle.fab_names.specs.Orders.{name_cmp}

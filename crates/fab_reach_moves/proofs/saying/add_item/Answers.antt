@@ -1,4 +1,3 @@
-use Rattle.std.proofs.Common.{sym}
 use Rattle.fab_reach_base.proofs.Adding.{adds_none}
 use Rattle.fab_reach_index.specs.Inner.Placing.{IsIn}
 use Rattle.fab_reach_moves.proofs.SaidRows.{Says, item_said}

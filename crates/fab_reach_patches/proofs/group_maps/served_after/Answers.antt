@@ -1,10 +1,6 @@
-use Rattle.std.proofs.Common.{ℕ, List}
-use Rattle.std.specs.Ordering.{nat_cmp}
 use Rattle.fab_names.specs.Orders.{name_cmp}
-use Rattle.fab_reach_base.specs.Views.{seen}
-use Rattle.fab_reach_books.specs.Inner.Sets.{HasName, HasPortIn}
-use Rattle.fab_reach_index.specs.Indexes.{zone_cmp, PortInZone, IsHostServed, IsTargetOf}
-use Rattle.fab_reach_index.specs.Inner.Placing.{IsIn}
+use Rattle.fab_reach_books.specs.Inner.Sets.{HasName}
+use Rattle.fab_reach_index.specs.Indexes.{IsHostServed}
 use Rattle.fab_reach_index.proofs.Placed.{tree_is}
 use Rattle.fab_reach_patches.proofs.group_maps.served_after.Goals as goal
 

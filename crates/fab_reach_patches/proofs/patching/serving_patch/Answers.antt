@@ -1,15 +1,6 @@
-use Rattle.std.proofs.Common.{ℕ, List}
-use Rattle.std.specs.Ordering.{nat_cmp}
 use Rattle.fab_names.specs.Orders.{name_cmp}
-use Rattle.fab_reach_base.specs.Orders.{path_cmp}
-use Rattle.fab_reach_base.specs.Views.{seen}
-use Rattle.fab_reach_books.specs.Inner.Sets.{HasName, HasPortIn}
-use Rattle.fab_reach_books.specs.Pairs.{pair_cmp}
-use Rattle.fab_reach_index.specs.Indexes.{zone_cmp, PortInZone, ZoneHasPort, IsHostServed, IsHeldBy, IsTargetOf, IsHostGroupOf, IsRowOf}
-use Rattle.fab_reach_index.specs.Inner.Placing.{IsIn}
-use Rattle.fab_reach_moves.specs.Inner.Listing.{SaysHeld}
+use Rattle.fab_reach_index.specs.Indexes.{IsHostGroupOf}
 use Rattle.fab_reach_moves.specs.Inner.Saying.{IsSaid, SaysServing}
-use Rattle.fab_reach_patches.specs.Inner.Rows.{IsRowIn}
 use Rattle.fab_reach_patches.proofs.Leading.{leads_by}
 use Rattle.fab_reach_patches.proofs.Going.{serving_goes}
 use Rattle.fab_reach_patches.proofs.patching.serving_patch.Goals as goal

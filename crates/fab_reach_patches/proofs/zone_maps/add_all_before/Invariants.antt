@@ -1,16 +1,10 @@
-use Rattle.std.proofs.Common.{◌≡◌, ℕ, List, ◌++◌}
+use Rattle.std.proofs.Common.{◌≡◌, List, ◌++◌}
 use Rattle.std.specs.Ordering.{nat_cmp}
-use Rattle.fab_names.specs.Orders.{name_cmp}
 use Rattle.fab_reach_base.specs.Adding.{Adds}
-use Rattle.fab_reach_base.specs.Records.{Records}
-use Rattle.fab_reach_base.specs.Serving.{IsServing}
-use Rattle.fab_reach_base.specs.Views.{seen}
 use Rattle.fab_reach_base.proofs.Adding.{Before}
 use Rattle.fab_reach_index.specs.Indexes.{zone_cmp}
-use Rattle.fab_reach_index.specs.Inner.Placing.{IsIn, ByZone}
-use Rattle.fab_reach_moves.specs.Inner.Telling.{IsTold}
+use Rattle.fab_reach_index.specs.Inner.Placing.{IsIn}
 use Rattle.fab_reach_patches.proofs.ZonesGathered.{OfPort}
-use Rattle.fab_reach_patches.proofs.GroupsGathered.{OfServed, OfTargeted}
 use Rattle.fab_reach_patches.proofs.zone_maps.add_all_before.Given as goal
 
 abbrev pub invariant-loop-port : goal.invariant-loop-port

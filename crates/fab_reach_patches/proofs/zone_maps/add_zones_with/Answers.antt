@@ -1,4 +1,4 @@
-use Rattle.std.proofs.Common.{ℕ, List, ◌≡◌, true}
+use Rattle.std.proofs.Common.{◌≡◌, true}
 use Rattle.std.specs.FinSet as set
 use Rattle.std.specs.Ordering.{nat_cmp}
 use Rattle.fab_reach_base.specs.Records.{zoning_at}

@@ -4,7 +4,6 @@ use Rattle.std.specs.Option.{option_copied}
 use Rattle.fab_lemmas.specs.MapsOfSets.{in_tree}
 use Rattle.fab_names.specs.Orders.{name_cmp}
 use Rattle.fab_reach_base.proofs.Adding.{adds_as}
-use Rattle.fab_reach_base.specs.Records.{zoning_at}
 use Rattle.fab_reach_base.specs.Views.{seen}
 use Rattle.fab_reach_books.proofs.SetLoops.{names_from_nothing}
 use Rattle.fab_reach_books.specs.Inner.Sets.{HasName}

@@ -1,0 +1,19 @@
+-- What the paths of one pair gain and lose.
+use Rattle.std.specs.Prelude.{◌≡◌, List, Contains, Option, None, Some, Bool, true, false}
+use Rattle.std.specs.Borrow.{Bor}
+use Rattle.std.specs.BTreeSet.{BTreeSet, contains}
+use Rattle.fab_reach_base.specs.Orders.{path_cmp}
+use Rattle.fab_reach_base.specs.declared.path.Path.{Path}
+
+-- whether the path is among the rows, if there are any
+abbrev pub in_rows : Option (Bor (BTreeSet Path)) → Path → Bool
+in_rows None x = false
+in_rows (Some s) x = contains path_cmp s.now x
+
+-- the path is listed, and not among the rows
+abbrev pub IsLater : List Path → Option (Bor (BTreeSet Path)) → Path → Type 0
+IsLater these rows x = Contains these x × ¬ (in_rows rows x ≡ true)
+
+-- the path is among the rows, and not listed
+abbrev pub IsEarlier : Option (Bor (BTreeSet Path)) → List Path → Path → Type 0
+IsEarlier rows these x = (in_rows rows x ≡ true) × ¬ Contains these x

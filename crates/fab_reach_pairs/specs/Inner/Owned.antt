@@ -1,0 +1,22 @@
+-- The paths of some ports, from the paths of pairs. No public contract names anything of this file.
+use Rattle.std.specs.Prelude.{ℕ, List}
+use Rattle.std.specs.BTreeMap.{BTreeMap}
+use Rattle.std.specs.BTreeSet.{BTreeSet}
+use Rattle.fab_reach_base.specs.Orders.{Has, path_cmp}
+use Rattle.fab_reach_base.specs.declared.path.Path.{Path}
+use Rattle.fab_reach_books.specs.Inner.Sets.{HasPortIn}
+use Rattle.fab_reach_books.specs.Pairs.{Pair, pair_cmp}
+use Rattle.fab_reach_index.specs.Inner.Holding.{Held, HoldsIn}
+use Rattle.fab_reach_index.specs.Inner.Placing.{IsIn}
+
+-- the path is one of the pair, whose initiator is one of the ports
+abbrev pub IsOwnedAt : BTreeSet ℕ → Pair × BTreeSet Path → Path → Type 0
+IsOwnedAt ports e x = HasPortIn ports e.0.0 × Has e.1 x
+
+-- the path is one of a pair whose initiator is one of the ports
+abbrev pub IsOwned : BTreeSet ℕ → BTreeMap Pair (BTreeSet Path) → Path → Type 0
+IsOwned ports rows x = (e : Pair) × HasPortIn ports e.0 × IsIn pair_cmp path_cmp rows (e, x)
+
+-- the path is one of a pair whose initiator the holder holds
+abbrev pub IsOwnedBy : Held → BTreeMap Pair (BTreeSet Path) → List ℕ → Path → Type 0
+IsOwnedBy held rows h x = (e : Pair) × HoldsIn held h e.0 × IsIn pair_cmp path_cmp rows (e, x)
