@@ -39,6 +39,15 @@ ANSWERED = """< HTTP/1.1 404 Not Found\\r
 < {"code":9,"error":"not-found"}\\
 """
 
+NOBODY = """< HTTP/1.1 401 Unauthorized\\r
+< Content-Type: application/json\\r
+< Content-Length: 30\\r
+< WWW-Authenticate: Bearer\\r
+< Connection: close\\r
+< \\r
+< {"code":1,"error":"no-caller"}\\
+"""
+
 GOOD = f"# A text.\n= one host\n{POLICY}{ASKED}{ANSWERED}"
 OTHER = ANSWERED.replace("404 Not Found", "200 OK").replace("not-found", "not\\\\found")
 
@@ -88,7 +97,10 @@ CASES = (
     ),
     ("no escape", f"{GOOD}@ 0\n> \\q\n".encode(), 3, "", "text: line 22 is not of the form\n"),
     ("half a byte", f"{GOOD}@ 0\n> \\x0\n".encode(), 3, "", "text: line 22 is not of the form\n"),
-    ("no policy", f"# A text.\n= a\n{ASKED}".encode(), 3, "", "text: the scenario of line 2 has no policy\n"),
+    (
+        "no policy, in which nobody is a caller", f"# A text.\n= a\n{ASKED}{NOBODY}".encode(), 0,
+        "text: 6 answers as recorded, 0 otherwise\n", "",
+    ),
     ("a policy that is none", b"# A text.\n= a\n| x\n", 3, "", "text: the scenario of line 2 has no policy\n"),
     ("no UTF-8", GOOD.encode() + b"@ 0\n> \xff\n", 3, "", "text: it cannot be read\n"),
 )
