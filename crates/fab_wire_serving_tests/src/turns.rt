@@ -389,7 +389,7 @@ fn first_of_second_line(log: &str) -> &str {
 }
 
 /// Two clients take nothing of answers that are more than is kept together: the first one is let go when
-/// the second one is answered, long before its time is up. The second one goes away when a third one has
+/// the second one is answered, and not after its time, which is longer than a test may take. The second one goes away when a third one has
 /// its turn.
 #[test]
 fn answers_that_nobody_takes_are_bounded(rt: HostRuntime) {
@@ -399,10 +399,9 @@ fn answers_that_nobody_takes_are_bounded(rt: HostRuntime) {
     let _third = told_whole(&rt, &listener, b"a");
     let log = BufWriter::new(rt.alloc(), Vec::new(rt.alloc())).expect(&rt, "a log");
     let mut watch = Watch::new(rt.alloc(), &rt, log, polled(&rt));
-    watch.most = Duration::from_secs(50);
+    watch.most = Duration::from_secs(1000);
     let mut echo = Echo::over(None);
     let mut moment = 999u64;
-    let begun = rt.monotonic().expect(&rt, "a clock");
     serve_on(
         &mut watch,
         &mut echo,
@@ -418,10 +417,8 @@ fn answers_that_nobody_takes_are_bounded(rt: HostRuntime) {
         &mut || Err(()),
     )
     .expect(&rt, "connections");
-    let took = rt.monotonic().expect(&rt, "a clock").saturating_sub(begun);
     let log = taken(&rt, watch.log.into_inner());
     assert!(rt; log.starts_with("1000 unsent ") && log.contains("\n1001 unsent "));
-    assert!(rt; took < Duration::from_secs(45));
 }
 
 /// So many connections over which nothing is sent.
