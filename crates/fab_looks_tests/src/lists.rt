@@ -1,6 +1,6 @@
 //! Which names callers are told of each kind.
 
-use crate::stock::{ADA, CYD, EVE, caller, name, world};
+use crate::stock::{ADA, CYD, EVE, caller, made, name, world};
 use fab_looks::{Kind, list, list_ports};
 use fab_names::Fabric;
 use fab_policy::Policy;
@@ -50,7 +50,7 @@ fn is_listed(
 
 /// Each list is as its case says.
 fn assert_lists(rt: &(impl Abort + AllocGlobal)) {
-    let policy = policy(rt.alloc()).expect(rt, "a policy");
+    let policy = made(rt, policy(rt.alloc()), "policy");
     let world = world(rt);
     for case in CASES {
         assert!(rt; is_listed(rt, &policy, &world, *case));

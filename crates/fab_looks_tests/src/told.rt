@@ -1,6 +1,6 @@
 //! Why a host reaches a volume, and who reaches it, as callers are told.
 
-use crate::stock::{ADA, CYD, EVE, caller, name, world};
+use crate::stock::{ADA, CYD, EVE, caller, made, name, world};
 use fab_looks::{told, who_told};
 use fab_looks_base::{Link, Why};
 use fab_policy::Policy;
@@ -60,7 +60,7 @@ fn is_told(
 
 /// Each case is as it says.
 fn assert_cases(rt: &(impl Abort + AllocGlobal)) {
-    let policy = policy(rt.alloc()).expect(rt, "a policy");
+    let policy = made(rt, policy(rt.alloc()), "policy");
     let world = world(rt);
     for case in CASES {
         assert!(rt; is_told(rt, &policy, &world, *case));
@@ -105,7 +105,7 @@ fn is_reached(
 
 /// Each volume is reached as its case says.
 fn assert_reaches(rt: &(impl Abort + AllocGlobal)) {
-    let policy = policy(rt.alloc()).expect(rt, "a policy");
+    let policy = made(rt, policy(rt.alloc()), "policy");
     let world = world(rt);
     for reach in REACHES {
         assert!(rt; is_reached(rt, &policy, &world, *reach));
