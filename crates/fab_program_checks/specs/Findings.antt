@@ -1,10 +1,12 @@
 -- What is found in the bytes of a file.
-use Rattle.std.specs.Prelude.{ℕ, ◌≡◌, ◌<◌, ◌≤◌, ◌^◌, ◌⊎◌, List, length, Result, Ok, Err, IsUtf8}
+use Rattle.std.specs.Prelude.{ℕ, ◌≡◌, ◌<◌, ◌^◌, ◌⊎◌, List, length, Result, Ok, Err, IsUtf8}
 use Rattle.fab_inventory.specs.declared.port.PortRow.{PortRow}
 use Rattle.fab_plans_base.specs.Steps.{PlanStep}
 use Rattle.fab_plans_base.specs.Plans.{Spells}
 use Rattle.fab_plans_text.specs.Faults.{IsPlanFault}
 use Rattle.fab_policy_base.specs.Policies.{PolicyRows}
+use Rattle.fab_policy_base.specs.Shapes.{IsMemory}
+use Rattle.fab_policy_base.specs.declared.fault.PolicyFault.{PolicyFault}
 use Rattle.fab_policy_base.specs.Tables.{SpellsPolicy, HasPolicyFault}
 use Rattle.fab_program_checks.specs.declared.findings.Finding.{Finding}
 use Rattle.fab_program_checks.specs.declared.findings.Finding.TheVariants as finding
@@ -20,6 +22,12 @@ IsTooLarge bytes = 2 ^ 20 < length bytes
 abbrev pub IsTextFinding : (List ℕ → Result Finding Fault → Type 0) → List ℕ → Result Finding Fault → Type 0
 IsTextFinding InText bytes came =
     (IsTooLarge bytes × (came ≡ Ok finding.TooLarge)) ⊎ ((¬ IsTooLarge bytes × ¬ IsUtf8 bytes × (came ≡ Ok finding.NoText)) ⊎ (¬ IsTooLarge bytes × IsUtf8 bytes × InText bytes came))
+
+-- the fault is what is found, unless there was no memory
+abbrev pub IsFindingOf : PolicyFault → Result Finding Fault → Type 0
+IsFindingOf f (Ok (finding.Policy g)) = (g ≡ f) × ¬ IsMemory f
+IsFindingOf f (Ok other) = ⊥
+IsFindingOf f (Err e) = e ≡ fault.Memory
 
 -- the text spells a policy, or this fault is in it
 abbrev pub IsPolicyFinding : List ℕ → Result Finding Fault → Type 0

@@ -1,5 +1,5 @@
 //! What is found in the bytes of a file.
-ghost use Rattle.fab_program_checks.specs.Findings.{IsPlanFinding, IsPolicyFinding, IsPortsFinding, IsTextFinding};
+ghost use Rattle.fab_program_checks.specs.Findings.{IsFindingOf, IsPlanFinding, IsPolicyFinding, IsPortsFinding, IsTextFinding};
 
 use fab_plans_text::{PlanFault, PlanFaultKind, read_plan};
 use fab_policy_base::{Policy, PolicyFault};
@@ -47,8 +47,17 @@ fn find_in_policy(alloc: Global, text: &str) -> Result<Finding, Fault>
 {
     match Policy::read(alloc, text) {
         Ok(_policy) => Ok(Finding::Sound),
-        Err(PolicyFault::Memory) => Err(Fault::Memory),
-        Err(fault) => Ok(Finding::Policy(fault)),
+        Err(fault) => finding_of(fault),
+    }
+}
+
+/// The finding of a policy that is refused, unless there was no memory.
+fn finding_of(fault: PolicyFault) -> Result<Finding, Fault>
+    ensures { IsFindingOf fault result }
+{
+    match fault {
+        PolicyFault::Memory => Err(Fault::Memory),
+        other => Ok(Finding::Policy(other)),
     }
 }
 
