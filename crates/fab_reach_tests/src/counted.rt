@@ -181,12 +181,8 @@ fn questions<B: PathBook<Global>>(
 fn assert_case(rt: &(impl Abort + AllocGlobal), inventory: &Inventory<Global>, case: &Case) {
     let before = changed(rt, inventory, &empty(rt.alloc()), case.before);
     let after = changed(rt, inventory, &before, case.acts);
-    let worlds = (
-        View::of(inventory, &before),
-        View::of(inventory, &after),
-    );
-    let asked =
-        questions::<IndexBook<Global>>(rt, &worlds.0, &worlds.1, case.gained, case.lost);
+    let worlds = (View::of(inventory, &before), View::of(inventory, &after));
+    let asked = questions::<IndexBook<Global>>(rt, &worlds.0, &worlds.1, case.gained, case.lost);
     assert!(rt; asked.0 == case.asked);
     assert!(rt; asked.1 == case.asked.saturating_add(case.asked));
 }
@@ -212,8 +208,7 @@ fn header_is_counted(rt: HostRuntime) {
     let bare = logged_out(&rt, &inventory);
     let config = changed(&rt, &inventory, &empty(rt.alloc()), &[Act::First]);
     let worlds = (View::of(&inventory, &config), View::of(&bare, &config));
-    let asked =
-        questions::<IndexBook<Global>>(&rt, &worlds.0, &worlds.1, Ways::None, Ways::One);
+    let asked = questions::<IndexBook<Global>>(&rt, &worlds.0, &worlds.1, Ways::None, Ways::One);
     assert!(&rt; asked == (1, 2));
 }
 
@@ -245,9 +240,6 @@ fn paths_of_hosts(rt: HostRuntime) {
     let inventory = stock(&rt);
     let before = changed(&rt, &inventory, &empty(rt.alloc()), &[Act::First]);
     let after = changed(&rt, &inventory, &before, &[Act::Second]);
-    let worlds = (
-        View::of(&inventory, &before),
-        View::of(&inventory, &after),
-    );
+    let worlds = (View::of(&inventory, &before), View::of(&inventory, &after));
     assert_hosts::<IndexBook<Global>>(&rt, &worlds.0, &worlds.1);
 }
