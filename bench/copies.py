@@ -3,7 +3,7 @@
 
     python3 bench/copies.py [--copies N] [--seed S]
 
-Several clients put volumes and stage plans at once. Each is counted as acknowledged once its answer of
+Several clients put volumes at once, as many as a desk may have at most. Each put is counted as acknowledged once its answer of
 status 200 has come whole. While they send, the database is copied again and again. Each copy is opened by
 the program, which has to find it sound (status 0), and has to have whatever was acknowledged before the
 copy began; it may have more, and nothing that was never asked for. Then what the script refuses is tried:
@@ -25,6 +25,9 @@ import time
 import desk
 
 CLIENTS = 4
+
+# How many volumes a client puts at most, and how long it waits behind each, in seconds.
+MOST_VOLUMES, PAUSE = 1000, 0.015
 SCRIPT = desk.TOP / "contrib" / "sandesk-copy"
 
 
@@ -38,7 +41,7 @@ class Load:
 
     def client(self, number):
         turn = 0
-        while not self.is_over and turn < 12000:
+        while not self.is_over and turn < MOST_VOLUMES:
             name = f"v{number}n{turn}"
             with self.lock:
                 self.asked.add(name)
@@ -51,6 +54,7 @@ class Load:
             with self.lock:
                 self.done.add(name)
             turn += 1
+            time.sleep(PAUSE)
 
     def acknowledged(self):
         with self.lock:
