@@ -316,7 +316,8 @@ class Desk:
 
     def outcomes(self):
         """What came of each connection, by the log."""
-        return [line.split()[1] for line in pathlib.Path(self.log).read_text().splitlines()]
+        whole, _, _ = pathlib.Path(self.log).read_text().rpartition("\n")
+        return [line.split()[1] for line in whole.splitlines()]
 
     def peak(self):
         """The most memory that the process had since it began, or since `forget_peak`, in bytes."""

@@ -7,7 +7,8 @@ use fab_wire::{KnownTo, Outcome, serve_one};
 use fab_wire_base::routes::Routes;
 use fab_wire_base::whole::lacks;
 use fab_wire_gathering::bounds::Bounded;
-use fab_wire_serving::{Server, Shown};
+use fab_wire_log::Shown;
+use fab_wire_serving::Server;
 use fab_wire_streams::counted::Counted;
 use std::alloc::Global;
 use std::io::{Read, Write};
@@ -31,7 +32,7 @@ impl<S: Store<Global>> Server for Front<S> {
     type Outcome = Outcome;
 
     ghost use Rattle.fab_program_base.specs.Fronts.{is_halted_desk, IsWholeDesk, ServesDesk, ReleasesDesk, ReopensDesk, RefusesDesk};
-    ghost use Rattle.fab_wire_serving.specs.Shown.{shown_text};
+    ghost use Rattle.fab_wire_log.specs.Shown.{shown_text};
     ghost use Rattle.fab_wire.specs.Telling.{outcome_text};
 
     ghost is_halted = { λ f. is_halted_desk f.desk };

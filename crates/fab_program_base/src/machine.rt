@@ -12,6 +12,7 @@ use crate::addresses::Addresses;
 use crate::database::Databases;
 use fab_program_outside::{Fault, Machine};
 use fab_store::SqlStore;
+use fab_wire_serving::listen_at;
 use sqlite::{Alter, Connection, Error, ErrorCode, File as DatabaseFile, FileStore, MemStore};
 use std::alloc::Global;
 use std::fs::File;
@@ -131,6 +132,6 @@ impl<'r> Addresses for Machine<'r> {
     ghost listens = { λ machine address listener. ⊤ };
 
     fn listen(&self, address: &str) -> Option<TcpListener> {
-        TcpListener::bind(self.rt, address).ok()
+        listen_at(self.rt, address).ok()
     }
 }

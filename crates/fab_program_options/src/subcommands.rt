@@ -160,7 +160,8 @@ impl Subcommand {
     pub fn about<'a>(self) -> &'a str {
         match self {
             Subcommand::Init => "Makes an empty database, where no file or an empty one is",
-            Subcommand::Serve => "Serves HTTP connections, one after the other",
+            Subcommand::Serve =>
+                "Serves HTTP connections: gathers requests side by side, and answers them in turn",
             Subcommand::Once => {
                 "Answers one HTTP request from standard input on standard output. Without --db the \
                  desk is a new one in memory; without --policy it is a trial under a sample policy"

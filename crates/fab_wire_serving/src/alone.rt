@@ -9,9 +9,10 @@ ghost use Rattle.fab_wire_serving.specs.Turns.{Gives, IsTurn, AreTurns, most_tur
 
 use crate::connection::{let_go, serve_stream};
 use crate::serving::{ServeFault, restore};
-use crate::{Listens, Server, Watch};
+use crate::{Listens, Server};
 use fab_wire_gathering::clock::Ticks;
 use fab_wire_gathering::deadline::{Deadline, Timed};
+use fab_wire_log::Watch;
 use std::io::Write;
 use std::net::TcpStream;
 use std::time::Instant;

@@ -6,14 +6,14 @@ ghost use Rattle.std.specs.Io.KnownBytes.{Keeps};
 ghost use Rattle.fab_wire_streams.specs.Counting.{inner_of, failures_of};
 ghost use Rattle.fab_wire_serving.specs.Coming.{ComesSo, IsSent, came_text, most_lingering};
 ghost use Rattle.fab_wire_gathering.specs.Deadlines.{end_of, end_at, clock_of, stream_of};
-ghost use Rattle.fab_wire_serving.specs.Shown.{shown_text};
+ghost use Rattle.fab_wire_log.specs.Shown.{shown_text};
 ghost use Rattle.fab_wire_serving.specs.Sides.{begun_sides};
 
 use crate::Server;
-use crate::shown::Shown;
 use fab_wire_gathering::clock::Ticks;
 use fab_wire_gathering::deadline::{Deadline, Timed};
 use fab_wire_gathering::stream::Stream;
+use fab_wire_log::Shown;
 use fab_wire_streams::counted::Counted;
 use std::alloc::Global;
 use std::io::{BufWriter, Read, Write};

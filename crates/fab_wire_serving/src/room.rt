@@ -3,14 +3,13 @@
 ghost use Rattle.std.specs.Prelude.{◌≡◌, ◌<◌, ◌++◌, ◌∷◌, [], IfOk, IfErr, IfSome, IfNone};
 ghost use Rattle.std.specs.Time.{instant_nanos};
 ghost use Rattle.std.specs.VecDeque.{deque_len, deque_capacity};
-ghost use Rattle.fab_wire_serving.specs.Pending.{Advances, AreMarked};
+ghost use Rattle.fab_wire_log.specs.Pending.{Advances, AreMarked};
 ghost use Rattle.fab_wire_serving.specs.Starts.{AreTold};
 ghost use Rattle.fab_wire_serving.specs.Stops.{IsStopped};
 
 use crate::connection::let_go;
-use crate::pending::{Line, Pending};
 use crate::serving::ServeFault;
-use crate::{Listens, Server, Watch};
+use crate::{Listens, Server};
 use fab_wire_gathering::clock::Ticks;
 use fab_wire_gathering::deadline::{Deadline, Timed};
 use fab_wire_gathering::framing::Framing;
@@ -18,6 +17,8 @@ use fab_wire_gathering::gathering::{
     Ended, Gathering, MOST_GUESTS, Seating, leave_listener, watch_listener,
 };
 use fab_wire_gathering::guest::{Ending, Guest};
+use fab_wire_log::Watch;
+use fab_wire_log::pending::{Line, Pending};
 use mio::Poll;
 use std::io;
 use std::io::{ErrorKind, Write};

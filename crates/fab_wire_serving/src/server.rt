@@ -2,10 +2,10 @@
 
 ghost use Rattle.std.specs.Prelude.{◌≡◌, ◌<◌, ℕ, Bool, true, List, length, IfSome, IfNone, OnOk, IfErr, OnErr};
 ghost use Rattle.fab_wire_serving.specs.Sides.{Sides, sides};
-ghost use Rattle.fab_wire_serving.specs.Shown.{shown_text};
+ghost use Rattle.fab_wire_log.specs.Shown.{shown_text};
 
-use crate::shown::Shown;
 use fab_wire_gathering::bounds::Bounded;
+use fab_wire_log::Shown;
 use fab_wire_streams::counted::Counted;
 use std::io::{Read, Write};
 

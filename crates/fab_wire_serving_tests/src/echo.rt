@@ -1,10 +1,11 @@
 //! A server that stands in for the desk: it says again what it is told, and halts where it is told to.
 
 ghost use Rattle.std.specs.Prelude.{◌≡◌, ⊤};
-ghost use Rattle.fab_wire_serving.specs.Shown.{shown_text};
+ghost use Rattle.fab_wire_log.specs.Shown.{shown_text};
 
 use fab_wire_gathering::bounds::Bounded;
-use fab_wire_serving::{Server, Shown};
+use fab_wire_log::Shown;
+use fab_wire_serving::Server;
 use fab_wire_streams::counted::Counted;
 use std::cell::Cell;
 use std::io;

@@ -2,17 +2,17 @@
 
 use super::doubles::{Broken, Busy, Crowd, Full, Leaky, Ticking};
 use super::echo::{Echo, Held};
-use fab_wire_serving::{Listens, ServeFault, Watch, serve_on};
+use fab_wire_log::Watch;
+use fab_wire_serving::{Listens, ServeFault, listen_at, serve_on};
 use mio::Poll;
 use std::cell::Cell;
 use std::io::{BufWriter, Read, Write};
-use std::net::{Ipv4Addr, Net, Shutdown, SocketAddr, TcpListener, TcpStream};
+use std::net::{Net, Shutdown, TcpListener, TcpStream};
 use std::process::Abort;
 use std::time::{Clock, Duration};
 
 fn listen(rt: &(impl Abort + Net<Listener = TcpListener, Stream = TcpStream>)) -> TcpListener {
-    let address = SocketAddr::from((Ipv4Addr::LOCALHOST, 0));
-    TcpListener::bind(rt, address).expect(rt, "a listener")
+    listen_at(rt, "127.0.0.1:0").expect(rt, "a listener")
 }
 
 /// A connection over which these bytes were sent.
@@ -434,8 +434,7 @@ fn silent(
     streams
 }
 
-/// How many turns there are where 127 silent clients are before one that asks: as many as may wait for a
-/// connection at once.
+/// How many turns there are where 127 silent clients are before one that asks.
 const FEW: usize = 128;
 
 /// The seats are enough for all that come at once.
@@ -483,6 +482,40 @@ fn silent_clients_make_way_for_a_newcomer(rt: HostRuntime) {
     let mut clients = crowd.clients.replace(Vec::new(rt.alloc()));
     let last = clients.pop().expect(&rt, "a client");
     assert!(rt; is_answered(&rt, &last, b"a"));
+}
+
+/// So many connections, none of which is taken up yet, over which a byte was sent, and the end. Each comes
+/// about at once: one that the system leaves out would come about a second later at the earliest.
+fn waiting(
+    rt: &(impl Abort + AllocGlobal + Net<Stream = TcpStream>),
+    listener: &TcpListener,
+    count: usize,
+) -> Vec<TcpStream> {
+    let address = listener.local_addr().expect(rt, "an address");
+    let most = Duration::from_millis(500);
+    let mut streams = Vec::new(rt.alloc());
+    for _ in 0..count {
+        let mut stream = TcpStream::connect_timeout(rt, &address, most).expect(rt, "a connection");
+        stream.write_all(b"a").expect(rt, "bytes sent");
+        stream.shutdown(Shutdown::Write).expect(rt, "the end sent");
+        streams.push(stream).expect(rt, "memory");
+    }
+    streams
+}
+
+/// How many clients come at once: more than there are seats for, and more than twice as many as are kept by
+/// a listener that does not ask for more.
+const MANY: usize = 300;
+
+/// All are kept until they are taken up, and are answered.
+#[test]
+fn clients_that_come_at_once_are_left_out_by_nobody(rt: HostRuntime) {
+    let listener = listen(&rt);
+    let streams = waiting(&rt, &listener, MANY);
+    log_of(&rt, &rt, LONG, &listener, &[None; MANY]);
+    for stream in &streams {
+        assert!(rt; is_answered(&rt, stream, b"a"));
+    }
 }
 
 /// There is no memory for the bytes of the first: it is served as if nothing were gathered, and answered.

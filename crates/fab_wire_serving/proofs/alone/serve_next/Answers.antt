@@ -1,4 +1,4 @@
-use Rattle.std.proofs.Common.{rules, ℕ, None, subst}
+use Rattle.std.proofs.Common.{ℕ, None, subst}
 use Rattle.std.specs.Time.{instant_nanos}
 use Rattle.fab_wire_serving.specs.Coming.{CameSo}
 use Rattle.fab_wire_serving.specs.Sides.{begun_sides}

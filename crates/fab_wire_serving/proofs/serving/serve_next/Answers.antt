@@ -1,6 +1,6 @@
 use Rattle.std.specs.Duration.{as_nanos}
 use Rattle.fab_wire_serving.specs.Turns.{Gives}
-use Rattle.fab_wire_serving.proofs.PendingLemmas.{taken_behind, on_ok_map}
+use Rattle.fab_wire_serving.proofs.WaitingLemmas.{taken_behind, on_ok_map}
 use Rattle.fab_wire_serving.proofs.serving.serve_next.Given.{O-step, N-step}
 use Rattle.fab_wire_serving.proofs.serving.serve_next.Goals as goal
 

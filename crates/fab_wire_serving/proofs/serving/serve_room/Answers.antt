@@ -1,6 +1,6 @@
 use Rattle.std.specs.Duration.{as_nanos}
 use Rattle.fab_wire_serving.specs.Turns.{Gives}
-use Rattle.fab_wire_serving.proofs.PendingLemmas.{played_advances, all_noted}
+use Rattle.fab_wire_serving.proofs.WaitingLemmas.{played_advances, all_noted}
 use Rattle.fab_wire_serving.proofs.serving.serve_room.Given.{O-step, N-step}
 use Rattle.fab_wire_serving.proofs.serving.serve_room.Goals as goal
 

@@ -1,11 +1,10 @@
-use Rattle.std.proofs.Common.{rules, ℕ, ◌++◌, ◌∷◌, [], Some, None, subst}
-use Rattle.std.specs.Duration.{as_nanos}
+use Rattle.std.proofs.Common.{rules, ℕ, Some, None, subst}
 use Rattle.std.specs.Time.{instant_nanos}
 use Rattle.fab_wire_serving.specs.Coming.{CameSo}
 use Rattle.fab_wire_serving.specs.Sides.{begun_sides}
 use Rattle.fab_wire_serving.specs.Turns.{Gives}
 use Rattle.fab_wire_serving.proofs.ComingLemmas.{told_at}
-use Rattle.fab_wire_serving.proofs.PendingLemmas.{advances_marked}
+use Rattle.fab_wire_log.proofs.PendingLemmas.{advances_marked}
 use Rattle.fab_wire_serving.proofs.serving.serve_turn.Given.{N-step}
 use Rattle.fab_wire_serving.proofs.serving.serve_turn.Goals as goal
 

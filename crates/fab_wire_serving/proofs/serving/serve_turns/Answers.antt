@@ -1,7 +1,7 @@
 use Rattle.std.proofs.Common.{rules, refl, []}
 use Rattle.std.specs.Duration.{as_nanos}
 use Rattle.fab_wire_serving.specs.Turns.{Gives}
-use Rattle.fab_wire_serving.proofs.PendingLemmas.{played_advances, turn_taken}
+use Rattle.fab_wire_serving.proofs.WaitingLemmas.{played_advances, turn_taken}
 use Rattle.fab_wire_serving.proofs.serving.serve_turns.Given.{O-step, N-step}
 use Rattle.fab_wire_serving.proofs.serving.serve_turns.Goals as goal
 

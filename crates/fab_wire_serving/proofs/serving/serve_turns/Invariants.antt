@@ -1,6 +1,6 @@
 use Rattle.std.proofs.Common.{◌≡◌}
 use Rattle.std.specs.Duration.{as_nanos}
-use Rattle.fab_wire_serving.specs.Pending.{ArePlayed}
+use Rattle.fab_wire_serving.specs.Waiting.{ArePlayed}
 use Rattle.fab_wire_serving.specs.Starts.{AreTold}
 use Rattle.fab_wire_serving.specs.Turns.{Gives}
 use Rattle.fab_wire_serving.proofs.serving.serve_turns.Given as goal

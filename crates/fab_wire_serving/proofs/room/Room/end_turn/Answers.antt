@@ -1,7 +1,7 @@
 use Rattle.std.proofs.Common.{sym, subst, List, [], ◌∷◌, ◌++◌}
-use Rattle.fab_wire_serving.specs.Pending.{AreMarked}
-use Rattle.fab_wire_serving.specs.declared.pending.Line.{Line}
-use Rattle.fab_wire_serving.proofs.PendingLemmas.{are_marked_refl}
+use Rattle.fab_wire_log.specs.Pending.{AreMarked}
+use Rattle.fab_wire_log.specs.declared.pending.Line.{Line}
+use Rattle.fab_wire_log.proofs.PendingLemmas.{are_marked_refl}
 use Rattle.fab_wire_serving.proofs.room.Room.end_turn.Goals as goal
 
 pub returns-in-Some-clause-lines : goal.returns-in-Some-clause-lines

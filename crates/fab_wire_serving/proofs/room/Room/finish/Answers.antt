@@ -1,7 +1,7 @@
 use Rattle.std.proofs.Common.{subst, List}
-use Rattle.fab_wire_serving.specs.Pending.{Advances}
-use Rattle.fab_wire_serving.specs.declared.pending.Line.{Line}
-use Rattle.fab_wire_serving.proofs.PendingLemmas.{advances_twice}
+use Rattle.fab_wire_log.specs.Pending.{Advances}
+use Rattle.fab_wire_log.specs.declared.pending.Line.{Line}
+use Rattle.fab_wire_log.proofs.PendingLemmas.{advances_twice}
 use Rattle.fab_wire_serving.proofs.room.Room.finish.Goals as goal
 
 pub returns-clause-lines : goal.returns-clause-lines

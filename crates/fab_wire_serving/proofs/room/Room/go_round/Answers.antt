@@ -1,4 +1,4 @@
-use Rattle.fab_wire_serving.proofs.PendingLemmas.{advances_refl, advances_marked, advances_twice}
+use Rattle.fab_wire_log.proofs.PendingLemmas.{advances_refl, advances_marked, advances_twice}
 use Rattle.fab_wire_serving.proofs.room.Room.go_round.Goals as goal
 
 pub returns-in_err-now-clause-lines : goal.returns-in_err-now-clause-lines

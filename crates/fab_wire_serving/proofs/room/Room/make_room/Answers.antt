@@ -1,4 +1,4 @@
-use Rattle.fab_wire_serving.proofs.PendingLemmas.{advances_refl}
+use Rattle.fab_wire_log.proofs.PendingLemmas.{advances_refl}
 use Rattle.fab_wire_serving.proofs.room.Room.make_room.Goals as goal
 
 pub returns-then-not-is_full-clause-lines : goal.returns-then-not-is_full-clause-lines

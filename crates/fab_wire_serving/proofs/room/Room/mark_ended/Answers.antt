@@ -1,5 +1,5 @@
 use Rattle.std.proofs.Common.{rules, refl}
-use Rattle.fab_wire_serving.proofs.PendingLemmas.{are_marked_refl, are_marked_twice}
+use Rattle.fab_wire_log.proofs.PendingLemmas.{are_marked_refl, are_marked_twice}
 use Rattle.fab_wire_serving.proofs.room.Room.mark_ended.Goals as goal
 
 pub loop-init : goal.loop-init

@@ -1,5 +1,5 @@
 use Rattle.std.proofs.Common.{rules, refl}
-use Rattle.fab_wire_serving.proofs.PendingLemmas.{advances_refl, advances_twice}
+use Rattle.fab_wire_log.proofs.PendingLemmas.{advances_refl, advances_twice}
 use Rattle.fab_wire_serving.proofs.room.Room.see_off.Goals as goal
 
 pub loop-init : goal.loop-init

@@ -1,5 +1,5 @@
 use Rattle.std.proofs.Common.{◌≡◌}
-use Rattle.fab_wire_serving.specs.Pending.{Advances}
+use Rattle.fab_wire_log.specs.Pending.{Advances}
 use Rattle.fab_wire_serving.proofs.room.Room.see_off.Given as goal
 
 abbrev pub invariant-loop : goal.invariant-loop

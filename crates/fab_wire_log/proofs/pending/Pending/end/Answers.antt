@@ -1,5 +1,5 @@
-use Rattle.fab_wire_serving.proofs.PendingLemmas.{are_marked_refl, are_marked_at}
-use Rattle.fab_wire_serving.proofs.pending.Pending.end.Goals as goal
+use Rattle.fab_wire_log.proofs.PendingLemmas.{are_marked_refl, are_marked_at}
+use Rattle.fab_wire_log.proofs.pending.Pending.end.Goals as goal
 
 pub returns-in_default : goal.returns-in_default
 returns-in_default g c = are_marked_refl _ _ c.args.self.now.lines.items

@@ -4,8 +4,8 @@ ghost use Rattle.std.specs.Prelude.{◌≡◌, ◌*◌, ℕ};
 ghost use Rattle.std.specs.Duration.{as_nanos};
 ghost use Rattle.std.specs.Time.{instant_nanos};
 ghost use Rattle.fab_wire_streams.specs.Counting.{inner_of, failures_of};
-ghost use Rattle.fab_wire_serving.specs.Shown.{shown_text};
-ghost use Rattle.fab_wire_serving.specs.Lines.{line_text, Notes, Lasted};
+ghost use Rattle.fab_wire_log.specs.Shown.{shown_text};
+ghost use Rattle.fab_wire_log.specs.Lines.{line_text, Notes, Lasted};
 
 use crate::line::put_line;
 use crate::shown::Shown;

@@ -1,6 +1,6 @@
 use Rattle.std.proofs.Common.{rules, refl}
-use Rattle.fab_wire_serving.proofs.PendingLemmas.{advances_refl, advances_twice}
-use Rattle.fab_wire_serving.proofs.pending.Pending.note.Goals as goal
+use Rattle.fab_wire_log.proofs.PendingLemmas.{advances_refl, advances_twice}
+use Rattle.fab_wire_log.proofs.pending.Pending.note.Goals as goal
 
 pub loop-preserved : goal.loop-preserved
 loop-preserved g c =

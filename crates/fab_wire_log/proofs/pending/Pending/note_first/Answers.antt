@@ -1,8 +1,8 @@
 use Rattle.std.proofs.Common.{refl, sym, subst, List, [], ◌∷◌}
-use Rattle.fab_wire_serving.specs.Pending.{AreMarked}
-use Rattle.fab_wire_serving.specs.declared.pending.Line.{Line}
-use Rattle.fab_wire_serving.proofs.PendingLemmas.{are_marked_refl, known_number}
-use Rattle.fab_wire_serving.proofs.pending.Pending.note_first.Goals as goal
+use Rattle.fab_wire_log.specs.Pending.{AreMarked}
+use Rattle.fab_wire_log.specs.declared.pending.Line.{Line}
+use Rattle.fab_wire_log.proofs.PendingLemmas.{are_marked_refl, known_number}
+use Rattle.fab_wire_log.proofs.pending.Pending.note_first.Goals as goal
 
 pub returns-clause-lines : goal.returns-clause-lines
 returns-clause-lines g c =

@@ -1,6 +1,6 @@
 use Rattle.std.proofs.Common.{◌≡◌, ◌-◌, length}
-use Rattle.fab_wire_serving.specs.Pending.{Advances}
-use Rattle.fab_wire_serving.proofs.pending.Pending.note_all.Given as goal
+use Rattle.fab_wire_log.specs.Pending.{Advances}
+use Rattle.fab_wire_log.proofs.pending.Pending.note_all.Given as goal
 
 abbrev pub invariant-loop : goal.invariant-loop
 invariant-loop g l =

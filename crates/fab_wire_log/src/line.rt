@@ -5,8 +5,8 @@ ghost use Rattle.std.specs.Io.KnownBytes.{Appends};
 ghost use Rattle.fab_wire_streams.specs.Counting.{inner_of, failures_of};
 ghost use Rattle.fab_wire_streams.specs.Failures.{failures_after};
 ghost use Rattle.fab_wire_streams.specs.Sent.{AppendsBeginning};
-ghost use Rattle.fab_wire_serving.specs.Shown.{shown_text};
-ghost use Rattle.fab_wire_serving.specs.Lines.{line_text, Notes};
+ghost use Rattle.fab_wire_log.specs.Shown.{shown_text};
+ghost use Rattle.fab_wire_log.specs.Lines.{line_text, Notes};
 
 use crate::shown::Shown;
 use fab_wire_streams::counted::Counted;

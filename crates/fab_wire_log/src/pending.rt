@@ -4,8 +4,8 @@
 
 ghost use Rattle.std.specs.Prelude.{◌≡◌, ◌<◌, ◌-◌, ◌⊎◌, ◌++◌, ◌∷◌, [], false, length, codes, IfOk, IsSome};
 ghost use Rattle.std.specs.VecDeque.{deque_len, deque_capacity};
-ghost use Rattle.fab_wire_serving.specs.Shown.{shown_text};
-ghost use Rattle.fab_wire_serving.specs.Pending.{Advances, AreMarked, IsMarked};
+ghost use Rattle.fab_wire_log.specs.Shown.{shown_text};
+ghost use Rattle.fab_wire_log.specs.Pending.{Advances, AreMarked, IsMarked};
 
 use crate::Watch;
 use crate::shown::Shown;
