@@ -313,6 +313,42 @@ trial 'a port list is imported' "$here/import.http" 200 '{"revision":1}'
 trial 'the next trial knows nothing of it' "$here/joined.http" 404 "$not_found"
 says 'an empty input has no answer' 0 '' '' once
 
+part 'files that are checked'
+
+# checks TITLE STATUS TEXT KIND FILE: what `check` writes of a file, behind its path.
+checks() {
+    local line wanted=
+    while IFS= read -r line; do wanted+="$5: $line"$'\n'; done <<< "$3"
+    says "$1" "$2" "$wanted" '' check "--$4" "$5"
+}
+
+install -m 600 "$policy" "$work/own.toml"
+checks 'a policy without a fault' 0 'sound' policy "$work/own.toml"
+install -m 644 "$policy" "$work/open.toml"
+checks 'others may read its tokens' 0 $'sound\nwarning: mode 0644: others may read the tokens' policy "$work/open.toml"
+text=$(cat "$policy")
+printf '%s\n' "${text/approvals = 2/approvals = 17}" > "$work/wrong.toml"
+chmod 600 "$work/wrong.toml"
+checks 'a policy with a fault, and its key' 1 '`approvals` has a wrong value' policy "$work/wrong.toml"
+text=${text/role = \"operator\"/role = \"operater\"}
+text=${text/approvals = 2/approvals = 3}
+printf '%s\n' "${text//, \"rollback\"/}" > "$work/odd.toml"
+chmod 600 "$work/odd.toml"
+checks 'what is no fault of it and is worth a look' 0 'sound
+warning: rule 1 `ops` asks for role `operater`, which no caller has
+warning: rule 3 `two-eyes` asks for more approvals than callers may give: 3 > 2
+warning: no rule is about `rollback`: nobody may do it' policy "$work/odd.toml"
+checks 'a plan without a fault' 0 'sound' plan "$here/first-host.plan"
+checks 'a plan with two spaces in line 2' 1 \
+    'line 2: too many words, or too few, stand behind the first' plan "$here/two-spaces.plan"
+printf 'deactivate A\r\n' > "$work/dos.plan"
+checks 'a line that ends with CR LF' 1 'line 1: a word is no fabric' plan "$work/dos.plan"
+checks 'a port list' 0 'sound' ports "$here/fabric-a.csv"
+checks 'a record with a domain that there is not' 1 "record 3: it is no port's, or the header is another" \
+    ports "$here/bad-domain.csv"
+says 'there is no such file' 3 '' $'sandesk: file\n' check --plan "$work/none.plan"
+says 'one file at a time' 2 '' $'sandesk: words\n' check --plan "$here/first-host.plan" --ports "$here/fabric-a.csv"
+
 part 'a desk in a file'
 
 says 'there is no database yet' 3 '' $'sandesk: file\n' \
@@ -440,7 +476,7 @@ way=$(printf 'host %s\n' "$(row db1 blue 2)"
     printf 'port %s\n' "$(row $i1 $node A)" "$(row $i4 $node B)"
     printf 'volume %s\n' "$(row v1 blue arr1 1073741824)"
     printf 'group %s\n' "$(row g1 blue arr1 exposed)")
-looks 'why db1 reaches v1' 0 "$way"$'\n'"path A $i1 -> $t1 unit 0"$'\n''YES  1 paths' t-cyd \
+looks 'why db1 reaches v1' 0 "$way"$'\n'"path A $i1 -> $t1 unit 0"$'\n''YES  1 path' t-cyd \
     why --host db1 --volume v1
 looks 'a host and a volume that are not there' 1 \
     '{"found":[],"host":"db2","missing":"host","reaches":false,"volume":"v9"}' t-cyd \
@@ -451,11 +487,27 @@ looks 'cyd is told of another host as of none' 1 \
 looks 'who reaches v1' 0 "$(row HOST A B; row db1 1 0)" t-cyd who --volume v1
 looks 'eve is told of nobody' 0 "$(row HOST A B)" t-eve who --volume v1
 looks 'the same as JSON' 0 '[{"a":1,"b":0,"host":"db1"}]' t-ada who --volume v1 --json
+looks 'what is around a target' 0 \
+    "$(printf 'port %s\n' "$(row $t1 50:00:00:00:00:00:00:00 A)"
+    printf 'zone %s\n' "$(row A z1 2)"
+    printf 'group %s\n' "$(row g1 blue arr1 exposed)")" t-cyd who --port $t1
+looks 'what is around a port of a host, as JSON' 0 \
+    '[{"at":{"domain":1,"fabric":"B","port":1},"node_name":"20:00:00:00:00:00:00:01","port_name":"'$i4'"},{"kind":"host","name":"db1","ports":["'$i1'","'$i4'"],"tenant":"blue"}]' \
+    t-cyd who --port $i4 --json
+says 'there is no such port' 1 '' '' \
+    who --db "$db" --policy "$policy" --token t-cyd --port 10:00:00:00:00:00:00:99
+says 'a volume or a port' 2 '' $'sandesk: words\n' \
+    who --db "$db" --policy "$policy" --token t-cyd --port $i4 --volume v1
 looks 'the hosts of cyd' 0 "$(row NAME TENANT PORTS; row db1 blue 2)" t-cyd list hosts
 looks 'the hosts of cyd as JSON' 0 \
     '[{"kind":"host","name":"db1","ports":["'$i1'","'$i4'"],"tenant":"blue"}]' t-cyd list hosts --json
 looks 'the plans, and who approved them' 0 \
-    "$(row PLAN STATE AUTHOR APPROVALS; row p1 active ada 1)"$'\n''  approved by bob at revision 7' t-eve list plans
+    "$(row PLAN STATE AUTHOR APPROVALS; row p1 active ada 1)"$'\n''  approved by bob at revision 7, stale' t-eve list plans
+looks 'none of them is staged' 0 "$(row PLAN STATE AUTHOR APPROVALS)" t-eve list plans --state staged
+text=$(cat "$here/first-host.plan")
+looks 'the active ones as JSON' 0 \
+    '[{"approvals":[{"caller":"bob","revision":7}],"author":"ada","plan":"p1","state":"active","text":"'"${text//$'\n'/\\n}"'\n"}]' \
+    t-eve list plans --state active --json
 looks 'the zones of both fabrics' 0 "$(row FABRIC NAME MEMBERS; row A z1 2)" t-eve list zones
 looks 'nobody has this token' 1 '{"code":1,"error":"no-caller"}' t-zed list hosts
 says 'there is no such kind' 2 '' $'sandesk: words\n' \

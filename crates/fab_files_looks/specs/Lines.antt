@@ -1,5 +1,5 @@
 -- The lines of what reads show, for people.
-use Rattle.std.specs.Prelude.{ℕ, List, [], ◌∷◌, ◌++◌, length, Bool, true, false, Option, None, Some, codes, decimal}
+use Rattle.std.specs.Prelude.{ℕ, List, [], ◌∷◌, ◌++◌, length, Bool, true, false, nat_eq, Option, None, Some, codes, decimal}
 use Rattle.std.specs.List.{flat_map}
 use Rattle.fab_names.specs.Fabrics.{fabric_text}
 use Rattle.fab_names.specs.Places.{Position}
@@ -48,16 +48,24 @@ group_line x = columns_line (x.name ∷ x.tenant ∷ x.array ∷ []) (exposed_wo
 abbrev pub head_line : List ℕ → PlanState → List ℕ → ℕ → List ℕ
 head_line name state author count = columns_line (name ∷ state_text state ∷ author ∷ []) (decimal count)
 
+-- an approval counts as fresh at the present revision alone
+abbrev pub stale_words : Bool → List ℕ
+stale_words true = codes "\n"
+stale_words false = codes ", stale\n"
+
 -- who approved at which revision
-unfoldable pub approval_text : Approval → List ℕ
-approval_text a = codes "  approved by " ++ (a.caller ++ (codes " at revision " ++ (decimal a.revision ++ (10 ∷ []))))
+unfoldable pub signed_words : Approval → List ℕ
+signed_words a = codes "  approved by " ++ (a.caller ++ (codes " at revision " ++ decimal a.revision))
 
-abbrev pub approvals_text : List Approval → List ℕ
-approvals_text xs = flat_map approval_text xs
+-- and whether that is the present one
+abbrev pub approval_text : ℕ → Approval → List ℕ
+approval_text revision a = signed_words a ++ stale_words (nat_eq a.revision revision)
 
--- a plan, and a line for each of its approvals
-abbrev pub plan_lines : {A : Type 0} → ShownPlan A → List ℕ
-plan_lines x = head_line x.name x.state x.author (length x.approvals.items) ++ approvals_text x.approvals.items
+abbrev pub approvals_text : ℕ → List Approval → List ℕ
+approvals_text revision xs = flat_map (approval_text revision) xs
+
+abbrev pub plan_line : {A : Type 0} → ShownPlan A → List ℕ
+plan_line x = head_line x.name x.state x.author (length x.approvals.items)
 
 -- the line of what a read shows; an empty one of what no list has
 abbrev pub row_line : {A : Type 0} → Shown A → List ℕ
@@ -66,7 +74,15 @@ row_line (shown.Holder x) = count_line x.name x.tenant (length x.ports.items)
 row_line (shown.Volume name v) = volume_line name v
 row_line (shown.HostGroup name tenant hosts) = count_line name tenant (length hosts.items)
 row_line (shown.Group x) = group_line x
-row_line (shown.Plan x) = plan_lines x
+row_line (shown.Plan x) = plan_line x
 row_line (shown.Members f name members) = fabric_line f name (length members.items)
 row_line (shown.Set f name zones) = fabric_line f name (length zones.items)
 row_line other = 10 ∷ []
+
+abbrev pub approvals_in : {A : Type 0} → Shown A → List Approval
+approvals_in (shown.Plan x) = x.approvals.items
+approvals_in other = []
+
+-- that line, and a line for each approval of a plan
+abbrev pub listed_lines : {A : Type 0} → ℕ → Shown A → List ℕ
+listed_lines revision x = row_line x ++ approvals_text revision (approvals_in x)

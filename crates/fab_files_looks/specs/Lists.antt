@@ -3,7 +3,7 @@ use Rattle.std.specs.Prelude.{ℕ, List, [], ◌∷◌, ◌++◌, codes}
 use Rattle.std.specs.List.{flat_map}
 use Rattle.fab_desk_base.specs.declared.reply.Shown.{Shown}
 use Rattle.fab_files.specs.Reports.{columns_line}
-use Rattle.fab_files_looks.specs.Lines.{row_line}
+use Rattle.fab_files_looks.specs.Lines.{listed_lines}
 use Rattle.fab_files_looks.specs.declared.lists.Table.{Table}
 use Rattle.fab_files_looks.specs.declared.lists.Table.TheVariants as table
 use Rattle.fab_wire_answers.specs.Bodies.{shown_body}
@@ -25,10 +25,10 @@ header_line table.Plans = columns_line (codes "PLAN" ∷ codes "STATE" ∷ codes
 header_line table.Members = columns_line (codes "FABRIC" ∷ codes "NAME" ∷ []) (codes "MEMBERS")
 header_line table.Sets = columns_line (codes "FABRIC" ∷ codes "SET" ∷ []) (codes "ZONES")
 
--- a line for each row
-abbrev pub rows_lines : {A : Type 0} → List (Shown A) → List ℕ
-rows_lines rows = flat_map row_line rows
+-- a line for each row, at a revision
+abbrev pub rows_lines : {A : Type 0} → ℕ → List (Shown A) → List ℕ
+rows_lines revision rows = flat_map (listed_lines revision) rows
 
 -- the names of the columns, and a line for each row
-abbrev pub rows_text : {A : Type 0} → Table → List (Shown A) → List ℕ
-rows_text t rows = header_line t ++ rows_lines rows
+abbrev pub rows_text : {A : Type 0} → Table → ℕ → List (Shown A) → List ℕ
+rows_text t revision rows = header_line t ++ rows_lines revision rows

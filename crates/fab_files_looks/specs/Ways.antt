@@ -1,5 +1,5 @@
 -- Why a host reaches a volume or does not, as texts.
-use Rattle.std.specs.Prelude.{ℕ, List, [], ◌∷◌, ◌++◌, length, true, false, codes, decimal}
+use Rattle.std.specs.Prelude.{ℕ, List, [], ◌∷◌, ◌++◌, length, Bool, true, false, nat_eq, codes, decimal}
 use Rattle.std.specs.List.{flat_map}
 use Rattle.serde_json.specs.Data.{Data, boolean}
 use Rattle.fab_names.specs.Fabrics.{fabric_text}
@@ -51,6 +51,7 @@ label_of (shown.Holder x) = label_of_holder x.kind
 label_of (shown.Port name node at) = codes "port "
 label_of (shown.Volume name v) = codes "volume "
 label_of (shown.Group x) = codes "group "
+label_of (shown.Members f name members) = codes "zone "
 label_of other = []
 
 -- and its line
@@ -68,9 +69,16 @@ path_line p =
 abbrev pub path_lines : List Path → List ℕ
 path_lines paths = flat_map path_line paths
 
+abbrev pub paths_word_if : Bool → List ℕ
+paths_word_if true = codes " path\n"
+paths_word_if false = codes " paths\n"
+
+abbrev pub paths_word : ℕ → List ℕ
+paths_word count = paths_word_if (nat_eq count 1)
+
 -- how many paths there are
 unfoldable pub yes_line : ℕ → List ℕ
-yes_line count = codes "YES  " ++ (decimal count ++ codes " paths\n")
+yes_line count = codes "YES  " ++ (decimal count ++ paths_word count)
 
 abbrev pub yes_text : List Path → List ℕ
 yes_text paths = path_lines paths ++ yes_line (length paths)

@@ -12,5 +12,5 @@ mod words;
 
 pub use lists::{RowsJson, RowsText, Table};
 pub use reachers::{Reacher, ReachersJson, ReachersText, reachers_of};
-pub use ways::{WayJson, WayText};
+pub use ways::{FoundText, WayJson, WayText};
 pub use words::{link_word, missing_words};

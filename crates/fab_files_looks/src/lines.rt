@@ -1,7 +1,7 @@
 //! The line of what a read shows.
 ghost use Rattle.std.specs.Prelude.{◌≡◌};
 ghost use Rattle.fab_files_looks.specs.Lines as lines;
-ghost use Rattle.fab_files_looks.specs.Lines.{approval_text, approvals_text, count_line, row_line};
+ghost use Rattle.fab_files_looks.specs.Lines.{approval_text, approvals_text, count_line, listed_lines, row_line, signed_words};
 ghost use Rattle.fab_wire_streams.specs.Taking.{Takes};
 
 use fab_desk_base::{Shown, ShownGroup, ShownPlan};
@@ -153,21 +153,43 @@ fn exposed_word(exposed: bool) -> &'static str
     if exposed { "exposed" } else { "hidden" }
 }
 
-/// Puts the line of a plan, and a line for each of its approvals.
+/// Puts the line of a plan: its state, its author, and how many callers have approved it.
 fn put_plan<S: Sink, A: Allocator + Copy>(
     sink: &mut S,
     plan: &ShownPlan<A>,
 ) -> Result<(), WriteFailed>
-    ensures { Takes S.took S.cut sink.old (lines.plan_lines plan.now) sink.new result }
+    ensures { Takes S.took S.cut sink.old (lines.plan_line plan.now) sink.new result }
 {
-    let approvals = plan.approvals.as_slice();
-    let Ok(()) = put_head(sink, &plan.name, plan.state, &plan.author, approvals.len()) else {
-        return Err(WriteFailed);
-    };
-    put_approvals(sink, approvals)
+    let count = plan.approvals.as_slice().len();
+    put_head(sink, &plan.name, plan.state, &plan.author, count)
 }
 
-/// Puts the line of a plan: its state, its author, and how many callers have approved it.
+/// The approvals of what a read shows, if it is a plan.
+fn approvals_in<A: Allocator + Copy>(shown: &Shown<A>) -> &[Approval]
+    ensures { result.now ≡ lines.approvals_in shown.now }
+{
+    match shown {
+        Shown::Plan(plan) => plan.approvals.as_slice(),
+        _ => &[],
+    }
+}
+
+/// Puts the line of what a read shows, and a line for each of its approvals, if it is a plan. Those that
+/// were given at another revision than this are stale.
+pub fn put_listed<S: Sink, A: Allocator + Copy>(
+    sink: &mut S,
+    revision: u64,
+    shown: &Shown<A>,
+) -> Result<(), WriteFailed>
+    ensures { Takes S.took S.cut sink.old (listed_lines revision shown.now) sink.new result }
+{
+    let Ok(()) = put_row(sink, shown) else {
+        return Err(WriteFailed);
+    };
+    put_approvals(sink, revision, approvals_in(shown))
+}
+
+/// Puts the line of a plan of this name.
 fn put_head<S: Sink>(
     sink: &mut S,
     name: &Name,
@@ -187,20 +209,31 @@ fn put_head<S: Sink>(
 }
 
 /// Puts a line for each approval.
-fn put_approvals<S: Sink>(sink: &mut S, approvals: &[Approval]) -> Result<(), WriteFailed>
-    ensures { Takes S.took S.cut sink.old (approvals_text approvals.now) sink.new result }
+fn put_approvals<S: Sink>(
+    sink: &mut S,
+    revision: u64,
+    approvals: &[Approval],
+) -> Result<(), WriteFailed>
+    ensures { Takes S.took S.cut sink.old (approvals_text revision approvals.now) sink.new result }
 {
     for approval in approvals {
-        let Ok(()) = put_approval(sink, approval) else {
+        let Ok(()) = put_approval(sink, revision, approval) else {
             return Err(WriteFailed);
         };
     }
     Ok(())
 }
 
-/// Puts the line of an approval: who approved at which revision.
-fn put_approval<S: Sink>(sink: &mut S, approval: &Approval) -> Result<(), WriteFailed>
-    ensures { Takes S.took S.cut sink.old (approval_text approval.now) sink.new result }
+/// What is told of an approval by whether it was given at the present revision.
+fn stale_words(is_fresh: bool) -> &'static str
+    ensures { result.now ≡ lines.stale_words is_fresh }
+{
+    if is_fresh { "\n" } else { ", stale\n" }
+}
+
+/// Puts who approved at which revision.
+fn put_signed<S: Sink>(sink: &mut S, approval: &Approval) -> Result<(), WriteFailed>
+    ensures { Takes S.took S.cut sink.old (signed_words approval.now) sink.new result }
 {
     let mut digits = Buffer::new();
     let texts = [
@@ -208,7 +241,21 @@ fn put_approval<S: Sink>(sink: &mut S, approval: &Approval) -> Result<(), WriteF
         approval.caller.as_bytes(),
         b" at revision ".as_slice(),
         digits.format(approval.revision).as_bytes(),
-        b"\n".as_slice(),
     ];
     put_all(sink, &texts)
+}
+
+/// Puts the line of an approval: who approved at which revision, and whether that is the present one.
+fn put_approval<S: Sink>(
+    sink: &mut S,
+    revision: u64,
+    approval: &Approval,
+) -> Result<(), WriteFailed>
+    ensures { Takes S.took S.cut sink.old (approval_text revision approval.now) sink.new result }
+{
+    let Ok(()) = put_signed(sink, approval) else {
+        return Err(WriteFailed);
+    };
+    let is_fresh = approval.revision == revision;
+    sink.take(stale_words(is_fresh).as_bytes())
 }

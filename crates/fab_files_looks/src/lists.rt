@@ -2,7 +2,7 @@
 ghost use Rattle.fab_files_looks.specs.Lists.{rows_json, rows_lines, rows_text, header_line};
 ghost use Rattle.fab_wire_streams.specs.Taking.{Takes};
 
-use crate::lines::put_row;
+use crate::lines::put_listed;
 use fab_desk_base::Shown;
 use fab_files::{Printable, put_four, put_three};
 use fab_wire_answers::parts::Parts;
@@ -52,18 +52,20 @@ impl<A: Allocator + Copy> Printable for RowsJson<'_, A> {
 pub struct RowsText<'r, A: Allocator + Copy> {
     /// The columns.
     pub table: Table,
+    /// The present revision.
+    pub revision: u64,
     /// What the reads show.
     pub rows: &'r [Shown<A>],
 }
 
 impl<A: Allocator + Copy> Printable for RowsText<'_, A> {
-    ghost text = { λ t. rows_text t.table t.rows.now };
+    ghost text = { λ t. rows_text t.table t.revision t.rows.now };
 
     fn put<S: Sink>(&self, sink: &mut S) -> Result<(), WriteFailed> {
         let Ok(()) = put_header(sink, self.table) else {
             return Err(WriteFailed);
         };
-        put_rows(sink, self.rows)
+        put_rows(sink, self.revision, self.rows)
     }
 }
 
@@ -87,12 +89,13 @@ fn put_header<S: Sink>(sink: &mut S, table: Table) -> Result<(), WriteFailed>
 /// Puts a line for each row.
 fn put_rows<S: Sink, A: Allocator + Copy>(
     sink: &mut S,
+    revision: u64,
     rows: &[Shown<A>],
 ) -> Result<(), WriteFailed>
-    ensures { Takes S.took S.cut sink.old (rows_lines rows.now) sink.new result }
+    ensures { Takes S.took S.cut sink.old (rows_lines revision rows.now) sink.new result }
 {
     for row in rows {
-        let Ok(()) = put_row(sink, row) else {
+        let Ok(()) = put_listed(sink, revision, row) else {
             return Err(WriteFailed);
         };
     }

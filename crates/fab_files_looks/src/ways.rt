@@ -121,6 +121,18 @@ impl<A: Allocator + Copy> Printable for WayText<'_, A> {
     }
 }
 
+/// What reads show, in words: a line for each thing.
+#[derive(Clone, Copy)]
+pub struct FoundText<'w, A: Allocator + Copy>(pub &'w [Shown<A>]);
+
+impl<A: Allocator + Copy> Printable for FoundText<'_, A> {
+    ghost text = { λ t. found_lines t.0.now };
+
+    fn put<S: Sink>(&self, sink: &mut S) -> Result<(), WriteFailed> {
+        put_found(sink, self.0)
+    }
+}
+
 /// Puts a line for each thing that a read shows.
 fn put_found<S: Sink, A: Allocator + Copy>(
     sink: &mut S,
@@ -158,6 +170,7 @@ fn label_of<A: Allocator + Copy>(shown: &Shown<A>) -> &'static str
         Shown::Port { .. } => "port ",
         Shown::Volume { .. } => "volume ",
         Shown::Group(_) => "group ",
+        Shown::Members { .. } => "zone ",
         _ => "",
     }
 }
@@ -223,6 +236,13 @@ fn put_path<S: Sink>(sink: &mut S, path: &Path) -> Result<(), WriteFailed>
     put_all(sink, &texts)
 }
 
+/// The word for so many paths, and the end of the line.
+fn paths_word(count: usize) -> &'static str
+    ensures { result.now ≡ ways.paths_word count }
+{
+    if count == 1 { " path\n" } else { " paths\n" }
+}
+
 /// Puts the last line of a host that reaches a volume by so many paths.
 fn put_count<S: Sink>(sink: &mut S, count: usize) -> Result<(), WriteFailed>
     ensures { Takes S.took S.cut sink.old (yes_line count) sink.new result }
@@ -231,7 +251,7 @@ fn put_count<S: Sink>(sink: &mut S, count: usize) -> Result<(), WriteFailed>
     let texts = [
         b"YES  ".as_slice(),
         digits.format(count).as_bytes(),
-        b" paths\n".as_slice(),
+        paths_word(count).as_bytes(),
     ];
     put_all(sink, &texts)
 }

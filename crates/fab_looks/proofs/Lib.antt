@@ -4,3 +4,4 @@ pub mod Answered
 pub mod Gathered
 pub mod Unseen
 pub mod Sights
+pub mod Ports

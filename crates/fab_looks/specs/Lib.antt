@@ -3,4 +3,5 @@ pub mod Rows
 pub mod Told
 pub mod Seeing
 pub mod Ways
+pub mod PortWays
 pub mod Inner

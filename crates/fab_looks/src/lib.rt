@@ -4,6 +4,7 @@
 //! A host or a volume that is not the caller's is told as if it was not there. Nothing is changed.
 #![tactic(auto)]
 
+mod around;
 mod entries;
 mod listing;
 mod port_listing;
@@ -11,7 +12,9 @@ mod rows;
 mod seeing;
 mod telling;
 mod way;
+mod zones;
 
+pub use around::port_way;
 pub use listing::{Kind, list, query_of};
 pub use port_listing::list_ports;
 pub use rows::{answers_to, list_rows, port_rows};

@@ -16,7 +16,7 @@ use fab_world::World;
 use std::alloc::{AllocError, Allocator};
 
 /// Adds the read, if it is open to the caller.
-fn add_open<A: Allocator + Copy>(
+pub fn add_open<A: Allocator + Copy>(
     queries: &mut Vec<Query, A>,
     policy: &Policy,
     world: &World<A>,

@@ -165,6 +165,49 @@ const CASES: &[Case] = &[
         "dryrun --db d --policy p --token t --plan p/1",
         Outcome::BadText,
     ),
+    (
+        "who --db d --policy p --token t --volume v1 --json",
+        Outcome::Asks(
+            "Who(Who { access: Access { db: \"d\", policy: \"p\", token: \"t\" }, of: Volume { volume: \"v1\" }, is_json: true })",
+        ),
+    ),
+    ("who --db d --policy p --token t", Outcome::BadText),
+    (
+        "who --db d --policy p --token t --volume v1 --port 1000000000000001",
+        Outcome::BadText,
+    ),
+    (
+        "who --db d --policy p --token t --port 1000000000000000g",
+        Outcome::BadText,
+    ),
+    (
+        "list --db d --policy p --token t plans --state staged",
+        Outcome::Asks(
+            "Names(Names { access: Access { db: \"d\", policy: \"p\", token: \"t\" }, kind: Plans, state: Some(Staged), is_json: false })",
+        ),
+    ),
+    (
+        "list --db d --policy p --token t plans --state done",
+        Outcome::BadText,
+    ),
+    (
+        "check --policy p",
+        Outcome::Asks("Check(Policy { path: \"p\" })"),
+    ),
+    (
+        "check --plan p",
+        Outcome::Asks("Check(Plan { path: \"p\" })"),
+    ),
+    (
+        "check --ports=f.csv",
+        Outcome::Asks("Check(Ports { path: \"f.csv\" })"),
+    ),
+    ("check", Outcome::BadText),
+    ("check --policy p --plan q", Outcome::BadText),
+    ("check --plan p --ports q", Outcome::BadText),
+    ("check --ports p --policy q", Outcome::BadText),
+    ("check --policy p --plan q --ports r", Outcome::BadText),
+    ("check --db d", Outcome::Refused(ErrorKind::UnknownArgument)),
     ("", Outcome::Refused(ErrorKind::MissingSubcommand)),
     ("serv", Outcome::Refused(ErrorKind::InvalidSubcommand)),
     ("--db d", Outcome::Refused(ErrorKind::UnknownArgument)),
@@ -242,6 +285,9 @@ fn taught(rt: &(impl Abort + AllocGlobal), subcommand: Subcommand) -> Vec<&'stat
     let mut texts = Vec::new(rt.alloc());
     texts.push(subcommand.about()).expect(rt, "memory");
     texts.push(subcommand.example()).expect(rt, "memory");
+    for option in subcommand.access() {
+        texts.push(option.help()).expect(rt, "memory");
+    }
     for option in subcommand.required() {
         texts.push(option.help()).expect(rt, "memory");
     }

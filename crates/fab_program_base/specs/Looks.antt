@@ -8,6 +8,8 @@ use Rattle.fab_program_looks.specs.declared.looks.Look.TheVariants as look
 use Rattle.fab_program_options.specs.declared.words.Access.{Access}
 use Rattle.fab_program_options.specs.declared.words.Names.{Names}
 use Rattle.fab_program_options.specs.declared.words.Who.{Who}
+use Rattle.fab_program_options.specs.declared.words.WhoOf.{WhoOf}
+use Rattle.fab_program_options.specs.declared.words.WhoOf.TheVariants as of
 use Rattle.fab_program_options.specs.declared.words.Why.{Why}
 use Rattle.fab_program_outside.specs.Coming.{Then}
 use Rattle.fab_program_outside.specs.Contents.{IsPolicyAt}
@@ -15,6 +17,10 @@ use Rattle.fab_program_outside.specs.declared.faults.Fault.{Fault}
 use Rattle.fab_program_outside.specs.declared.files.Files as files
 use Rattle.fab_store.specs.declared.Store as store
 use Rattle.fab_program_base.specs.declared.database.Databases as databases
+
+abbrev pub who_look : WhoOf → Look
+who_look (of.Volume volume) = look.Who volume
+who_look (of.Port port) = look.Port port
 
 module _ {O F T W : Type 0} (f : files.Ghosts O F) (known : F → Option (List ℕ)) (d : databases.Ghosts O T) (t : store.Ghosts T Global) (contents : W → Option (List ℕ)) where
   -- the policy of the caller's file is read, the tables are opened, and then the caller looks at them under it
@@ -27,10 +33,10 @@ module _ {O F T W : Type 0} (f : files.Ghosts O F) (known : F → Option (List �
   abbrev pub WhyComes : O → Why → W → Result (W × End) Fault → Type 0
   WhyComes outside asked writer came = ComesLooking outside asked.access (look.Why asked.host asked.volume) asked.is_json writer came
 
-  -- who reaches the volume
+  -- who reaches the volume, or what is around the port
   abbrev pub WhoComes : O → Who → W → Result (W × End) Fault → Type 0
-  WhoComes outside asked writer came = ComesLooking outside asked.access (look.Who asked.volume) asked.is_json writer came
+  WhoComes outside asked writer came = ComesLooking outside asked.access (who_look asked.of) asked.is_json writer came
 
   -- what there is of the kind
   abbrev pub NamesComes : O → Names → W → Result (W × End) Fault → Type 0
-  NamesComes outside asked writer came = ComesLooking outside asked.access (look.List asked.kind) asked.is_json writer came
+  NamesComes outside asked writer came = ComesLooking outside asked.access (look.List asked.kind asked.state) asked.is_json writer came

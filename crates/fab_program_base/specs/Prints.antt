@@ -7,7 +7,7 @@ use Rattle.fab_files.specs.Printed.{IsPrinted}
 use Rattle.fab_files.specs.declared.forms.Form.{Form}
 use Rattle.fab_files.specs.declared.printing.End.{End}
 use Rattle.fab_files.specs.declared.printing.PrintFault.{PrintFault}
-use Rattle.fab_program_looks.specs.Telling.{fault_of_printing}
+use Rattle.fab_program_outside.specs.Printing.{fault_of_printing}
 use Rattle.fab_program_outside.specs.declared.faults.Fault.{Fault}
 
 -- the writer is printed the text of the answer in the form, and how it ended is what the answer says;

@@ -18,6 +18,8 @@ use Rattle.fab_program_options.specs.declared.reading.WordsFault.{WordsFault}
 use Rattle.fab_program_options.specs.declared.reading.WordsFault.TheVariants as wrong
 use Rattle.fab_program_options.specs.declared.words.Words.{Words}
 use Rattle.fab_program_options.specs.declared.words.Words.TheVariants as words
+use Rattle.fab_program_checks.specs.Checks.{CheckComes}
+use Rattle.fab_program_checks.specs.declared.modes.Modes as modes
 use Rattle.fab_program_base.specs.Commands.{DryRunComes, ImportComes, ShowComes}
 use Rattle.fab_program_base.specs.Databases.{IsMade}
 use Rattle.fab_program_base.specs.Desks.{ProgramDesk}
@@ -47,7 +49,7 @@ EndsLike {W} Came ended = (done : Result (W × End) Fault) × Came done × (ende
 abbrev pub EndsAt : {W : Type 0} → Option ℕ → (Option ℕ → Type 0) → (Result ℕ Fault → Result (W × End) Fault → Type 0) → Result End Fault → Type 0
 EndsAt given Tells Came ended = (moment : Result ℕ Fault) × IsMoment given Tells moment × EndsLike (Came moment) ended
 
-module _ {O F T M D Reader Writer : Type 0} (f : files.Ghosts O F) (known : F → Option (List ℕ)) (d : databases.Ghosts O T) (a : addresses.Ghosts O)
+module _ {O F T M D Reader Writer : Type 0} (f : files.Ghosts O F) (known : F → Option (List ℕ)) (d : databases.Ghosts O T) (a : addresses.Ghosts O) (v : modes.Ghosts O)
     (t : store.Ghosts T Global) (Makes : Result M Fault → Type 0) (m : store.Ghosts M Global) (remaining : Reader → Option (List ℕ)) (contents : Writer → Option (List ℕ)) (Tells : Option ℕ → Type 0)
     (w : server.Ghosts D T OpenFault Outcome) (desk_of : D → ProgramDesk T) (gives : Option ℕ → Type 0) where
   -- what each subcommand comes to
@@ -65,3 +67,4 @@ module _ {O F T M D Reader Writer : Type 0} (f : files.Ghosts O F) (known : F �
   Comes outside (words.Why asked) reader writer ended = EndsLike (WhyComes f known d t contents outside asked writer) ended
   Comes outside (words.Who asked) reader writer ended = EndsLike (WhoComes f known d t contents outside asked writer) ended
   Comes outside (words.Names asked) reader writer ended = EndsLike (NamesComes f known d t contents outside asked writer) ended
+  Comes outside (words.Check asked) reader writer ended = EndsLike (CheckComes f known v contents outside asked writer) ended

@@ -16,6 +16,7 @@ mod tasks;
 
 pub use addresses::Addresses;
 pub use database::Databases;
+pub use fab_program_checks::Modes;
 pub use fab_program_outside::{Fault, Files, Machine, Size};
 pub use running::{run, run_over};
 pub use starting::start;

@@ -1,4 +1,6 @@
 //! The looks of one caller at a database: `why`, `who` and `list`.
+ghost use Rattle.std.specs.Prelude.{◌≡◌};
+ghost use Rattle.fab_program_base.specs.Looks as looks;
 ghost use Rattle.fab_program_base.specs.Looks.{ComesLooking, WhyComes, WhoComes, NamesComes};
 ghost use Rattle.fab_program_looks.specs.Looks.{LooksOver};
 ghost use Rattle.fab_program_outside.specs.Coming.{After, Then};
@@ -7,7 +9,7 @@ use crate::database::Databases;
 use fab_files::End;
 use fab_policy_base::Policy;
 use fab_program_looks::{Asked, Look, look_over};
-use fab_program_options::{Access, Names, Who, Why};
+use fab_program_options::{Access, Names, Who, WhoOf, Why};
 use fab_program_outside::{Fault, Files, policy_of};
 use std::alloc::Global;
 use std::io::Write;
@@ -70,7 +72,17 @@ pub fn why<O: Files + Databases, W: Write + Drop>(
     look(alloc, outside, &asked.access, way, asked.is_json, writer)
 }
 
-/// Tells who reaches a volume. The writer is handed back.
+/// The look at a volume or at a port.
+fn who_look(of: WhoOf) -> Look
+    ensures { result ≡ looks.who_look of }
+{
+    match of {
+        WhoOf::Volume { volume } => Look::Who { volume },
+        WhoOf::Port { port } => Look::Port { port },
+    }
+}
+
+/// Tells who reaches a volume, or what is around a port. The writer is handed back.
 ///
 /// # Errors
 /// As for the policy, the database and the stream, in this order.
@@ -82,17 +94,8 @@ pub fn who<O: Files + Databases, W: Write + Drop>(
 ) -> Result<(W, End), Fault>
     ensures { WhoComes O.Files O.File.remaining O.Databases O.Tables.Store W.contents outside.now asked.now writer result }
 {
-    let reachers = Look::Who {
-        volume: asked.volume,
-    };
-    look(
-        alloc,
-        outside,
-        &asked.access,
-        reachers,
-        asked.is_json,
-        writer,
-    )
+    let of = who_look(asked.of);
+    look(alloc, outside, &asked.access, of, asked.is_json, writer)
 }
 
 /// Lists what there is of a kind. The writer is handed back.
@@ -107,6 +110,9 @@ pub fn names<O: Files + Databases, W: Write + Drop>(
 ) -> Result<(W, End), Fault>
     ensures { NamesComes O.Files O.File.remaining O.Databases O.Tables.Store W.contents outside.now asked.now writer result }
 {
-    let list = Look::List { kind: asked.kind };
+    let list = Look::List {
+        kind: asked.kind,
+        state: asked.state,
+    };
     look(alloc, outside, &asked.access, list, asked.is_json, writer)
 }

@@ -10,7 +10,8 @@ ghost use Rattle.fab_program_options.specs.Asking.{Asks};
 ghost use Rattle.fab_program_options.specs.declared.words.Words.{Words};
 ghost use Rattle.fab_program_base.specs.Exits.{IsExitStatus, end_of_making, end_only, status_of, words_status};
 ghost use Rattle.fab_wire_serving.specs.Turns.{Gives};
-ghost use Rattle.fab_program_base.specs.Runs.{Comes, IsToldOf, IsToldOfWords};
+ghost use Rattle.fab_program_base.specs.Once.{ComesOnce};
+ghost use Rattle.fab_program_base.specs.Runs.{Comes, EndsAt, IsToldOf, IsToldOfWords};
 
 use crate::addresses::Addresses;
 use crate::commands::{dry_run, export, import, paths, report};
@@ -20,7 +21,8 @@ use crate::looks::{names, who, why};
 use crate::once::once;
 use crate::serving::serve;
 use fab_files::End;
-use fab_program_options::{Words, WordsFault, read_words};
+use fab_program_checks::{Modes, check};
+use fab_program_options::{Once, Words, WordsFault, read_words};
 use fab_program_outside::{Fault, Files, Machine, fail, moment_of, refuse_text};
 use fab_store::{SqlStore, Store};
 use fab_wire_serving::Server;
@@ -66,7 +68,7 @@ pub fn run<N: FnMut() -> Option<u64>, R: Read + Drop, W: Write + Drop, E: Write>
 /// What the words ask for is done, with the moment that they give, or else the clock's; what came of
 /// it is the status, and a fault has its line.
 pub fn run_over<
-    O: Files + Databases + Addresses,
+    O: Files + Databases + Addresses + Modes,
     N: FnMut() -> Option<u64>,
     R: Read + Drop,
     W: Write + Drop,
@@ -98,7 +100,7 @@ pub fn run_over<
 /// Does what the words ask for: `import`, `dryrun` and `once` at the moment that they give, or else the
 /// clock's, and the others with no moment.
 fn carry_out<
-    O: Files + Databases + Addresses,
+    O: Files + Databases + Addresses + Modes,
     N: FnMut() -> Option<u64>,
     R: Read + Drop,
     W: Write + Drop,
@@ -111,16 +113,13 @@ fn carry_out<
     writer: W,
 ) -> Result<End, Fault>
     requires { (state : N) → N.pre state }
-    ensures { Comes O.Files O.File.remaining O.Databases O.Addresses O.Tables.Store (λ made. IfOk made (λ tables. HasCleanDisk (state over_memory tables.conn) → IsNewDesk (tables_of (state over_memory tables.conn).now.trees))) ⟦<SqlStore<MemStore> as Store<Global>>⟧ R.remaining W.contents (λ told. N.step now.old told now.new) ⟦<Front<O::Tables> as Server>⟧ (λ front. front.desk) (Gives N.step) outside.now asked.now reader writer result }
+    ensures { Comes O.Files O.File.remaining O.Databases O.Addresses O.Modes O.Tables.Store (λ made. IfOk made (λ tables. HasCleanDisk (state over_memory tables.conn) → IsNewDesk (tables_of (state over_memory tables.conn).now.trees))) ⟦<SqlStore<MemStore> as Store<Global>>⟧ R.remaining W.contents (λ told. N.step now.old told now.new) ⟦<Front<O::Tables> as Server>⟧ (λ front. front.desk) (Gives N.step) outside.now asked.now reader writer result }
 {
     let alloc = rt.alloc();
     match asked {
         Words::Init(asked) => made(make(outside, asked.db)),
         Words::Serve(asked) => serve(rt, outside, asked, now, writer),
-        Words::Once(asked) => {
-            let moment = moment_of(asked.now, now);
-            without_writer(once(alloc, outside, asked, moment, reader, writer))
-        }
+        Words::Once(asked) => once_at(alloc, outside, asked, now, reader, writer),
         Words::Import(asked) => {
             let moment = moment_of(asked.now, now);
             without_writer(import(alloc, outside, asked, moment, writer))
@@ -135,7 +134,24 @@ fn carry_out<
         Words::Why(asked) => without_writer(why(alloc, outside, asked, writer)),
         Words::Who(asked) => without_writer(who(alloc, outside, asked, writer)),
         Words::Names(asked) => without_writer(names(alloc, outside, asked, writer)),
+        Words::Check(asked) => without_writer(check(alloc, outside, asked, writer)),
     }
+}
+
+/// Answers one request at the moment that is given, or else the clock's.
+fn once_at<O: Files + Databases, N: FnMut() -> Option<u64>, R: Read + Drop, W: Write + Drop>(
+    alloc: Global,
+    outside: &O,
+    asked: &Once<'_>,
+    now: &mut N,
+    reader: R,
+    writer: W,
+) -> Result<End, Fault>
+    requires { (state : N) → N.pre state }
+    ensures { EndsAt asked.entry.now.now (λ told. N.step now.old told now.new) (λ moment. ComesOnce O.Files O.File.remaining O.Databases O.Tables.Store (λ made. IfOk made (λ tables. HasCleanDisk (state over_memory tables.conn) → IsNewDesk (tables_of (state over_memory tables.conn).now.trees))) ⟦<SqlStore<MemStore> as Store<Global>>⟧ R.remaining W.contents outside.now asked.entry.now.over moment reader writer) result }
+{
+    let moment = moment_of(asked.now, now);
+    without_writer(once(alloc, outside, asked, moment, reader, writer))
 }
 
 /// How making a database ended.

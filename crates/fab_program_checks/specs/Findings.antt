@@ -8,6 +8,7 @@ use Rattle.fab_policy_base.specs.Policies.{PolicyRows}
 use Rattle.fab_policy_base.specs.Shapes.{IsMemory}
 use Rattle.fab_policy_base.specs.declared.fault.PolicyFault.{PolicyFault}
 use Rattle.fab_policy_base.specs.Tables.{SpellsPolicy, HasPolicyFault}
+use Rattle.fab_policy_looks.specs.Warnings.{warnings_of}
 use Rattle.fab_program_checks.specs.declared.findings.Finding.{Finding}
 use Rattle.fab_program_checks.specs.declared.findings.Finding.TheVariants as finding
 use Rattle.fab_program_outside.specs.declared.faults.Fault.{Fault}
@@ -29,9 +30,15 @@ IsFindingOf f (Ok (finding.Policy g)) = (g ≡ f) × ¬ IsMemory f
 IsFindingOf f (Ok other) = ⊥
 IsFindingOf f (Err e) = e ≡ fault.Memory
 
--- the text spells a policy, or this fault is in it
+-- what is worth a look in the policy, unless there was no memory
+abbrev pub IsWarnedOf : PolicyRows → Result Finding Fault → Type 0
+IsWarnedOf p (Ok (finding.Warned ws)) = ws.items ≡ warnings_of p
+IsWarnedOf p (Ok other) = ⊥
+IsWarnedOf p (Err e) = e ≡ fault.Memory
+
+-- the text spells a policy, of which this is worth a look, or this fault is in it
 abbrev pub IsPolicyFinding : List ℕ → Result Finding Fault → Type 0
-IsPolicyFinding text (Ok finding.Sound) = (p : PolicyRows) × SpellsPolicy text p
+IsPolicyFinding text (Ok (finding.Warned ws)) = (p : PolicyRows) × SpellsPolicy text p × (ws.items ≡ warnings_of p)
 IsPolicyFinding text (Ok (finding.Policy f)) = HasPolicyFault text f × ((p : PolicyRows) → ¬ SpellsPolicy text p)
 IsPolicyFinding text (Ok other) = ⊥
 IsPolicyFinding text (Err f) = f ≡ fault.Memory

@@ -1,2 +1,4 @@
+pub mod Checks
 pub mod Findings
 pub mod Lines
+pub mod Notes

@@ -1,9 +1,10 @@
--- The line that tells what is found in a file.
-use Rattle.std.specs.Prelude.{ℕ, zero, suc, List, [], ◌∷◌, ◌++◌, codes, decimal}
+-- The lines that tell what is found in a file.
+use Rattle.std.specs.Prelude.{ℕ, zero, suc, List, [], ◌∷◌, ◌++◌, Option, codes, decimal}
 use Rattle.fab_plans_text.specs.declared.fault.PlanFault.{PlanFault}
 use Rattle.fab_plans_text.specs.declared.fault.PlanFaultKind.{PlanFaultKind}
 use Rattle.fab_plans_text.specs.declared.fault.PlanFaultKind.TheVariants as kind
 use Rattle.fab_policy_base.specs.Told.{fault_text}
+use Rattle.fab_program_checks.specs.Notes.{mode_line, warning_lines, warnings_in}
 use Rattle.fab_program_checks.specs.declared.findings.Finding.{Finding}
 use Rattle.fab_program_checks.specs.declared.findings.Finding.TheVariants as finding
 
@@ -41,6 +42,7 @@ plan_fault_words f = words_at f.line (plan_words f.kind)
 -- the words of what is found
 abbrev pub finding_words : Finding → List ℕ
 finding_words finding.Sound = codes "sound"
+finding_words (finding.Warned ws) = codes "sound"
 finding_words finding.TooLarge = codes "longer than 1048576 bytes"
 finding_words finding.NoText = codes "no text in UTF-8"
 finding_words (finding.Policy f) = fault_text f
@@ -50,3 +52,7 @@ finding_words (finding.Record line) = number_words (codes "record ") line ++ cod
 -- the path, and what is found there
 abbrev pub finding_line : List ℕ → Finding → List ℕ
 finding_line path f = (path ++ codes ": ") ++ (finding_words f ++ 10 ∷ [])
+
+-- that line, and behind it what is worth a look
+abbrev pub finding_text : List ℕ → Finding → Option ℕ → List ℕ
+finding_text path f mode = finding_line path f ++ (warning_lines path (warnings_in f) ++ mode_line path mode)

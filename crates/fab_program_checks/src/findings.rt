@@ -1,8 +1,9 @@
 //! What is found in the bytes of a file.
-ghost use Rattle.fab_program_checks.specs.Findings.{IsFindingOf, IsPlanFinding, IsPolicyFinding, IsPortsFinding, IsTextFinding};
+ghost use Rattle.fab_program_checks.specs.Findings.{IsFindingOf, IsPlanFinding, IsPolicyFinding, IsPortsFinding, IsTextFinding, IsWarnedOf};
 
 use fab_plans_text::{PlanFault, PlanFaultKind, read_plan};
 use fab_policy_base::{Policy, PolicyFault};
+use fab_policy_looks::{Warning, warnings_of};
 use fab_program_outside::{Fault, is_too_large};
 use fab_wire_requests::port_list::{FileFault, read_ports};
 use std::alloc::Global;
@@ -13,6 +14,8 @@ use std::str;
 pub enum Finding {
     /// Nothing is wrong with it.
     Sound,
+    /// It spells a policy, in which this is worth a look.
+    Warned(Vec<Warning>),
     /// It has more than 1048576 bytes.
     TooLarge,
     /// Its bytes are no text.
@@ -46,8 +49,18 @@ fn find_in_policy(alloc: Global, text: &str) -> Result<Finding, Fault>
     ensures { IsPolicyFinding text.now result }
 {
     match Policy::read(alloc, text) {
-        Ok(_policy) => Ok(Finding::Sound),
+        Ok(policy) => warned(alloc, &policy),
         Err(fault) => finding_of(fault),
+    }
+}
+
+/// The finding of a policy that is none but for what is worth a look.
+fn warned(alloc: Global, policy: &Policy) -> Result<Finding, Fault>
+    ensures { IsWarnedOf policy.now result }
+{
+    match warnings_of(alloc, policy) {
+        Ok(warnings) => Ok(Finding::Warned(warnings)),
+        Err(_) => Err(Fault::Memory),
     }
 }
 

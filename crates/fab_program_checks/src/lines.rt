@@ -1,10 +1,11 @@
-//! The line that tells what is found in a file.
+//! The lines that tell what is found in a file.
 ghost use Rattle.std.specs.Prelude.{◌++◌, codes};
-ghost use Rattle.fab_program_checks.specs.Lines.{finding_line, finding_words, number_words, plan_fault_words, quoted_words};
+ghost use Rattle.fab_program_checks.specs.Lines.{finding_line, finding_text, finding_words, number_words, plan_fault_words, quoted_words};
 ghost use Rattle.fab_policy_base.specs.Told.{fault_text};
 ghost use Rattle.fab_wire_streams.specs.Taking.{Takes};
 
 use crate::findings::Finding;
+use crate::notes::{put_mode, put_warnings, warnings_in};
 use crate::words::plan_words;
 use fab_files::Printable;
 use fab_plans_text::PlanFault;
@@ -13,27 +14,42 @@ use fab_wire_streams::sink::{Sink, put_all};
 use fab_wire_streams::streams::WriteFailed;
 use itoa::Buffer;
 
-/// A file and what is found in it, as a line.
+/// A file and what is found in it, as lines: what is wrong, and behind it what is worth a look.
 #[derive(Clone, Copy)]
-pub struct FindingLine<'f> {
+pub struct FindingText<'f> {
     /// The path of the file, as it was given.
     pub path: &'f str,
     pub finding: &'f Finding,
+    /// The mode of a file that has tokens in it, if it is known.
+    pub mode: Option<u32>,
 }
 
-impl Printable for FindingLine<'_> {
-    ghost text = { λ l. finding_line l.path.now l.finding.now };
+impl Printable for FindingText<'_> {
+    ghost text = { λ l. finding_text l.path.now l.finding.now l.mode };
 
     fn put<S: Sink>(&self, sink: &mut S) -> Result<(), WriteFailed> {
-        let texts = [self.path.as_bytes(), b": ".as_slice()];
-        let Ok(()) = put_all(sink, &texts) else {
+        let Ok(()) = put_line(sink, self.path, self.finding) else {
             return Err(WriteFailed);
         };
-        let Ok(()) = put_finding(sink, self.finding) else {
+        let Ok(()) = put_warnings(sink, self.path, warnings_in(self.finding)) else {
             return Err(WriteFailed);
         };
-        sink.take(b"\n")
+        put_mode(sink, self.path, self.mode)
     }
+}
+
+/// Puts the line of a file and what is wrong with it.
+fn put_line<S: Sink>(sink: &mut S, path: &str, finding: &Finding) -> Result<(), WriteFailed>
+    ensures { Takes S.took S.cut sink.old (finding_line path.now finding.now) sink.new result }
+{
+    let texts = [path.as_bytes(), b": ".as_slice()];
+    let Ok(()) = put_all(sink, &texts) else {
+        return Err(WriteFailed);
+    };
+    let Ok(()) = put_finding(sink, finding) else {
+        return Err(WriteFailed);
+    };
+    sink.take(b"\n")
 }
 
 /// Puts the words of what is found.
@@ -41,7 +57,7 @@ fn put_finding<S: Sink>(sink: &mut S, finding: &Finding) -> Result<(), WriteFail
     ensures { Takes S.took S.cut sink.old (finding_words finding.now) sink.new result }
 {
     match finding {
-        Finding::Sound => sink.take(b"sound"),
+        Finding::Sound | Finding::Warned(_) => sink.take(b"sound"),
         Finding::TooLarge => sink.take(b"longer than 1048576 bytes"),
         Finding::NoText => sink.take(b"no text in UTF-8"),
         Finding::Policy(fault) => put_policy_fault(sink, fault),

@@ -7,7 +7,7 @@ use Rattle.fab_policy_base.specs.Callers.{IsOnlyWith}
 use Rattle.fab_policy_base.specs.Policies.{PolicyRows}
 use Rattle.fab_program_looks.specs.Lists.{TellsList}
 use Rattle.fab_program_looks.specs.Loading.{IsLoaded}
-use Rattle.fab_program_looks.specs.Telling.{IsTurnedAway, TellsWay, TellsWho}
+use Rattle.fab_program_looks.specs.Telling.{IsTurnedAway, TellsPort, TellsWay, TellsWho}
 use Rattle.fab_program_looks.specs.declared.looks.Asked.{Asked}
 use Rattle.fab_program_looks.specs.declared.looks.Look.{Look}
 use Rattle.fab_program_looks.specs.declared.looks.Look.TheVariants as look
@@ -21,7 +21,8 @@ module _ {W : Type 0} (contents : W → Option (List ℕ)) where
   abbrev pub LooksAs : WorldRows → PolicyRows → ℕ → Look → Bool → W → Result (W × End) Fault → Type 0
   LooksAs w p id (look.Why host volume) json writer came = TellsWay contents w p id host volume json writer came
   LooksAs w p id (look.Who volume) json writer came = TellsWho contents w p id volume json writer came
-  LooksAs w p id (look.List kind) json writer came = TellsList contents w p id kind json writer came
+  LooksAs w p id (look.Port port) json writer came = TellsPort contents w p id port json writer came
+  LooksAs w p id (look.List kind state) json writer came = TellsList contents w p id kind state json writer came
 
   -- nobody has the token; or somebody has it, and looks
   abbrev pub LooksAt : WorldRows → PolicyRows → Asked → W → Result (W × End) Fault → Type 0

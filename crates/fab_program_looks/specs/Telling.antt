@@ -1,6 +1,5 @@
 -- What a caller who looks is told, and what is printed of it.
-use Rattle.std.specs.Prelude.{ℕ, ◌≡◌, ◌⊎◌, List, map, Bool, true, false, Option, Result, Ok, Err}
-use Rattle.std.specs.Io.KnownBytes.{Appends}
+use Rattle.std.specs.Prelude.{ℕ, ◌≡◌, ◌⊎◌, List, [], ◌∷◌, map, Bool, true, false, Option, Result, Ok, Err}
 use Rattle.std.specs.BTreeMap.{BTreeMap}
 use Rattle.std.specs.declared.alloc.Global.{Global}
 use Rattle.fab_desk_base.specs.declared.fault.DeskFault.TheVariants as refusal
@@ -9,11 +8,11 @@ use Rattle.fab_desk_base.specs.declared.reply.Shown.{Shown}
 use Rattle.fab_files.specs.Printed.{json_line}
 use Rattle.fab_files.specs.declared.printing.End.{End}
 use Rattle.fab_files.specs.declared.printing.End.TheVariants.{Done, Refused}
-use Rattle.fab_files.specs.declared.printing.PrintFault.{PrintFault}
-use Rattle.fab_files.specs.declared.printing.PrintFault.TheVariants as print
 use Rattle.fab_files_looks.specs.Reachers.{reacher_of, reachers_json, reachers_text}
-use Rattle.fab_files_looks.specs.Ways.{way_json, way_text}
+use Rattle.fab_files_looks.specs.Lists.{rows_json}
+use Rattle.fab_files_looks.specs.Ways.{found_lines, way_json, way_text}
 use Rattle.fab_files_looks.specs.declared.reachers.Reacher.{Reacher}
+use Rattle.fab_looks.specs.PortWays.{ArePortWay}
 use Rattle.fab_looks.specs.Seeing.{AreTold}
 use Rattle.fab_looks.specs.Told.{IsTold}
 use Rattle.fab_looks.specs.Ways.{AreWayRows}
@@ -21,20 +20,12 @@ use Rattle.fab_looks_base.specs.declared.explaining.Why.{Why}
 use Rattle.fab_looks_base.specs.declared.explaining.Why.TheVariants as why
 use Rattle.fab_looks_base.specs.declared.reaching.Counts.{Counts}
 use Rattle.fab_policy_base.specs.Policies.{PolicyRows}
+use Rattle.fab_program_outside.specs.Printing.{Prints}
 use Rattle.fab_program_outside.specs.declared.faults.Fault.{Fault}
 use Rattle.fab_program_outside.specs.declared.faults.Fault.TheVariants as fault
 use Rattle.fab_wire_answers.specs.declared.answers.Answer.{Answer}
 use Rattle.fab_wire_answers.specs.declared.answers.Answer.TheVariants as answer
 use Rattle.fab_world.specs.Worlds.{WorldRows}
-
-abbrev pub fault_of_printing : PrintFault → Fault
-fault_of_printing print.Memory = fault.Memory
-fault_of_printing print.Stream = fault.Stream
-
--- the writer is printed just this text, and the look ends so; or there was no memory, or the writer failed
-abbrev pub Prints : {W : Type 0} → (W → Option (List ℕ)) → W → List ℕ → End → Result (W × End) Fault → Type 0
-Prints contents writer text end (Ok done) = Appends (contents writer) (contents done.0) text × (done.1 ≡ end)
-Prints contents writer text end (Err f) = (cause : PrintFault) × (f ≡ fault_of_printing cause)
 
 -- nobody has the token
 abbrev pub no_caller : Answer Global
@@ -71,3 +62,20 @@ module _ {W : Type 0} (contents : W → Option (List ℕ)) (w : WorldRows) (p : 
   abbrev pub TellsWho : List ℕ → Bool → W → Result (W × End) Fault → Type 0
   TellsWho volume json writer came = (came ≡ Err fault.Memory)
       ⊎ ((m : BTreeMap (List ℕ) Counts) × AreTold p w id volume m × Prints contents writer (who_output json (map reacher_of m.entries)) Done came)
+
+-- ---- a port
+
+-- it is done where there is something to show
+abbrev pub end_of_port : {A : Type 0} → List (Shown A) → End
+end_of_port [] = Refused
+end_of_port (x ∷ xs) = Done
+
+abbrev pub port_output : {A : Type 0} → Bool → List (Shown A) → List ℕ
+port_output true found = rows_json found
+port_output false found = found_lines found
+
+module _ {W : Type 0} (contents : W → Option (List ℕ)) (w : WorldRows) (p : PolicyRows) (id : ℕ) where
+  -- there was no memory; or what the caller may read of the port and of what is around it is printed
+  abbrev pub TellsPort : ℕ → Bool → W → Result (W × End) Fault → Type 0
+  TellsPort port json writer came = (came ≡ Err fault.Memory)
+      ⊎ ((found : List (Shown Global)) × ArePortWay p w id port found × Prints contents writer (port_output json found) (end_of_port found) came)

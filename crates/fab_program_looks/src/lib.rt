@@ -11,4 +11,3 @@ mod printing;
 
 pub use loading::of_opening;
 pub use looks::{Asked, Look, look_over};
-pub use printing::of_printing;

@@ -1,20 +1,20 @@
 //! Lists that are printed.
-ghost use Rattle.std.specs.Prelude.{◌≡◌, ◌++◌, List, IfOk};
+ghost use Rattle.std.specs.Prelude.{◌≡◌, ◌++◌, List, IfOk, filter};
 ghost use Rattle.fab_desk_base.specs.declared.reply.Shown.{Shown};
 ghost use Rattle.fab_looks.specs.Rows.{AreRows};
-ghost use Rattle.fab_program_looks.specs.Lists.{AreBoth, AreListed, TellsList, list_output, table_of};
-ghost use Rattle.fab_program_looks.specs.Telling.{Prints};
+ghost use Rattle.fab_program_looks.specs.Lists.{AreBoth, AreListed, TellsList, chosen, is_in, list_output, number_asked, number_of, table_of};
+ghost use Rattle.fab_program_outside.specs.Printing.{Prints};
 ghost use Rattle.fab_world.specs.Soundness.{IsSound};
 
-use crate::printing::print_as;
 use fab_desk_base::Shown;
 use fab_files::End;
 use fab_files_looks::{RowsJson, RowsText, Table};
 use fab_looks::{Kind, list_rows, port_rows};
 use fab_names::Fabric;
 use fab_policy::{CallerId, Policy};
-use fab_program_options::ListKind;
-use fab_program_outside::Fault;
+use fab_program_options::{ListKind, ListState};
+use fab_program_outside::{Fault, print_as};
+use fab_store_rows::PlanState;
 use fab_world::World;
 use std::alloc::{AllocError, Global};
 use std::io::Write;
@@ -81,25 +81,84 @@ fn table_of(kind: ListKind) -> Table
     }
 }
 
-/// Prints rows.
+/// The place of a state among those that are asked for.
+fn number_asked(state: ListState) -> usize
+    ensures { result ≡ number_asked state }
+{
+    match state {
+        ListState::Staged => 0,
+        ListState::Active => 1,
+        ListState::RolledBack => 2,
+        ListState::Withdrawn => 3,
+    }
+}
+
+/// The place of a plan's state among those.
+fn number_of(state: PlanState) -> usize
+    ensures { result ≡ number_of state }
+{
+    match state {
+        PlanState::Staged => 0,
+        PlanState::Active => 1,
+        PlanState::RolledBack => 2,
+        PlanState::Withdrawn => 3,
+    }
+}
+
+/// Whether a row is of a plan in the state.
+fn is_in(state: ListState, row: &Shown<Global>) -> bool
+    ensures { result ≡ is_in state row.now }
+{
+    match row {
+        Shown::Plan(plan) => number_asked(state) == number_of(plan.state),
+        _ => false,
+    }
+}
+
+/// Those of the rows that are of plans in the state.
+fn only(state: ListState, rows: Vec<Shown<Global>>) -> Vec<Shown<Global>>
+    ensures { result.items ≡ filter (is_in state) rows.items }
+{
+    let mut rows = rows;
+    rows.retain(|row| is_in(state, row));
+    rows
+}
+
+/// Those of the rows that are of plans in the state, if one is asked for.
+fn chosen(state: Option<ListState>, rows: Vec<Shown<Global>>) -> Vec<Shown<Global>>
+    ensures { result.items ≡ chosen state rows.items }
+{
+    match state {
+        Some(state) => only(state, rows),
+        None => rows,
+    }
+}
+
+/// Prints rows at a revision.
 fn print_rows<W: Write + Drop>(
     alloc: Global,
     writer: W,
     kind: ListKind,
+    revision: u64,
     rows: &[Shown<Global>],
     is_json: bool,
 ) -> Result<(W, End), Fault>
-    ensures { Prints W.contents writer (list_output is_json kind rows.now) End.Done result }
+    ensures { Prints W.contents writer (list_output is_json kind revision rows.now) End.Done result }
 {
     if is_json {
         print_as(alloc, writer, &RowsJson(rows), End::Done)
     } else {
         let table = table_of(kind);
-        print_as(alloc, writer, &RowsText { table, rows }, End::Done)
+        let text = RowsText {
+            table,
+            revision,
+            rows,
+        };
+        print_as(alloc, writer, &text, End::Done)
     }
 }
 
-/// Lists what there is of a kind, as far as the caller may see it.
+/// Lists what there is of a kind, as far as the caller may see it, or only the plans in a state.
 ///
 /// # Errors
 /// `Memory`; `Stream` where the writer failed.
@@ -109,14 +168,16 @@ pub fn list_at<W: Write + Drop>(
     policy: &Policy,
     id: CallerId,
     kind: ListKind,
+    state: Option<ListState>,
     is_json: bool,
     writer: W,
 ) -> Result<(W, End), Fault>
     requires sound { IsSound world.now }
-    ensures { TellsList W.contents world.now policy.now id kind is_json writer result }
+    ensures { TellsList W.contents world.now policy.now id kind state is_json writer result }
 {
     let Ok(rows) = rows_at(alloc, world, policy, id, kind) else {
         return Err(Fault::Memory);
     };
-    print_rows(alloc, writer, kind, &rows, is_json)
+    let rows = chosen(state, rows);
+    print_rows(alloc, writer, kind, world.revision, &rows, is_json)
 }

@@ -7,11 +7,11 @@ ghost use Rattle.fab_world.specs.Soundness.{IsSound};
 
 use crate::lists::list_at;
 use crate::loading::world_of;
-use crate::printing::{turn_away, who_at, why_at};
+use crate::printing::{port_at, turn_away, who_at, why_at};
 use fab_files::End;
-use fab_names::Name;
+use fab_names::{Name, Wwn};
 use fab_policy::{CallerId, Policy};
-use fab_program_options::ListKind;
+use fab_program_options::{ListKind, ListState};
 use fab_program_outside::Fault;
 use fab_store::Store;
 use fab_world::World;
@@ -22,11 +22,23 @@ use std::io::Write;
 #[derive(Clone, Copy)]
 pub enum Look {
     /// Why a host reaches a volume or does not.
-    Why { host: Name, volume: Name },
+    Why {
+        host: Name,
+        volume: Name,
+    },
     /// Who reaches a volume.
-    Who { volume: Name },
-    /// What there is of a kind.
-    List { kind: ListKind },
+    Who {
+        volume: Name,
+    },
+    /// What is around a port.
+    Port {
+        port: Wwn,
+    },
+    /// What there is of a kind, or only plans in a state.
+    List {
+        kind: ListKind,
+        state: Option<ListState>,
+    },
 }
 
 /// Who looks at what, and in which form it is told.
@@ -118,7 +130,10 @@ fn look_as<W: Write + Drop>(
                 writer,
             )
         }
+        Look::Port { port } => port_at(alloc, world, policy, id, port, asked.is_json, writer),
         Look::Who { volume } => who_at(alloc, world, policy, id, volume, asked.is_json, writer),
-        Look::List { kind } => list_at(alloc, world, policy, id, kind, asked.is_json, writer),
+        Look::List { kind, state } => {
+            list_at(alloc, world, policy, id, kind, state, asked.is_json, writer)
+        }
     }
 }

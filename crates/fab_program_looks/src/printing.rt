@@ -1,31 +1,24 @@
 //! Looks whose answers are printed.
 ghost use Rattle.std.specs.Prelude.{◌≡◌};
 ghost use Rattle.fab_files_looks.specs.Reachers.{reacher_of};
-ghost use Rattle.fab_program_looks.specs.Telling.{IsTurnedAway, Prints, TellsWay, TellsWho, end_of_why, fault_of_printing, way_output, who_output};
+ghost use Rattle.fab_program_looks.specs.Telling.{IsTurnedAway, TellsPort, TellsWay, TellsWho, end_of_port, end_of_why, port_output, way_output, who_output};
+ghost use Rattle.fab_program_outside.specs.Printing.{Prints};
 ghost use Rattle.fab_world.specs.Soundness.{IsSound};
 
 use fab_desk_base::{DeskFault, Reply, Shown};
-use fab_files::{End, Form, PrintFault, Printable, print, print_text};
-use fab_files_looks::{Reacher, ReachersJson, ReachersText, WayJson, WayText, reachers_of};
-use fab_looks::{told, way_rows, who_told};
+use fab_files::{End, Form, print};
+use fab_files_looks::{
+    FoundText, Reacher, ReachersJson, ReachersText, RowsJson, WayJson, WayText, reachers_of,
+};
+use fab_looks::{port_way, told, way_rows, who_told};
 use fab_looks_base::Why;
-use fab_names::Name;
+use fab_names::{Name, Wwn};
 use fab_policy::{CallerId, Policy};
-use fab_program_outside::Fault;
+use fab_program_outside::{Fault, of_printing, print_as};
 use fab_wire_answers::answers::Answer;
 use fab_world::World;
 use std::alloc::Global;
 use std::io::Write;
-
-/// The fault of a text that is not printed.
-pub fn of_printing(fault: PrintFault) -> Fault
-    ensures { result ≡ fault_of_printing fault }
-{
-    match fault {
-        PrintFault::Memory => Fault::Memory,
-        PrintFault::Stream => Fault::Stream,
-    }
-}
 
 /// Prints that nobody has the token.
 pub fn turn_away<W: Write + Drop>(alloc: Global, writer: W) -> Result<(W, End), Fault>
@@ -34,21 +27,6 @@ pub fn turn_away<W: Write + Drop>(alloc: Global, writer: W) -> Result<(W, End), 
     let answer = Answer::Replied(Reply::Refused(DeskFault::NoCaller));
     match print(alloc, writer, Form::Json, &answer) {
         Ok(printed) => Ok(printed),
-        Err(fault) => Err(of_printing(fault)),
-    }
-}
-
-/// Prints a text, with which a look ends so.
-pub fn print_as<W: Write + Drop, T: Printable>(
-    alloc: Global,
-    writer: W,
-    text: &T,
-    end: End,
-) -> Result<(W, End), Fault>
-    ensures { Prints W.contents writer (T.text text.now) end result }
-{
-    match print_text(alloc, writer, text) {
-        Ok(writer) => Ok((writer, end)),
         Err(fault) => Err(of_printing(fault)),
     }
 }
@@ -153,4 +131,54 @@ pub fn who_at<W: Write + Drop>(
         return Err(Fault::Memory);
     };
     print_reachers(alloc, writer, &reachers, is_json)
+}
+
+/// How a look at a port ends that shows this: it is done where there is something to show.
+fn end_of_port(found: &[Shown<Global>]) -> End
+    ensures { result ≡ end_of_port found.now }
+{
+    if found.is_empty() {
+        End::Refused
+    } else {
+        End::Done
+    }
+}
+
+/// Prints what is around a port.
+fn print_port<W: Write + Drop>(
+    alloc: Global,
+    writer: W,
+    found: &[Shown<Global>],
+    is_json: bool,
+) -> Result<(W, End), Fault>
+    ensures { Prints W.contents writer (port_output is_json found.now) (end_of_port found.now) result }
+{
+    let end = end_of_port(found);
+    if is_json {
+        print_as(alloc, writer, &RowsJson(found), end)
+    } else {
+        print_as(alloc, writer, &FoundText(found), end)
+    }
+}
+
+/// Tells a caller what is around a port.
+///
+/// # Errors
+/// `Memory`; `Stream` where the writer failed.
+pub fn port_at<W: Write + Drop>(
+    alloc: Global,
+    world: &World<Global>,
+    policy: &Policy,
+    id: CallerId,
+    port: Wwn,
+    is_json: bool,
+    writer: W,
+) -> Result<(W, End), Fault>
+    requires sound { IsSound world.now }
+    ensures { TellsPort W.contents world.now policy.now id port is_json writer result }
+{
+    let Ok(found) = port_way(alloc, policy, world, id, &port) else {
+        return Err(Fault::Memory);
+    };
+    print_port(alloc, writer, &found, is_json)
 }

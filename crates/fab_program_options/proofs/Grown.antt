@@ -58,10 +58,10 @@ subcommand_more now sub new s rest whole all so cut adds local is =
     ∙ so
 
 -- a subcommand with its options
-pub subcommand_made : (name : List ℕ) (base one two : Command) (required optional : List Rule) → app_of base ≡ new_app name → Gains base required one → Gains one optional two
-    → app_of two ≡ record { top = record (new_app name).top { rules = required ++ optional }; subs = [] }
-subcommand_made name base one two required optional is first second =
-    second.app ∙ ap (λ (a : App). with_rules a optional) (first.app ∙ ap (λ (a : App). with_rules a required) is)
+pub subcommand_made : (name : List ℕ) (base one two three : Command) (access required optional : List Rule) → app_of base ≡ new_app name → Gains base access one → Gains one required two → Gains two optional three
+    → app_of three ≡ record { top = record (new_app name).top { rules = (access ++ required) ++ optional }; subs = [] }
+subcommand_made name base one two three access required optional is first second third =
+    third.app ∙ ap (λ (a : App). with_rules a optional) (second.app ∙ ap (λ (a : App). with_rules a required) (first.app ∙ ap (λ (a : App). with_rules a access) is))
 
 abbrev shapes : List Subcommand → List Shape
 shapes subcommands = map (λ s. (subcommand_app s).top) subcommands

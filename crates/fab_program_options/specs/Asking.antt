@@ -3,8 +3,9 @@ use Rattle.std.specs.Prelude.{◌≡◌, List, [], Option, Some, None}
 use Rattle.clap.specs.Words.{Row, Text, fault_of, subcommand_of}
 use Rattle.fab_names.specs.Names.{SpellsName}
 use Rattle.fab_names.specs.Fabrics.{SpellsFabric}
+use Rattle.fab_names.specs.WorldWideNames.{SpellsWwn}
 use Rattle.fab_program_options.specs.CommandLine.{desk_app, subcommand_name, value_of}
-use Rattle.fab_program_options.specs.Values.{Has, MayHave, SpellsText, SpellsToken, SpellsNumber64, SpellsKind, is_given}
+use Rattle.fab_program_options.specs.Values.{Has, MayHave, SpellsText, SpellsToken, SpellsNumber64, SpellsKind, SpellsState, is_given}
 use Rattle.fab_program_options.specs.declared.options.OptionKind.TheVariants as option
 use Rattle.fab_program_options.specs.declared.subcommands.Subcommand.{Subcommand}
 use Rattle.fab_program_options.specs.declared.subcommands.Subcommand.TheVariants as subcommand
@@ -22,7 +23,11 @@ use Rattle.fab_program_options.specs.declared.words.Export.{Export}
 use Rattle.fab_program_options.specs.declared.words.DryRun.{DryRun}
 use Rattle.fab_program_options.specs.declared.words.Why.{Why}
 use Rattle.fab_program_options.specs.declared.words.Who.{Who}
+use Rattle.fab_program_options.specs.declared.words.WhoOf.{WhoOf}
+use Rattle.fab_program_options.specs.declared.words.WhoOf.TheVariants as of
 use Rattle.fab_program_options.specs.declared.words.Names.{Names}
+use Rattle.fab_program_options.specs.declared.words.Check.{Check}
+use Rattle.fab_program_options.specs.declared.words.Check.TheVariants as check
 use Rattle.fab_program_options.specs.declared.words.Words.{Words}
 use Rattle.fab_program_options.specs.declared.words.Words.TheVariants as words
 
@@ -77,15 +82,27 @@ pub record IsWhy (rows : List Row) (w : Why) : Type 0 where
   pub volume : Has SpellsName (value_of option.Volume rows) w.volume
   pub json : w.is_json ≡ is_given (value_of option.Json rows)
 
+-- a volume or a port, and not both
+abbrev pub IsWhoOf : List Row → WhoOf → Type 0
+IsWhoOf rows (of.Volume volume) = Has SpellsName (value_of option.Volume rows) volume × (value_of option.Port rows ≡ None)
+IsWhoOf rows (of.Port port) = (value_of option.Volume rows ≡ None) × Has SpellsWwn (value_of option.Port rows) port
+
 pub record IsWho (rows : List Row) (w : Who) : Type 0 where
   pub access : IsAccess rows w.access
-  pub volume : Has SpellsName (value_of option.Volume rows) w.volume
+  pub of : IsWhoOf rows w.of
   pub json : w.is_json ≡ is_given (value_of option.Json rows)
 
 pub record IsNames (rows : List Row) (w : Names) : Type 0 where
   pub access : IsAccess rows w.access
   pub kind : Has SpellsKind (value_of option.Kind rows) w.kind
+  pub state : MayHave SpellsState (value_of option.State rows) w.state
   pub json : w.is_json ≡ is_given (value_of option.Json rows)
+
+-- the file of one of the three kinds, and of no other
+abbrev pub IsCheck : List Row → Check → Type 0
+IsCheck rows (check.Policy path) = Has SpellsText (value_of option.Policy rows) path.now × (value_of option.PlanFile rows ≡ None) × (value_of option.Ports rows ≡ None)
+IsCheck rows (check.Plan path) = (value_of option.Policy rows ≡ None) × Has SpellsText (value_of option.PlanFile rows) path.now × (value_of option.Ports rows ≡ None)
+IsCheck rows (check.Ports path) = (value_of option.Policy rows ≡ None) × (value_of option.PlanFile rows ≡ None) × Has SpellsText (value_of option.Ports rows) path.now
 
 -- ---- what the words ask for
 
@@ -101,6 +118,7 @@ subcommand_in (words.DryRun w) = subcommand.DryRun
 subcommand_in (words.Why w) = subcommand.Why
 subcommand_in (words.Who w) = subcommand.Who
 subcommand_in (words.Names w) = subcommand.Names
+subcommand_in (words.Check w) = subcommand.Check
 
 abbrev pub HasValues : List Row → Words → Type 0
 HasValues rows (words.Init w) = IsInit rows w
@@ -114,6 +132,7 @@ HasValues rows (words.DryRun w) = IsDryRun rows w
 HasValues rows (words.Why w) = IsWhy rows w
 HasValues rows (words.Who w) = IsWho rows w
 HasValues rows (words.Names w) = IsNames rows w
+HasValues rows (words.Check w) = IsCheck rows w
 
 -- the subcommand that clap found, and its options, ask for w
 abbrev pub IsAsked : Option (Text × List Row) → Words → Type 0

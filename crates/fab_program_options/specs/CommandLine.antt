@@ -3,11 +3,11 @@ use Rattle.std.specs.Prelude.{Bool, true, false, List, [], ◌∷◌, ◌++◌, 
 use Rattle.clap.specs.Words.{App, Row, Rule, Shape, Text, first_of, new_app, new_rule, with_subcommand}
 use Rattle.clap.specs.declared.builder.action.ArgAction.TheVariants.{Set, SetTrue}
 use Rattle.fab_program_options.specs.declared.options.OptionKind.{OptionKind}
-use Rattle.fab_program_options.specs.declared.options.OptionKind.TheVariants.{Db, Policy, Listen, Count, Now, Token, Fabric, File, Host, Plan, Volume, Kind, Json}
+use Rattle.fab_program_options.specs.declared.options.OptionKind.TheVariants.{Db, Policy, Listen, Count, Now, Token, Fabric, File, Host, Plan, Volume, Kind, Json, PlanFile, Ports, State, Port}
 use Rattle.fab_program_options.specs.declared.options.OptionShape.{OptionShape}
 use Rattle.fab_program_options.specs.declared.options.OptionShape.TheVariants as shape
 use Rattle.fab_program_options.specs.declared.subcommands.Subcommand.{Subcommand}
-use Rattle.fab_program_options.specs.declared.subcommands.Subcommand.TheVariants.{Init, Serve, Once, Import, Paths, Report, Export, DryRun, Why, Who, Names}
+use Rattle.fab_program_options.specs.declared.subcommands.Subcommand.TheVariants.{Init, Serve, Once, Import, Paths, Report, Export, DryRun, Why, Who, Names, Check}
 
 -- ---- the words
 
@@ -25,6 +25,10 @@ option_name Plan = codes "plan"
 option_name Volume = codes "volume"
 option_name Kind = codes "kind"
 option_name Json = codes "json"
+option_name PlanFile = codes "plan"
+option_name Ports = codes "ports"
+option_name State = codes "state"
+option_name Port = codes "port"
 
 -- a kind of list stands without a word before it, and JSON is asked for by a word alone
 abbrev pub shape_of : OptionKind → OptionShape
@@ -44,24 +48,34 @@ subcommand_name DryRun = codes "dryrun"
 subcommand_name Why = codes "why"
 subcommand_name Who = codes "who"
 subcommand_name Names = codes "list"
+subcommand_name Check = codes "check"
 
 -- every subcommand
 abbrev pub all_subcommands : List Subcommand
-all_subcommands = Init ∷ Serve ∷ Once ∷ Import ∷ Paths ∷ Report ∷ Export ∷ DryRun ∷ Why ∷ Who ∷ Names ∷ []
+all_subcommands = Init ∷ Serve ∷ Once ∷ Import ∷ Paths ∷ Report ∷ Export ∷ DryRun ∷ Why ∷ Who ∷ Names ∷ Check ∷ []
 
--- the options that a subcommand must have
+-- the options by which a subcommand asks as a caller at a database
+abbrev pub access_of : Subcommand → List OptionKind
+access_of Init = []
+access_of Serve = []
+access_of Once = []
+access_of Check = []
+access_of other = Db ∷ Policy ∷ Token ∷ []
+
+-- the options that it must have beside those
 abbrev pub required_of : Subcommand → List OptionKind
 required_of Init = Db ∷ []
 required_of Serve = Db ∷ Policy ∷ Listen ∷ []
 required_of Once = []
-required_of Import = Db ∷ Policy ∷ Token ∷ Fabric ∷ File ∷ []
-required_of Paths = Db ∷ Policy ∷ Token ∷ Host ∷ []
-required_of Report = Db ∷ Policy ∷ Token ∷ Host ∷ []
-required_of Export = Db ∷ Policy ∷ Token ∷ Fabric ∷ []
-required_of DryRun = Db ∷ Policy ∷ Token ∷ Plan ∷ []
-required_of Why = Db ∷ Policy ∷ Token ∷ Host ∷ Volume ∷ []
-required_of Who = Db ∷ Policy ∷ Token ∷ Volume ∷ []
-required_of Names = Db ∷ Policy ∷ Token ∷ Kind ∷ []
+required_of Import = Fabric ∷ File ∷ []
+required_of Paths = Host ∷ []
+required_of Report = Host ∷ []
+required_of Export = Fabric ∷ []
+required_of DryRun = Plan ∷ []
+required_of Why = Host ∷ Volume ∷ []
+required_of Who = []
+required_of Names = Kind ∷ []
+required_of Check = []
 
 -- the options that it may have
 abbrev pub optional_of : Subcommand → List OptionKind
@@ -74,8 +88,9 @@ optional_of Report = []
 optional_of Export = []
 optional_of DryRun = Now ∷ []
 optional_of Why = Json ∷ []
-optional_of Who = Json ∷ []
-optional_of Names = Json ∷ []
+optional_of Who = Volume ∷ Port ∷ Json ∷ []
+optional_of Names = State ∷ Json ∷ []
+optional_of Check = Policy ∷ PlanFile ∷ Ports ∷ []
 
 -- ---- the same, as clap reads it
 
@@ -92,7 +107,7 @@ abbrev pub option_rules : Bool → List OptionKind → List Rule
 option_rules is_required options = map (option_rule is_required) options
 
 abbrev pub subcommand_shape : Subcommand → Shape
-subcommand_shape s = record (new_app (subcommand_name s)).top { rules = option_rules true (required_of s) ++ option_rules false (optional_of s) }
+subcommand_shape s = record (new_app (subcommand_name s)).top { rules = (option_rules true (access_of s) ++ option_rules true (required_of s)) ++ option_rules false (optional_of s) }
 
 unfoldable pub subcommand_app : Subcommand → App
 subcommand_app s = record { top = subcommand_shape s; subs = [] }

@@ -5,6 +5,8 @@ use Rattle.fab_names.specs.Numbers.{SpellsNumber}
 use Rattle.fab_names.specs.Tokens.{IsTokenText}
 use Rattle.fab_program_options.specs.declared.words.ListKind.{ListKind}
 use Rattle.fab_program_options.specs.declared.words.ListKind.TheVariants as kind
+use Rattle.fab_program_options.specs.declared.words.ListState.{ListState}
+use Rattle.fab_program_options.specs.declared.words.ListState.TheVariants as state
 
 -- a value was given, and its text spells x
 abbrev pub Has : {X : Type 0} → (List ℕ → X → Type 0) → Option (List ℕ) → X → Type 0
@@ -38,6 +40,17 @@ kind_text kind.Sets = codes "sets"
 kind_text kind.HostGroups = codes "host-groups"
 kind_text kind.Groups = codes "groups"
 kind_text kind.Plans = codes "plans"
+
+-- the word of a state of plans
+abbrev pub list_state_text : ListState → List ℕ
+list_state_text state.Staged = codes "staged"
+list_state_text state.Active = codes "active"
+list_state_text state.RolledBack = codes "rolled-back"
+list_state_text state.Withdrawn = codes "withdrawn"
+
+-- the word of a state of plans, for it
+abbrev pub SpellsState : List ℕ → ListState → Type 0
+SpellsState text s = text ≡ list_state_text s
 
 -- the word of a kind of list, for it
 abbrev pub SpellsKind : List ℕ → ListKind → Type 0

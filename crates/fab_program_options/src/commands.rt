@@ -84,6 +84,7 @@ fn command_of<'a>(alloc: Global, subcommand: Subcommand) -> Result<Command<'a>, 
     let command = Command::new(alloc, subcommand.name())
         .about(subcommand.about())
         .after_help(subcommand.example());
+    let command = with_options(alloc, command, subcommand.access(), true)?;
     let command = with_options(alloc, command, subcommand.required(), true)?;
     with_options(alloc, command, subcommand.optional(), false)
 }

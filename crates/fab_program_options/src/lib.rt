@@ -20,6 +20,6 @@ pub use options::{OptionKind, OptionShape};
 pub use reading::{WordsFault, read_words};
 pub use subcommands::{SUBCOMMANDS, Subcommand};
 pub use words::{
-    Access, DryRun, Export, Import, Init, ListKind, Names, Once, Over, Paths, Serve, Who, Why,
-    Words,
+    Access, Check, DryRun, Export, Import, Init, ListKind, ListState, Names, Once, Over, Paths,
+    Serve, Who, WhoOf, Why, Words,
 };

@@ -42,6 +42,14 @@ pub enum OptionKind {
     Kind,
     /// JSON is asked for.
     Json,
+    /// The file of a plan's text.
+    PlanFile,
+    /// The file of a port list that is checked.
+    Ports,
+    /// The state of the plans that are listed.
+    State,
+    /// A port.
+    Port,
 }
 
 impl OptionKind {
@@ -63,6 +71,10 @@ impl OptionKind {
             OptionKind::Volume => "volume",
             OptionKind::Kind => "kind",
             OptionKind::Json => "json",
+            OptionKind::PlanFile => "plan",
+            OptionKind::Ports => "ports",
+            OptionKind::State => "state",
+            OptionKind::Port => "port",
         }
     }
 
@@ -80,13 +92,19 @@ impl OptionKind {
     /// What help calls the value.
     pub fn value_name<'a>(self) -> &'a str {
         match self {
-            OptionKind::Db | OptionKind::Policy | OptionKind::File => "PATH",
+            OptionKind::Db
+            | OptionKind::Policy
+            | OptionKind::File
+            | OptionKind::PlanFile
+            | OptionKind::Ports => "PATH",
             OptionKind::Listen => "ADDR:PORT",
             OptionKind::Count => "N",
             OptionKind::Now => "SECONDS",
             OptionKind::Token => "TOKEN",
             OptionKind::Fabric => "A|B",
             OptionKind::Host | OptionKind::Plan | OptionKind::Volume => "NAME",
+            OptionKind::State => "STATE",
+            OptionKind::Port => "WWN",
             OptionKind::Kind | OptionKind::Json => "KIND",
         }
     }
@@ -113,6 +131,10 @@ impl OptionKind {
                 "hosts, arrays, volumes, ports, aliases, zones, sets, host-groups, groups or plans"
             }
             OptionKind::Json => "Writes JSON, for programs",
+            OptionKind::PlanFile => "The text of a plan: a line for each step",
+            OptionKind::Ports => "A port list: CSV lines port_name,node_name,domain,port",
+            OptionKind::Port => "The N_Port_Name of the port",
+            OptionKind::State => "Only plans that are staged, active, rolled-back or withdrawn",
         }
     }
 }

@@ -1,7 +1,7 @@
 //! Reads the words of a command line.
 ghost use Rattle.std.specs.Prelude.{MatchOption, IfOk, IfErr, map, option_map, string_bytes};
 ghost use Rattle.clap.specs.Words.{found_of, rows_of, subcommand_rows_of};
-ghost use Rattle.fab_program_options.specs.Asking.{Asks, IsReason, IsAccess, IsInit, IsServe, IsOver, IsOnce, IsImport, IsPaths, IsExport, IsDryRun, IsWhy, IsWho, IsNames};
+ghost use Rattle.fab_program_options.specs.Asking.{Asks, IsReason, IsAccess, IsInit, IsServe, IsOver, IsOnce, IsImport, IsPaths, IsExport, IsDryRun, IsWhy, IsWho, IsWhoOf, IsNames, IsCheck};
 ghost use Rattle.fab_program_options.specs.Reading.{IsFaultOf, IsFound, IsRead, IsInMemory};
 ghost use Rattle.fab_program_options.specs.declared.subcommands.Subcommand.{Subcommand};
 ghost use Rattle.fab_program_options.specs.declared.words.Access.{Access};
@@ -15,14 +15,19 @@ ghost use Rattle.fab_program_options.specs.declared.words.Export.{Export};
 ghost use Rattle.fab_program_options.specs.declared.words.DryRun.{DryRun};
 ghost use Rattle.fab_program_options.specs.declared.words.Why.{Why};
 ghost use Rattle.fab_program_options.specs.declared.words.Who.{Who};
+ghost use Rattle.fab_program_options.specs.declared.words.WhoOf.{WhoOf};
 ghost use Rattle.fab_program_options.specs.declared.words.Names.{Names};
+ghost use Rattle.fab_program_options.specs.declared.words.Check.{Check};
 
 use crate::commands::command_line;
 use crate::options::OptionKind;
 use crate::subcommands::Subcommand;
-use crate::values::{fabric_in, is_given, kind_in, name_in, number_in, text_in, token_in};
+use crate::values::{
+    fabric_in, is_given, kind_in, name_in, number_in, state_in, text_in, token_in, wwn_in,
+};
 use crate::words::{
-    Access, DryRun, Export, Import, Init, Names, Once, Over, Paths, Serve, Who, Why, Words,
+    Access, Check, DryRun, Export, Import, Init, Names, Once, Over, Paths, Serve, Who, WhoOf, Why,
+    Words,
 };
 use clap::error::ErrorKind;
 use clap::{ArgMatches, Error};
@@ -114,17 +119,32 @@ fn words_of<'a>(subcommand: Subcommand, given: &ArgMatches<'a>) -> Option<Words<
             Some(asked) => Some(Words::Report(asked)),
             None => None,
         },
-        Subcommand::Export => match export_in(given) {
-            Some(asked) => Some(Words::Export(asked)),
-            None => None,
-        },
-        Subcommand::DryRun => match dry_run_in(given) {
-            Some(asked) => Some(Words::DryRun(asked)),
-            None => None,
-        },
+        Subcommand::Export => export_words(given),
+        Subcommand::DryRun => dry_run_words(given),
         Subcommand::Why => why_words(given),
         Subcommand::Who => who_words(given),
         Subcommand::Names => names_words(given),
+        Subcommand::Check => check_words(given),
+    }
+}
+
+/// What the matches of `export` ask for.
+fn export_words<'a>(given: &ArgMatches<'a>) -> Option<Words<'a>>
+    ensures { IsRead Subcommand.Export (rows_of (found_of given.now)) result }
+{
+    match export_in(given) {
+        Some(asked) => Some(Words::Export(asked)),
+        None => None,
+    }
+}
+
+/// What the matches of `dryrun` ask for.
+fn dry_run_words<'a>(given: &ArgMatches<'a>) -> Option<Words<'a>>
+    ensures { IsRead Subcommand.DryRun (rows_of (found_of given.now)) result }
+{
+    match dry_run_in(given) {
+        Some(asked) => Some(Words::DryRun(asked)),
+        None => None,
     }
 }
 
@@ -154,6 +174,16 @@ fn names_words<'a>(given: &ArgMatches<'a>) -> Option<Words<'a>>
 {
     match names_in(given) {
         Some(asked) => Some(Words::Names(asked)),
+        None => None,
+    }
+}
+
+/// What the matches of `check` ask for.
+fn check_words<'a>(given: &ArgMatches<'a>) -> Option<Words<'a>>
+    ensures { IsRead Subcommand.Check (rows_of (found_of given.now)) result }
+{
+    match check_in(given) {
+        Some(asked) => Some(Words::Check(asked)),
         None => None,
     }
 }
@@ -334,6 +364,26 @@ fn why_in<'a>(given: &ArgMatches<'a>) -> Option<Why<'a>>
     })
 }
 
+/// The volume or the port, or none where it is not one of them.
+fn who_of_in(given: &ArgMatches<'_>) -> Option<WhoOf>
+    ensures { MatchOption result ((w : WhoOf) → ¬ IsWhoOf (rows_of (found_of given.now)) w)
+        (IsWhoOf (rows_of (found_of given.now))) }
+{
+    let volume = text_in(given, OptionKind::Volume);
+    let port = text_in(given, OptionKind::Port);
+    match (volume, port) {
+        (Some(_), None) => match name_in(given, OptionKind::Volume) {
+            Some(volume) => Some(WhoOf::Volume { volume }),
+            None => None,
+        },
+        (None, Some(_)) => match wwn_in(given, OptionKind::Port) {
+            Some(port) => Some(WhoOf::Port { port }),
+            None => None,
+        },
+        _ => None,
+    }
+}
+
 fn who_in<'a>(given: &ArgMatches<'a>) -> Option<Who<'a>>
     ensures { MatchOption result ((w : Who) → ¬ IsWho (rows_of (found_of given.now)) w)
         (IsWho (rows_of (found_of given.now))) }
@@ -341,12 +391,12 @@ fn who_in<'a>(given: &ArgMatches<'a>) -> Option<Who<'a>>
     let Some(access) = access_in(given) else {
         return None;
     };
-    let Some(volume) = name_in(given, OptionKind::Volume) else {
+    let Some(of) = who_of_in(given) else {
         return None;
     };
     Some(Who {
         access,
-        volume,
+        of,
         is_json: is_given(given, OptionKind::Json),
     })
 }
@@ -361,9 +411,29 @@ fn names_in<'a>(given: &ArgMatches<'a>) -> Option<Names<'a>>
     let Some(kind) = kind_in(given, OptionKind::Kind) else {
         return None;
     };
+    let Some(state) = state_in(given, OptionKind::State) else {
+        return None;
+    };
     Some(Names {
         access,
         kind,
+        state,
         is_json: is_given(given, OptionKind::Json),
     })
+}
+
+/// The one file that is to be checked, or none where it is not one.
+fn check_in<'a>(given: &ArgMatches<'a>) -> Option<Check<'a>>
+    ensures { MatchOption result ((w : Check) → ¬ IsCheck (rows_of (found_of given.now)) w)
+        (IsCheck (rows_of (found_of given.now))) }
+{
+    let policy = text_in(given, OptionKind::Policy);
+    let plan = text_in(given, OptionKind::PlanFile);
+    let ports = text_in(given, OptionKind::Ports);
+    match (policy, plan, ports) {
+        (Some(path), None, None) => Some(Check::Policy { path }),
+        (None, Some(path), None) => Some(Check::Plan { path }),
+        (None, None, Some(path)) => Some(Check::Ports { path }),
+        _ => None,
+    }
 }

@@ -1,7 +1,7 @@
 //! The subcommands of the program.
 ghost use Rattle.std.specs.Prelude.{◌≡◌, ◌≢◌, MatchOption};
 ghost use Rattle.fab_program_options.specs.declared.subcommands.Subcommand.{Subcommand};
-ghost use Rattle.fab_program_options.specs.CommandLine.{subcommand_name, required_of, optional_of};
+ghost use Rattle.fab_program_options.specs.CommandLine.{subcommand_name, access_of, required_of, optional_of};
 
 use crate::options::OptionKind;
 
@@ -26,14 +26,16 @@ pub enum Subcommand {
     DryRun,
     /// Tells why a host reaches a volume or does not.
     Why,
-    /// Tells who reaches a volume.
+    /// Tells who reaches a volume, or what is around a port.
     Who,
     /// Lists what there is of a kind.
     Names,
+    /// Tells what is wrong with a file.
+    Check,
 }
 
 /// Every subcommand, in the order of the help.
-pub const SUBCOMMANDS: [Subcommand; 11] = [
+pub const SUBCOMMANDS: [Subcommand; 12] = [
     Subcommand::Init,
     Subcommand::Serve,
     Subcommand::Once,
@@ -45,6 +47,7 @@ pub const SUBCOMMANDS: [Subcommand; 11] = [
     Subcommand::Why,
     Subcommand::Who,
     Subcommand::Names,
+    Subcommand::Check,
 ];
 
 impl Subcommand {
@@ -65,6 +68,7 @@ impl Subcommand {
             "why" => Some(Subcommand::Why),
             "who" => Some(Subcommand::Who),
             "list" => Some(Subcommand::Names),
+            "check" => Some(Subcommand::Check),
             _ => None,
         }
     }
@@ -85,61 +89,34 @@ impl Subcommand {
             Subcommand::Why => "why",
             Subcommand::Who => "who",
             Subcommand::Names => "list",
+            Subcommand::Check => "check",
         }
     }
 
-    /// The options that it must have.
+    /// The options by which it asks as a caller at a database.
+    pub fn access(self) -> &'static [OptionKind]
+        ensures { result.now ≡ access_of self }
+    {
+        match self {
+            Subcommand::Init | Subcommand::Serve | Subcommand::Once | Subcommand::Check => &[],
+            _ => &[OptionKind::Db, OptionKind::Policy, OptionKind::Token],
+        }
+    }
+
+    /// The options that it must have beside those.
     pub fn required(self) -> &'static [OptionKind]
         ensures { result.now ≡ required_of self }
     {
         match self {
             Subcommand::Init => &[OptionKind::Db],
             Subcommand::Serve => &[OptionKind::Db, OptionKind::Policy, OptionKind::Listen],
-            Subcommand::Once => &[],
-            Subcommand::Import => &[
-                OptionKind::Db,
-                OptionKind::Policy,
-                OptionKind::Token,
-                OptionKind::Fabric,
-                OptionKind::File,
-            ],
-            Subcommand::Paths | Subcommand::Report => &[
-                OptionKind::Db,
-                OptionKind::Policy,
-                OptionKind::Token,
-                OptionKind::Host,
-            ],
-            Subcommand::Export => &[
-                OptionKind::Db,
-                OptionKind::Policy,
-                OptionKind::Token,
-                OptionKind::Fabric,
-            ],
-            Subcommand::DryRun => &[
-                OptionKind::Db,
-                OptionKind::Policy,
-                OptionKind::Token,
-                OptionKind::Plan,
-            ],
-            Subcommand::Why => &[
-                OptionKind::Db,
-                OptionKind::Policy,
-                OptionKind::Token,
-                OptionKind::Host,
-                OptionKind::Volume,
-            ],
-            Subcommand::Who => &[
-                OptionKind::Db,
-                OptionKind::Policy,
-                OptionKind::Token,
-                OptionKind::Volume,
-            ],
-            Subcommand::Names => &[
-                OptionKind::Db,
-                OptionKind::Policy,
-                OptionKind::Token,
-                OptionKind::Kind,
-            ],
+            Subcommand::Once | Subcommand::Check | Subcommand::Who => &[],
+            Subcommand::Import => &[OptionKind::Fabric, OptionKind::File],
+            Subcommand::Paths | Subcommand::Report => &[OptionKind::Host],
+            Subcommand::Export => &[OptionKind::Fabric],
+            Subcommand::DryRun => &[OptionKind::Plan],
+            Subcommand::Why => &[OptionKind::Host, OptionKind::Volume],
+            Subcommand::Names => &[OptionKind::Kind],
         }
     }
 
@@ -152,7 +129,10 @@ impl Subcommand {
             Subcommand::Serve => &[OptionKind::Count],
             Subcommand::Once => &[OptionKind::Policy, OptionKind::Db, OptionKind::Now],
             Subcommand::Import | Subcommand::DryRun => &[OptionKind::Now],
-            Subcommand::Why | Subcommand::Who | Subcommand::Names => &[OptionKind::Json],
+            Subcommand::Why => &[OptionKind::Json],
+            Subcommand::Who => &[OptionKind::Volume, OptionKind::Port, OptionKind::Json],
+            Subcommand::Names => &[OptionKind::State, OptionKind::Json],
+            Subcommand::Check => &[OptionKind::Policy, OptionKind::PlanFile, OptionKind::Ports],
         }
     }
 
@@ -175,8 +155,14 @@ impl Subcommand {
             Subcommand::Why => {
                 "Tells by which paths a host reaches a volume, or which link between them is missing"
             }
-            Subcommand::Who => "Lists the hosts that reach a volume, and by how many paths",
+            Subcommand::Who => {
+                "Lists the hosts that reach a volume, and by how many paths; or shows what is around a port"
+            }
             Subcommand::Names => "Lists what there is of a kind, as far as the caller may see it",
+            Subcommand::Check => {
+                "Tells what is wrong with a policy, a plan or a port list, and what is worth a look in \
+                 a policy"
+            }
         }
     }
 
@@ -214,6 +200,7 @@ impl Subcommand {
             Subcommand::Names => {
                 "Example: sandesk list --db desk.db --policy policy.toml --token t-ada hosts"
             }
+            Subcommand::Check => "Example: sandesk check --policy policy.toml",
         }
     }
 }

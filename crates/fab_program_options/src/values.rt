@@ -2,16 +2,18 @@
 ghost use Rattle.std.specs.Prelude.{◌≡◌, ℕ, List, Option, option_map, MatchOption};
 ghost use Rattle.clap.specs.Words.{found_of, rows_of};
 ghost use Rattle.fab_names.specs.Names.{SpellsName};
+ghost use Rattle.fab_names.specs.WorldWideNames.{SpellsWwn};
 ghost use Rattle.fab_names.specs.Fabrics.{SpellsFabric};
 ghost use Rattle.fab_names.specs.declared.fabric.Fabric.{Fabric};
 ghost use Rattle.fab_program_options.specs.CommandLine.{value_of};
-ghost use Rattle.fab_program_options.specs.Values.{Has, MayHave, SpellsKind, SpellsToken, SpellsNumber64, is_given};
+ghost use Rattle.fab_program_options.specs.Values.{Has, MayHave, SpellsKind, SpellsState, SpellsToken, SpellsNumber64, is_given};
 ghost use Rattle.fab_program_options.specs.declared.words.ListKind.{ListKind};
+ghost use Rattle.fab_program_options.specs.declared.words.ListState.{ListState};
 
 use crate::options::OptionKind;
-use crate::words::ListKind;
+use crate::words::{ListKind, ListState};
 use clap::ArgMatches;
-use fab_names::{Fabric, Name, is_token, read_number};
+use fab_names::{Fabric, Name, Wwn, is_token, read_number};
 
 /// The value of an option, if it was given.
 pub fn text_in<'a>(given: &ArgMatches<'a>, option: OptionKind) -> Option<&'a str>
@@ -30,6 +32,28 @@ pub fn name_in(given: &ArgMatches<'_>, option: OptionKind) -> Option<Name>
         return None;
     };
     Name::read(text).ok()
+}
+
+/// The value of an option as a world-wide name, or none where it is none or was not given.
+pub fn wwn_in(given: &ArgMatches<'_>, option: OptionKind) -> Option<Wwn>
+    ensures { MatchOption result
+        ((x : ℕ) → ¬ Has SpellsWwn (value_of option (rows_of (found_of given.now))) x)
+        (Has SpellsWwn (value_of option (rows_of (found_of given.now)))) }
+{
+    let Some(text) = text_in(given, option) else {
+        return None;
+    };
+    wwn_of(text)
+}
+
+/// The world-wide name that a text spells, if it spells one.
+fn wwn_of(text: &str) -> Option<Wwn>
+    ensures { MatchOption result ((x : ℕ) → ¬ SpellsWwn text.now x) (SpellsWwn text.now) }
+{
+    match Wwn::read(text) {
+        Ok(name) => Some(name),
+        Err(_) => None,
+    }
 }
 
 /// The value of an option as a fabric, or none where it is no fabric or was not given.
@@ -113,6 +137,35 @@ fn kind_of(text: &str) -> Option<ListKind>
         "host-groups" => Some(ListKind::HostGroups),
         "groups" => Some(ListKind::Groups),
         "plans" => Some(ListKind::Plans),
+        _ => None,
+    }
+}
+
+/// The value of an option as a state of plans, `Some(None)` where it was not given, or none where it is
+/// no such state.
+pub fn state_in(given: &ArgMatches<'_>, option: OptionKind) -> Option<Option<ListState>>
+    ensures { MatchOption result
+        ((x : Option ListState) → ¬ MayHave SpellsState (value_of option (rows_of (found_of given.now))) x)
+        (MayHave SpellsState (value_of option (rows_of (found_of given.now)))) }
+{
+    let Some(text) = text_in(given, option) else {
+        return Some(None);
+    };
+    match state_of(text) {
+        Some(state) => Some(Some(state)),
+        None => None,
+    }
+}
+
+/// The state of plans that a text spells, if it spells one.
+fn state_of(text: &str) -> Option<ListState>
+    ensures { MatchOption result ((x : ListState) → ¬ SpellsState text.now x) (SpellsState text.now) }
+{
+    match text {
+        "staged" => Some(ListState::Staged),
+        "active" => Some(ListState::Active),
+        "rolled-back" => Some(ListState::RolledBack),
+        "withdrawn" => Some(ListState::Withdrawn),
         _ => None,
     }
 }

@@ -1,6 +1,6 @@
 //! What the words of a command line ask for.
 
-use fab_names::{Fabric, Name};
+use fab_names::{Fabric, Name, Wwn};
 
 /// What the words ask for.
 #[derive(Clone, Copy, Debug)]
@@ -23,10 +23,12 @@ pub enum Words<'a> {
     DryRun(DryRun<'a>),
     /// `why`: tells why a host reaches a volume or does not.
     Why(Why<'a>),
-    /// `who`: tells who reaches a volume.
+    /// `who`: tells who reaches a volume, or what is around a port.
     Who(Who<'a>),
     /// `list`: lists what there is of a kind.
     Names(Names<'a>),
+    /// `check`: tells what is wrong with a file.
+    Check(Check<'a>),
 }
 
 /// A caller at a database.
@@ -124,11 +126,20 @@ pub struct Why<'a> {
     pub is_json: bool,
 }
 
-/// A volume, of which it is asked who reaches it.
+/// Of what it is asked who is there.
+#[derive(Clone, Copy, Debug)]
+pub enum WhoOf {
+    /// Who reaches this volume.
+    Volume { volume: Name },
+    /// Who holds this port, and which zones and storage groups have it.
+    Port { port: Wwn },
+}
+
+/// A volume or a port, of which it is asked who is there.
 #[derive(Clone, Copy, Debug)]
 pub struct Who<'a> {
     pub access: Access<'a>,
-    pub volume: Name,
+    pub of: WhoOf,
     /// Whether JSON is asked for.
     pub is_json: bool,
 }
@@ -148,11 +159,33 @@ pub enum ListKind {
     Plans,
 }
 
+/// In which state plans are that are listed.
+#[derive(Clone, Copy, Debug)]
+pub enum ListState {
+    Staged,
+    Active,
+    RolledBack,
+    Withdrawn,
+}
+
 /// A kind of which a list is asked for.
 #[derive(Clone, Copy, Debug)]
 pub struct Names<'a> {
     pub access: Access<'a>,
     pub kind: ListKind,
+    /// Only plans in this state, if one is given.
+    pub state: Option<ListState>,
     /// Whether JSON is asked for.
     pub is_json: bool,
+}
+
+/// A file of which it is asked what is wrong with it.
+#[derive(Clone, Copy, Debug)]
+pub enum Check<'a> {
+    /// The file of a policy.
+    Policy { path: &'a str },
+    /// The file of a plan's text.
+    Plan { path: &'a str },
+    /// The file of a port list.
+    Ports { path: &'a str },
 }

@@ -11,4 +11,4 @@ unfolding subcommand_app
 returns-clause-app c =
     let s = c.args.subcommand in
     let base : app_of c.after_help-command.result ≡ new_app (subcommand_name s) = ap app_of_fields c.after_help-command.ensures ∙ ap app_of_fields c.about-2.ensures ∙ c.new.ensures.app ∙ ap new_app c.name.ensures in
-    IfOk-weaker c.with_options-2.result _ _ (λ two second. subcommand_made (subcommand_name s) c.after_help-command.result c.in_ok-command.command two _ _ base (rw c.required.ensures at c.in_ok-command.ensures) (rw c.optional.ensures at second)) c.with_options-2.ensures
+    IfOk-weaker c.with_options-3.result _ _ (λ three third. subcommand_made (subcommand_name s) c.after_help-command.result c.in_ok-command.command c.in_ok-command-2.command three _ _ _ base (rw c.access.ensures at c.in_ok-command.ensures) (rw c.required.ensures at c.in_ok-command-2.ensures) (rw c.optional.ensures at third)) c.with_options-3.ensures

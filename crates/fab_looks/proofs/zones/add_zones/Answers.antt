@@ -1,0 +1,21 @@
+use Rattle.std.proofs.Common.{◌≡◌, true, Some, sym, ◌∙◌, ap, subst}
+use Rattle.fab_inventory.specs.Ports.{port_at}
+use Rattle.fab_reach_base.specs.Records.{zoning_at}
+use Rattle.fab_world.specs.Worlds.{WorldRows}
+use Rattle.fab_zoning.specs.Joins.{Holds}
+use Rattle.fab_zoning.specs.PortZones.{in_zones}
+use Rattle.fab_zoning.specs.Zonings.{FabricZoning}
+use Rattle.fab_looks.proofs.Ports.{zones_added}
+use Rattle.fab_looks.proofs.zones.add_zones.Goals as goal
+
+pub returns : goal.returns
+returns g c =
+    let f = c.in-Some-at.fabric in
+    let x = c.in-Some.port in
+    let zones = c.zones_of-zones.result in
+    let zoned : c.zoning.result.now ≡ zoning_at c.args.world.now.config f = c.zoning.ensures ∙ ap (λ (v : WorldRows). zoning_at v.config f) c.world.view_is in
+    zones_added c.args.policy.now c.args.world.now c.args.id c.args.name.now x f c.in-Some-at.field-0-1 zones c.in_ok-names.names c.args.queries.now.items c.add_those.new.queries.items
+    (sym (subst (λ (v : WorldRows). Some x ≡ port_at v.inventory.ports c.args.name.now) c.world.view_is c.in-Some.ensures.port))
+    c.in-Some-at.is
+    (λ z. subst (λ (v : FabricZoning). (in_zones zones z ≡ true → Holds v.rows x z) × (Holds v.rows x z → in_zones zones z ≡ true)) zoned (c.zones_of-zones.ensures z))
+    c.len-count.ensures.ordered c.in_ok-names.ensures c.in_ok-add_those.ensures

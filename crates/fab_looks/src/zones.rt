@@ -1,0 +1,59 @@
+//! The zones of a port.
+ghost use Rattle.std.specs.Prelude.{Contains, OnOk};
+ghost use Rattle.fab_looks.specs.Inner.Gathered.{IsZoneRead};
+ghost use Rattle.fab_looks.specs.PortWays.{ZoneQuery};
+ghost use Rattle.fab_reach_base.specs.Adding.{Adds};
+
+use crate::listing::{Kind, list};
+use fab_desk_base::Query;
+use fab_names::{Fabric, Name, Wwn};
+use fab_policy::{CallerId, Policy};
+use fab_world::World;
+use fab_zoning::PortZones;
+use std::alloc::{AllocError, Allocator};
+use std::collections::BTreeSet;
+
+/// Adds the reads of those of the zones that a port is in.
+fn add_those<A: Allocator + Copy>(
+    queries: &mut Vec<Query, A>,
+    zones: &PortZones<'_, A>,
+    fabric: Fabric,
+    names: &BTreeSet<Name, A>,
+) -> Result<(), AllocError>
+    ensures { OnOk result (Adds (IsZoneRead zones.now fabric names.now.keys) (Contains queries.old.items) (Contains queries.new.items)) }
+{
+    for name in names {
+        if zones.contains(name) {
+            queries.push(Query::Zone {
+                fabric,
+                name: *name,
+            })?;
+        }
+    }
+    Ok(())
+}
+
+/// Adds the reads of the active zones that have the port where it is logged in, if they are open to the
+/// caller: they are where a zone of this name is defined.
+pub fn add_zones<A: Allocator + Copy>(
+    alloc: A,
+    queries: &mut Vec<Query, A>,
+    policy: &Policy,
+    world: &World<A>,
+    id: CallerId,
+    name: &Wwn,
+) -> Result<(), AllocError>
+    ensures { OnOk result (Adds (ZoneQuery policy.now world.now id name.now) (Contains queries.old.items) (Contains queries.new.items)) }
+{
+    let Some(port) = world.inventory.port(name) else {
+        return Ok(());
+    };
+    let Some((fabric, _)) = port.at else {
+        return Ok(());
+    };
+    let names = list(alloc, policy, world, id, Kind::Zones(fabric))?;
+    let _count = names.len();
+    let zones = world.config.zoning(fabric).zones_of(&port);
+    add_those(queries, &zones, fabric, &names)?;
+    Ok(())
+}

@@ -1,0 +1,107 @@
+//! The lines of a file, played one after the other.
+
+use crate::asking::answer;
+use crate::making::Making;
+use fab_policy::Policy;
+use std::alloc::Global;
+
+/// Who asks: a caller who has every tenant, and one who has the tenant `blue` alone. The token of each
+/// is the word by which the lines name them.
+const POLICY: &str = r#"
+[[callers]]
+name = "all"
+token = "all"
+roles = []
+tenants = "*"
+
+[[callers]]
+name = "blue"
+token = "blue"
+roles = []
+tenants = ["blue"]
+"#;
+
+/// How many looks are as expected, and how many are not.
+#[derive(Clone, Copy)]
+pub struct Tally {
+    pub right: u64,
+    pub wrong: u64,
+}
+
+/// Whether the caller of a line is told what it says; what differs is printed.
+fn is_told(
+    rt: &HostRuntime,
+    policy: &Policy,
+    making: &Making,
+    number: usize,
+    word: &str,
+    text: &str,
+) -> Option<bool> {
+    let (asked, wanted) = text.split_once(" = ")?;
+    let told = answer(rt.alloc(), policy, &making.world, word, asked)?;
+    if told.as_str() == wanted {
+        return Some(true);
+    }
+    println!(rt; "line {number}: {word} {asked}: {told}").ok()?;
+    Some(false)
+}
+
+/// Plays a line, and says of a look whether it is as expected.
+fn play_line(
+    rt: &HostRuntime,
+    policy: &Policy,
+    making: &mut Making,
+    number: usize,
+    line: &str,
+) -> Option<Option<bool>> {
+    let (word, text) = line.split_once(' ').unwrap_or((line, ""));
+    match word {
+        "#" => Some(None),
+        "world" => {
+            *making = Making::new(rt.alloc());
+            Some(None)
+        }
+        "why" | "who" => Some(Some(is_told(rt, policy, making, number, word, text)?)),
+        _ => {
+            making.make(word, text)?;
+            Some(None)
+        }
+    }
+}
+
+/// One look more, if it is one.
+fn counted(tally: Tally, look: Option<bool>) -> Tally {
+    let Tally { right, wrong } = tally;
+    match look {
+        Some(true) => Tally {
+            right: right.saturating_add(1),
+            wrong,
+        },
+        Some(false) => Tally {
+            right,
+            wrong: wrong.saturating_add(1),
+        },
+        None => tally,
+    }
+}
+
+/// The policy of those who ask.
+fn policy(alloc: Global) -> Option<Policy> {
+    Policy::read(alloc, POLICY).ok()
+}
+
+/// Plays the lines of a text, and counts the looks.
+pub fn play(rt: &HostRuntime, text: &str) -> Option<Tally> {
+    let policy = policy(rt.alloc())?;
+    let mut making = Making::new(rt.alloc());
+    let mut tally = Tally { right: 0, wrong: 0 };
+    for (place, line) in text.lines().enumerate() {
+        let number = place.saturating_add(1);
+        let Some(look) = play_line(rt, &policy, &mut making, number, line) else {
+            let _ = eprintln!(rt; "line {number} is not of the form, or can not be done");
+            return None;
+        };
+        tally = counted(tally, look);
+    }
+    Some(tally)
+}

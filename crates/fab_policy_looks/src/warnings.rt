@@ -1,0 +1,144 @@
+//! What is no fault of a policy, and is worth a look.
+ghost use Rattle.std.specs.Prelude.{◌≡◌, OnOk, IfOk};
+ghost use Rattle.fab_policy_looks.specs.Flaws as flaws;
+ghost use Rattle.fab_policy_looks.specs.Warnings.{added, warnings_of, with_actions, with_each, with_rules};
+
+use crate::flaws::{approvals_flaw, fabric_flaw, plan_flaw, role_flaw, unruled, window_flaw};
+use fab_names::Name;
+use fab_policy_base::{Action, Policy, Rule};
+use std::alloc::{AllocError, Global};
+
+/// What is worth a look in a policy. But for the last, it is a reason for which no command meets a rule,
+/// with the number of the rule, counted from 1, and its name.
+#[derive(Clone, Copy)]
+pub enum Warning {
+    /// The rule is about a fabric, and no command of its actions names one, so that it is about none.
+    Fabric {
+        number: usize,
+        name: Name,
+    },
+    /// No caller has the role that the rule asks for.
+    Role {
+        number: usize,
+        name: Name,
+        role: Name,
+    },
+    /// The window that the rule asks for has no part of the week.
+    Window {
+        number: usize,
+        name: Name,
+        window: Name,
+    },
+    /// The rule asks for approvals, and no command of its actions is about a plan.
+    Plan {
+        number: usize,
+        name: Name,
+    },
+    /// The rule asks for approvals of so many callers, and there are `there` who may give one.
+    Approvals {
+        number: usize,
+        name: Name,
+        asked: usize,
+        there: usize,
+    },
+    /// No rule is about the action, so that nobody may do it.
+    Unruled(Action),
+}
+
+/// Every action.
+const ACTIONS: [Action; 8] = [
+    Action::Import,
+    Action::Inventory,
+    Action::Stage,
+    Action::Withdraw,
+    Action::Approve,
+    Action::DryRun,
+    Action::Activate,
+    Action::Rollback,
+];
+
+/// Adds a warning, if there is one.
+fn add(warnings: &mut Vec<Warning>, warning: Option<Warning>) -> Result<(), AllocError>
+    ensures { OnOk result (warnings.new.items ≡ added warnings.old.items warning) }
+{
+    if let Some(warning) = warning {
+        warnings.push(warning)?;
+    }
+    Ok(())
+}
+
+/// Adds those of the warnings that there are.
+fn add_each(warnings: &mut Vec<Warning>, more: &[Option<Warning>]) -> Result<(), AllocError>
+    ensures { OnOk result (warnings.new.items ≡ with_each warnings.old.items more.now) }
+{
+    for warning in more {
+        add(warnings, *warning)?;
+    }
+    Ok(())
+}
+
+/// Adds the warnings of a rule.
+fn add_rule(
+    warnings: &mut Vec<Warning>,
+    policy: &Policy,
+    number: usize,
+    rule: &Rule,
+) -> Result<(), AllocError>
+    ensures { OnOk result (warnings.new.items ≡ with_each warnings.old.items (flaws.flaws_of policy.now number rule.now)) }
+{
+    let flaws = [
+        fabric_flaw(number, rule),
+        role_flaw(policy, number, rule),
+        window_flaw(policy, number, rule),
+        plan_flaw(number, rule),
+        approvals_flaw(policy, number, rule),
+    ];
+    add_each(warnings, &flaws)?;
+    Ok(())
+}
+
+/// Adds the warnings of all rules.
+fn add_rules(warnings: &mut Vec<Warning>, policy: &Policy) -> Result<(), AllocError>
+    ensures { OnOk result (warnings.new.items ≡ with_rules policy.now warnings.old.items 1 policy.now.rules) }
+{
+    for (place, rule) in policy.rules().iter().enumerate() {
+        add_rule(warnings, policy, place + 1, rule)?;
+    }
+    Ok(())
+}
+
+/// Adds the warning of an action, if no rule is about it.
+fn add_action(warnings: &mut Vec<Warning>, rules: &[Rule], action: Action) -> Result<(), AllocError>
+    ensures { OnOk result (warnings.new.items ≡ added warnings.old.items (flaws.unruled rules.now action)) }
+{
+    add(warnings, unruled(rules, action))?;
+    Ok(())
+}
+
+/// Adds the warnings of actions.
+fn add_actions(
+    warnings: &mut Vec<Warning>,
+    rules: &[Rule],
+    actions: &[Action],
+) -> Result<(), AllocError>
+    ensures { OnOk result (warnings.new.items ≡ with_actions rules.now warnings.old.items actions.now) }
+{
+    for action in actions {
+        add_action(warnings, rules, *action)?;
+    }
+    Ok(())
+}
+
+/// What is worth a look in a policy: rule by rule each reason for which no command meets it, and then
+/// the actions that no rule is about.
+///
+/// # Errors
+/// `AllocError` where there is no memory.
+pub fn warnings_of(alloc: Global, policy: &Policy) -> Result<Vec<Warning>, AllocError>
+    ensures { IfOk result (λ warnings. warnings.items ≡ warnings_of policy.now) }
+{
+    let mut warnings = Vec::new(alloc);
+    add_rules(&mut warnings, policy)?;
+    add_actions(&mut warnings, policy.rules(), &ACTIONS)?;
+    Ok(warnings)
+}
