@@ -14,7 +14,7 @@ policy_of d = d.policy
 
 -- its world
 abbrev pub world_of : {A S B R : Type 0} → Desk A S B R → WorldRows
-world_of d = d.ledger
+world_of d = d.ledger.world
 
 -- the store that serves; none while the desk is halted
 abbrev pub serving_of : {A S B R : Type 0} → Desk A S B R → Option S

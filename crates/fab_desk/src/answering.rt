@@ -4,7 +4,7 @@ ghost use Rattle.fab_desk_base.specs.declared.command.Command.TheVariants as com
 ghost use Rattle.fab_desk_base.specs.declared.command.Query.TheVariants as query;
 ghost use Rattle.fab_desk_base.specs.declared.fault.DeskFault.TheVariants as faults;
 ghost use Rattle.fab_desk_base.specs.declared.reply.Reply.TheVariants as replies;
-ghost use Rattle.fab_desk_machine.specs.Proposals.{request_of};
+ghost use Rattle.fab_desk_machine.specs.Proposals.{CountsStep, IsAccepted, IsEffectOf, request_of};
 ghost use Rattle.fab_store_base.specs.Calls.{Rises};
 ghost use Rattle.fab_world.specs.Soundness.{IsSound};
 ghost use Rattle.fab_world.specs.Worlds.{records_of};
@@ -17,7 +17,7 @@ use fab_desk_base::{Command, DeskFault, Query, Reply, holders_are_kept, steps_ar
 use fab_desk_machine::{Proposal, propose, sender_of};
 use fab_names::Name;
 use fab_policy_base::Policy;
-use fab_reach_base::PathBook;
+use fab_reach_books::PathBook;
 use fab_store_base::Store;
 use fab_world::World;
 use std::alloc::Allocator;
@@ -70,6 +70,7 @@ fn act<A: Allocator + Copy, S: Store<A>, B: PathBook<A>>(
     requires stands { B.stands book.old (records_of world.old) }
     ensures sound { IsSound world.new }
     ensures stands { B.stands book.new (records_of world.new) }
+    ensures bounds { IsAccepted result.reply → CountsStep B.bounds world.old (IsEffectOf policy.now world.old (request_of token.now moment asked)) (B.count book.old) (B.count book.new) }
     ensures answers { IsHandled policy.now world.old (request_of token.now moment asked) result.reply world.new }
     ensures shut { result.is_shut ≡ true → (result.reply ≡ replies.Refused faults.Store) × (world.new ≡ world.old) }
     ensures clean { S.is_clean store.new → S.is_clean store.old }
@@ -102,11 +103,12 @@ pub fn serve<A: Allocator + Copy, S: Store<A>, B: PathBook<A>>(
     moment: u64,
     asked: Command<A>,
 ) -> Served<A>
-    ensures answers { S.is_clean store.new → IsTied S.Store store.old ledger.old → IsHandled policy.now ledger.old (request_of token.now moment asked) result.reply ledger.new }
-    ensures shut { result.is_shut ≡ true → (result.reply ≡ replies.Refused faults.Store) × (ledger.new ≡ ledger.old) }
+    ensures bounds { IsAccepted result.reply → CountsStep B.bounds ledger.old.world (IsEffectOf policy.now ledger.old.world (request_of token.now moment asked)) ledger.old.asked ledger.new.asked }
+    ensures answers { S.is_clean store.new → IsTied S.Store store.old ledger.old.world → IsHandled policy.now ledger.old.world (request_of token.now moment asked) result.reply ledger.new.world }
+    ensures shut { result.is_shut ≡ true → (result.reply ≡ replies.Refused faults.Store) × (ledger.new.world ≡ ledger.old.world) }
     ensures clean { S.is_clean store.new → S.is_clean store.old }
-    ensures tied { S.is_clean store.new → IsTied S.Store store.old ledger.old → result.is_shut ≡ false → IsTied S.Store store.new ledger.new }
-    ensures doubt { S.is_clean store.new → IsTied S.Store store.old ledger.old → IsInDoubt S.Store policy.now ledger.old (request_of token.now moment asked) store.new }
+    ensures tied { S.is_clean store.new → IsTied S.Store store.old ledger.old.world → result.is_shut ≡ false → IsTied S.Store store.new ledger.new.world }
+    ensures doubt { S.is_clean store.new → IsTied S.Store store.old ledger.old.world → IsInDoubt S.Store policy.now ledger.old.world (request_of token.now moment asked) store.new }
     ensures halts { result.reply ≡ replies.Refused faults.Store → (result.is_shut ≡ true) ↔ ¬ IsRead (request_of {A = A} token.now moment asked) }
     ensures counted { result.reply ≡ replies.Refused faults.Store → Rises (S.refused store.old) (S.refused store.new) }
     ensures uncounted { result.reply ≢ replies.Refused faults.Store → S.refused store.new ≡ S.refused store.old }

@@ -19,7 +19,7 @@ ghost use Rattle.fab_desk_base.specs.Keeping.{KeepsHosts};
 use crate::moves::moves;
 use fab_desk_base::{DeskFault, Reply};
 use fab_desk_machine::{Change, lists_of, take_over};
-use fab_reach_base::PathBook;
+use fab_reach_books::PathBook;
 use fab_store_base::laws::holds_keys;
 use fab_store_base::{LineChanges, Store};
 use fab_world::World;
@@ -96,6 +96,7 @@ pub fn carry_out<A: Allocator + Copy, S: Store<A>, B: PathBook<A>>(
     requires next_sound { IsSound (next_world world.old change.next) }
     requires hosts { (d : Delta A) → IsMove world.old (next_world world.old change.next) d → KeepsHosts (records_of world.old) (records_of (next_world world.old change.next)) }
     ensures stands { B.stands book.new (records_of world.new) }
+    ensures unasked { B.count book.new ≡ B.count book.old }
     ensures done { ((result.reply ≡ replies.Refused faults.Memory) × (world.new ≡ world.old) × (result.is_shut ≡ false) × (store.new ≡ store.old))
         ⊎ (((result.reply ≡ replies.Refused faults.Store) × (world.new ≡ world.old) × (result.is_shut ≡ true))
         ⊎ ((result.is_shut ≡ false) × (world.new ≡ next_world world.old change.next) × ((d : Delta A) × (result.reply ≡ reply_of change.report d) × IsMove world.old world.new d))) }

@@ -1,7 +1,7 @@
 //! The desk.
 ghost use Rattle.std.specs.Prelude.{◌≡◌, ◌↔◌, ℕ, Some, None, IsSome, IsTrue, IfOk, IfErr, OnOk, OnErr};
 ghost use Rattle.std.specs.Option.{option_or};
-ghost use Rattle.fab_desk_machine.specs.Proposals.{request_of};
+ghost use Rattle.fab_desk_machine.specs.Proposals.{CountsStep, IsAccepted, IsEffectOf, request_of};
 ghost use Rattle.fab_policy_base.specs.Callers.{HasToken};
 ghost use Rattle.fab_policy_base.specs.Sound.{IsSound};
 ghost use Rattle.fab_desk.specs.Desks.{IsOpened, IsServed, IsTurnedAway, IsUnopened};
@@ -12,7 +12,7 @@ use crate::opening::opened;
 use fab_desk_base::{Command, DeskFault, Reply};
 use fab_policy_base::Policy;
 use fab_policy_base::laws::policy_is_sound;
-use fab_reach_base::PathBook;
+use fab_reach_books::PathBook;
 use fab_store_base::{OpenFault, Store};
 use std::alloc::Allocator;
 
@@ -51,14 +51,15 @@ fn turned_away<A: Allocator + Copy>(policy: &Policy, token: &str) -> Reply<A>
 }
 
 impl<A: Allocator + Copy, S: Store<A>, B: PathBook<A>> Desk<A, S, B> {
-    /// A desk over a store: its world is the one that the tables have.
+    /// A desk over a store: its world is the one that the tables have. It has asked about no pair.
     ///
     /// # Errors
     /// Why there is none, with the store, which is as it was: `Damaged` where the rows are not those of
     /// a sound world, `NewerSchema`, `Store` where a call was refused, `Memory`.
     pub fn open(alloc: A, store: S, policy: Policy) -> Result<Self, (OpenFault, S)>
         ensures policy { IfOk result (λ desk. desk.policy ≡ policy) }
-        ensures opened { IfOk result (λ desk. IsOpened S.Store store desk.store desk.ledger) }
+        ensures opened { IfOk result (λ desk. IsOpened S.Store store desk.store desk.ledger.world) }
+        ensures unasked { IfOk result (λ desk. desk.ledger.asked ≡ 0) }
         ensures fault { IfErr result (λ e. IsUnopened S.Store store e.0 e.1) }
     {
         let mut store = store;
@@ -75,14 +76,15 @@ impl<A: Allocator + Copy, S: Store<A>, B: PathBook<A>> Desk<A, S, B> {
     }
 
     /// Opens a halted desk again, over another store or the same one opened anew: its world is the
-    /// one that the tables have.
+    /// one that the tables have. It has asked about no pair since.
     ///
     /// # Errors
     /// As for `open`: the desk stays halted, with the world that it had.
     pub fn reopen(&mut self, store: S) -> Result<(), (OpenFault, S)>
         requires { self.old.store ≡ None }
         ensures policy { self.new.policy ≡ self.old.policy }
-        ensures opened { OnOk result (IsOpened S.Store store self.new.store self.new.ledger) }
+        ensures opened { OnOk result (IsOpened S.Store store self.new.store self.new.ledger.world) }
+        ensures unasked { OnOk result (self.new.ledger.asked ≡ 0) }
         ensures fault { IfErr result (λ e. IsUnopened S.Store store e.0 e.1) }
         ensures kept { OnErr result (self.new ≡ self.old) }
     {
@@ -128,6 +130,14 @@ impl<A: Allocator + Copy, S: Store<A>, B: PathBook<A>> Desk<A, S, B> {
         policy_is_sound(&self.policy);
     }
 
+    /// How many pairs of ports the desk has asked about, since it was opened, to tell which paths its
+    /// commands would gain and lose; the dry runs count too. At 18446744073709551615 the count stays.
+    pub fn pairs_asked(&self) -> u64
+        ensures { result ≡ self.now.ledger.asked }
+    {
+        self.ledger.book.asked()
+    }
+
     /// Whether the desk is halted: the store refused a change, and it was not opened again since.
     pub fn halted(&self) -> bool
         ensures { IsTrue result ↔ (self.now.store ≡ None) }
@@ -143,11 +153,15 @@ impl<A: Allocator + Copy, S: Store<A>, B: PathBook<A>> Desk<A, S, B> {
     /// the store was refused, which is counted, and nothing else is: a read then changes nothing, and
     /// the desk serves on; a change halts the desk, and is in the tables whole or not at all. A halted
     /// desk answers `NoCaller` or `Halted`, and changes nothing.
+    ///
+    /// Where the command is done, or its dry run is answered, the count of `pairs_asked` rises within the
+    /// bounds that the book has of a step to the command's effect.
     pub fn handle(&mut self, token: &str, moment: u64, asked: Command<A>) -> Reply<A>
         ensures policy { self.new.policy ≡ self.old.policy }
         ensures halted { self.old.store ≡ None → IsTurnedAway self.old.policy token.now result × (self.new ≡ self.old) }
         ensures served { (s : S) → self.old.store ≡ Some s →
-            IsServed S.Store self.old.policy self.old.ledger (request_of token.now moment asked) result s self.new.store self.new.aside self.new.ledger }
+            IsServed S.Store self.old.policy self.old.ledger.world (request_of token.now moment asked) result s self.new.store self.new.aside self.new.ledger.world }
+        ensures bounds { IsAccepted result → CountsStep B.bounds self.old.ledger.world (IsEffectOf self.old.policy self.old.ledger.world (request_of token.now moment asked)) self.old.ledger.asked self.new.ledger.asked }
     {
         let Some(store) = &mut self.store else {
             return turned_away(&self.policy, token);

@@ -1,12 +1,12 @@
 //! A sound world, with a book of its paths.
 
-use fab_reach_base::PathBook;
+use fab_reach_books::PathBook;
 use fab_world::World;
 use std::alloc::Allocator;
 use std::marker::Model;
 
 /// A world with a book of its paths. A contract sees the world, which is sound, and at which the book
-/// stands.
+/// stands, and how many questions the book has asked.
 pub struct Ledger<A: Allocator + Copy, B: PathBook<A>> {
     pub world: World<A>,
     pub book: B,
@@ -21,13 +21,14 @@ impl<A: Allocator + Copy, B: PathBook<A>> Drop for Ledger<A, B> {
 
 impl<A: Allocator + Copy, B: PathBook<A>> Model for Ledger<A, B> {
     ghost use Rattle.fab_world.specs.Soundness.{IsSound};
-    ghost use Rattle.fab_world.specs.Worlds.{WorldRows, records_of, world_code};
+    ghost use Rattle.fab_world.specs.Worlds.{records_of};
+    ghost use Rattle.fab_desk.specs.Ledgers.{LedgerRows, ledger_code};
 
-    ghost Value = { WorldRows };
+    ghost Value = { LedgerRows };
 
-    ghost coded = { world_code };
+    ghost coded = { ledger_code };
 
-    ghost view = { λ l. l.world };
+    ghost view = { λ l. record { world = l.world; asked = B.count l.book } };
 
     ghost invariant = { λ l. IsSound l.world × B.stands l.book (records_of l.world) };
 }

@@ -8,23 +8,25 @@ ghost use Rattle.fab_world.specs.Worlds.{records_of};
 ghost use Rattle.fab_desk.specs.Desks.{IsTied};
 
 use crate::ledger::Ledger;
-use fab_reach_base::{PathBook, View};
+use fab_reach_base::View;
+use fab_reach_books::PathBook;
 use fab_store_base::{OpenFault, Store};
 use fab_world::World;
 use std::alloc::{AllocError, Allocator};
 
-/// A book of the paths of a sound world.
+/// A book of the paths of a sound world, which has asked nothing.
 ///
 /// # Errors
 /// `AllocError` where there is no memory.
 fn book_of<A: Allocator + Copy, B: PathBook<A>>(alloc: A, world: &World<A>) -> Result<B, AllocError>
     requires { IsSound world.now }
-    ensures { IfOk result (λ book. B.stands book (records_of world.now)) }
+    ensures stands { IfOk result (λ book. B.stands book (records_of world.now)) }
+    ensures new { IfOk result (λ book. B.count book ≡ 0) }
 {
     B::open(alloc, &View::of(&world.inventory, &world.config))
 }
 
-/// A sound world with a book of its paths.
+/// A sound world with a book of its paths, which has asked nothing.
 ///
 /// # Errors
 /// `Memory` where there is none.
@@ -33,7 +35,7 @@ fn ledger_of<A: Allocator + Copy, B: PathBook<A>>(
     world: World<A>,
 ) -> Result<Ledger<A, B>, OpenFault>
     requires { IsSound world }
-    ensures world { IfOk result (λ ledger. ledger ≡ world) }
+    ensures ledger { IfOk result (λ ledger. ledger ≡ record { world = world; asked = 0 }) }
     ensures fault { IfErr result (λ e. e ≡ faults.Memory) }
 {
     match book_of(alloc, &world) {
@@ -42,7 +44,8 @@ fn ledger_of<A: Allocator + Copy, B: PathBook<A>>(
     }
 }
 
-/// The world that the tables of the store have, with a book of its paths. The store is as it was.
+/// The world that the tables of the store have, with a book of its paths, which has asked nothing. The
+/// store is as it was.
 ///
 /// # Errors
 /// As for `Store::load`.
@@ -51,7 +54,8 @@ pub fn opened<A: Allocator + Copy, S: Store<A>, B: PathBook<A>>(
     store: &mut S,
 ) -> Result<Ledger<A, B>, OpenFault>
     ensures clean { S.is_clean store.new → S.is_clean store.old }
-    ensures tied { S.is_clean store.new → IfOk result (λ ledger. S.is_open store.new × IsTied S.Store store.new ledger) }
+    ensures tied { S.is_clean store.new → IfOk result (λ ledger. S.is_open store.new × IsTied S.Store store.new ledger.world) }
+    ensures unasked { IfOk result (λ ledger. ledger.asked ≡ 0) }
     ensures same { S.is_clean store.new → S.is_open store.new → S.is_open store.old × (S.tables store.new ≡ S.tables store.old) }
     ensures fault { S.is_clean store.new → IfErr result (OpensNot (S.tables store.old)) }
     ensures counted { IfErr result (IsCounted (S.refused store.old) (S.refused store.new)) }

@@ -8,7 +8,7 @@ ghost use Rattle.fab_desk.specs.Handled.{AreHandled, Handles};
 use crate::Desk;
 use fab_desk_base::{Reply, steps_are_done};
 use fab_desk_machine::Asked;
-use fab_reach_base::PathBook;
+use fab_reach_books::PathBook;
 use fab_store_base::Store;
 use std::alloc::{AllocError, Allocator};
 
@@ -35,11 +35,11 @@ pub fn handle_all<'a, A: Allocator + Copy, S: Store<A>, B: PathBook<A>>(
     ensures policy { desk.new.policy ≡ desk.old.policy }
     ensures halted { desk.old.store ≡ None → desk.new ≡ desk.old }
     ensures clean { IsCleanDesk S.Store desk.new.store desk.new.aside → IsCleanDesk S.Store desk.old.store desk.old.aside }
-    ensures run { IsCleanDesk S.Store desk.new.store desk.new.aside → IsTiedDesk S.Store desk.old.store desk.old.ledger →
-        IfOk result (λ replies. IsRun desk.old.policy desk.old.ledger (done_requests (map asked_of requests.entry.items) replies.items) (done_replies replies.items) desk.new.ledger) }
-    ensures tied { IsCleanDesk S.Store desk.new.store desk.new.aside → IsTiedDesk S.Store desk.old.store desk.old.ledger → IsTiedDesk S.Store desk.new.store desk.new.ledger }
-    ensures stop { IsCleanDesk S.Store desk.new.store desk.new.aside → (s : S) → desk.old.store ≡ Some s → IsTied S.Store s desk.old.ledger →
-        IfOk result (λ replies. IsLeftByStop S.Store desk.old.policy (map asked_of requests.entry.items) replies.items desk.new.store desk.new.aside desk.new.ledger) }
+    ensures run { IsCleanDesk S.Store desk.new.store desk.new.aside → IsTiedDesk S.Store desk.old.store desk.old.ledger.world →
+        IfOk result (λ replies. IsRun desk.old.policy desk.old.ledger.world (done_requests (map asked_of requests.entry.items) replies.items) (done_replies replies.items) desk.new.ledger.world) }
+    ensures tied { IsCleanDesk S.Store desk.new.store desk.new.aside → IsTiedDesk S.Store desk.old.store desk.old.ledger.world → IsTiedDesk S.Store desk.new.store desk.new.ledger.world }
+    ensures stop { IsCleanDesk S.Store desk.new.store desk.new.aside → (s : S) → desk.old.store ≡ Some s → IsTied S.Store s desk.old.ledger.world →
+        IfOk result (λ replies. IsLeftByStop S.Store desk.old.policy (map asked_of requests.entry.items) replies.items desk.new.store desk.new.aside desk.new.ledger.world) }
     ensures kept { OnErr result (desk.new ≡ desk.old) }
 {
     steps_are_done(alloc);

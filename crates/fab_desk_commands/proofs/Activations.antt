@@ -9,6 +9,7 @@ use Rattle.fab_lemmas.proofs.Sizes.{map_put}
 use Rattle.fab_names.proofs.OrderLaws.{name_total, name_exact}
 use Rattle.fab_reach_base.specs.Records.{ConfigRows}
 use Rattle.fab_reach_base.specs.Soundness.{IsSoundBeside}
+use Rattle.fab_reach_base.proofs.Lawful.{serves}
 use Rattle.fab_store_rows.specs.Differences.{IsDifference}
 use Rattle.fab_store_rows.specs.declared.record_row.PlanState.TheVariants as state
 use Rattle.fab_plans.specs.Outcomes.{IsOutcome, IsRefusedOutcome}
@@ -18,21 +19,21 @@ use Rattle.fab_world.specs.History.{changes_of, LeadsBack}
 use Rattle.fab_world.specs.PlanRecords.{PlanRecord, active}
 use Rattle.fab_world.specs.Plans.{Change, change_in, state_of, IsActive}
 use Rattle.fab_world.specs.Soundness.{IsSound, IsSoundPlan}
-use Rattle.fab_world.specs.Worlds.{WorldRows}
+use Rattle.fab_world.specs.Worlds.{WorldRows, records_of}
 use Rattle.fab_world.specs.declared.limits.TheConstants.{MOST_PLANS, MOST_CHANGES}
 use Rattle.fab_desk_base.specs.Commands.{IsPlan}
 use Rattle.fab_desk_base.specs.Effects.{counted, with_plan}
 use Rattle.fab_desk_base.specs.Refusals.{IsPlanRefused}
-use Rattle.fab_desk_base.specs.Trying.{IsMade, StaysSound, IsTryFault}
+use Rattle.fab_desk_base.specs.Trying.{IsMade, IsTryFault}
 use Rattle.fab_desk_base.specs.declared.command.Command.TheVariants.{Activate}
 use Rattle.fab_desk_base.specs.declared.fault.DeskFault.{DeskFault}
 use Rattle.fab_desk_base.specs.declared.fault.DeskFault.TheVariants as fault
-use Rattle.fab_desk_commands.specs.Nexts.{next_world, turned_at, with_turn, Suits}
+use Rattle.fab_desk_commands.specs.Nexts.{next_world, turned_at, with_turn, Suits, TellsRows}
 use Rattle.fab_desk_commands.specs.declared.next.Next.{Next}
 use Rattle.fab_desk_commands.specs.declared.next.Next.TheVariants.{Same, Stock, Staged, Turned, Reconfigured}
 use Rattle.fab_desk_commands.specs.declared.next.Turn.TheVariants.{Withdrawn, Approved, Activated, RolledBack}
 use Rattle.fab_desk_commands.specs.Kinds.{IsReconfiguration}
-use Rattle.fab_desk_commands.specs.Trials.{IsActivation, IsOutcomeFault}
+use Rattle.fab_desk_commands.specs.Trials.{IsActivation, IsOutcomeFault, IsSoundAfter}
 use Rattle.fab_desk_commands.proofs.PlanChecks.{activate_passes, steps_refused}
 use Rattle.fab_desk_commands.proofs.Orders.{absent_reversed, changes_beside, last_first, listing_with}
 use Rattle.fab_desk_commands.proofs.PlanTurns.{in_state, not_undone, one_plan, there}
@@ -71,23 +72,28 @@ module _ (w : WorldRows) (n : List ℕ) (p : PlanRecord) (is : IsPlan w n p) (wa
       ∙ ap (λ (o : Option PlanRecord). option_to_list (undo_at o) ++ changes_of now (reverse w.order)) (put_there w.plans n (in_force p change))
       ∙ ap (λ (changes : List Change). change ∷ changes) (changes_beside (map.get w.plans) now n beside (reverse w.order) (absent_reversed w.order n absent))
 
-  pub activation_sound : (A : Type 0) → IsOutcome w.inventory p.steps w.config c → IsDifference w.config c change.taken change.added → (IsSoundBeside w.inventory w.config → IsSoundBeside w.inventory c) → StaysSound {A = A} w (Activate n) (after w n p c change)
-  activation_sound A outcome differs keeps sound few counts =
-      let now = keeps (record { parts = sound.config.parts; fits = sound.fits }) in
-      let old = sound.plans n p is in
-      let plan : IsSoundPlan (in_force p change) = record { steps = old.steps; approvals = old.approvals } in
-      let room : w.revision < MOST_CHANGES = counts refl in
-      record {
-        inventory = sound.inventory;
-        config = record { parts = now.parts; no_clash = outcome.no_clash };
-        fits = now.fits;
-        few_paths = few;
-        few_plans = map_put name_total w.plans n (in_force p change) MOST_PLANS (inl (there w n p is)) sound.few_plans;
-        plans = entry_put name_total w.plans n name_exact (λ _ q. IsSoundPlan q) (in_force p change) plan sound.plans;
-        order = listing_with (map.get w.plans) (map.get (map.insert w.plans n (in_force p change))) n beside w.order sound.order (waits_inactive w n p is waits) now_active;
-        earlier = subst (λ changes. LeadsBack changes c) (sym (way_back sound)) (w.config, record { sound = sound.config; differs = differs }, sound.earlier);
-        few_changes = omega arith;
-      }
+  pub activation_sound : (A : Type 0) → IsOutcome w.inventory p.steps w.config c → IsDifference w.config c change.taken change.added → (IsSoundBeside w.inventory w.config → IsSoundBeside w.inventory c) → IsSoundAfter {A = A} w (Activate n) (after w n p c change)
+  activation_sound A outcome differs keeps = record {
+    serves = λ sound. serves (records_of (after w n p c change)) (now sound);
+    sound = λ sound few counts.
+        let old = sound.plans n p is in
+        let plan : IsSoundPlan (in_force p change) = record { steps = old.steps; approvals = old.approvals } in
+        let room : w.revision < MOST_CHANGES = counts refl in
+        record {
+          inventory = sound.inventory;
+          config = record { parts = (now sound).parts; no_clash = outcome.no_clash };
+          fits = (now sound).fits;
+          few_paths = few;
+          few_plans = map_put name_total w.plans n (in_force p change) MOST_PLANS (inl (there w n p is)) sound.few_plans;
+          plans = entry_put name_total w.plans n name_exact (λ _ q. IsSoundPlan q) (in_force p change) plan sound.plans;
+          order = listing_with (map.get w.plans) (map.get (map.insert w.plans n (in_force p change))) n beside w.order sound.order (waits_inactive w n p is waits) now_active;
+          earlier = subst (λ changes. LeadsBack changes c) (sym (way_back sound)) (w.config, record { sound = sound.config; differs = differs }, sound.earlier);
+          few_changes = omega arith;
+        };
+  }
+    where
+      now : IsSound w → IsSoundBeside w.inventory c
+      now sound = keeps (record { parts = sound.config.parts; fits = sound.fits })
 
   pub activation_made : (A : Type 0) (caller : List ℕ) → IsOutcome w.inventory p.steps w.config c → IsDifference w.config c change.taken change.added → IsMade {A = A} w caller (Activate n) (after w n p c change)
   activation_made A caller outcome differs = record {
@@ -143,6 +149,17 @@ is_reconfiguration w n c (Staged m p) h = absurd h
 is_reconfiguration w n c (Turned m t) h = absurd h
 is_reconfiguration w n c (Reconfigured config m t order) h = h.1
 
+-- it tells what it changed
+pub activation_tells : {A : Type 0} (w : WorldRows) (n : List ℕ) (c : ConfigRows) (next : Next A) → IsActivation w n c next → TellsRows w next
+activation_tells w n c Same h = absurd h
+activation_tells w n c (Stock v d) h = absurd h
+activation_tells w n c (Staged m p) h = absurd h
+activation_tells w n c (Turned m t) h = absurd h
+activation_tells w n c (Reconfigured config m Withdrawn order) h = absurd h.2
+activation_tells w n c (Reconfigured config m (Approved given) order) h = absurd h.2
+activation_tells w n c (Reconfigured config m (RolledBack d) order) h = absurd h.2
+activation_tells w n c (Reconfigured config m (Activated d) order) h = subst (λ k. IsDifference w.config k d.taken.items d.added.items) (sym h.0) h.2
+
 pub activation_suits : {A : Type 0} (w : WorldRows) (n : List ℕ) (p : PlanRecord) → IsPlan w n p → state_of p.standing ≡ state.Staged → (c : ConfigRows) (next : Next A) → IsActivation w n c next → w.revision < MOST_CHANGES → Suits w next
 activation_suits w n p is waits c Same h few = absurd h
 activation_suits w n p is waits c (Stock v d) h few = absurd h
@@ -151,4 +168,4 @@ activation_suits w n p is waits c (Turned m t) h few = absurd h
 activation_suits w n p is waits c (Reconfigured config m Withdrawn order) h few = absurd h.2
 activation_suits w n p is waits c (Reconfigured config m (Approved given) order) h few = absurd h.2
 activation_suits w n p is waits c (Reconfigured config m (RolledBack d) order) h few = absurd h.2
-activation_suits w n p is waits c (Reconfigured config m (Activated d) order) h few = ((p, subst (λ k. IsPlan w k p) (sym h.1) is, waits), few, subst (λ k. IsDifference w.config k d.taken.items d.added.items) (sym h.0) h.2)
+activation_suits w n p is waits c (Reconfigured config m (Activated d) order) h few = ((p, subst (λ k. IsPlan w k p) (sym h.1) is, waits), few, activation_tells w n c (Reconfigured config m (Activated d) order) h)

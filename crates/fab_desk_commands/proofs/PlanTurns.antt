@@ -16,13 +16,15 @@ use Rattle.fab_world.specs.declared.limits.TheConstants.{MOST_CHANGES}
 use Rattle.fab_desk_base.specs.Commands.{IsPlan}
 use Rattle.fab_desk_base.specs.Effects.{with_plan}
 use Rattle.fab_desk_base.specs.Refusals.{IsAuthor}
-use Rattle.fab_desk_base.specs.Trying.{IsMade, StaysSound}
+use Rattle.fab_desk_base.specs.Trying.{IsMade}
 use Rattle.fab_desk_base.specs.declared.command.Command.TheVariants.{Withdraw, Approve}
 use Rattle.fab_desk_commands.specs.Nexts.{turned, turned_at, with_turn}
+use Rattle.fab_desk_commands.specs.Trials.{IsSoundAfter}
 use Rattle.fab_desk_commands.specs.declared.next.Turn.{Turn}
 use Rattle.fab_desk_commands.specs.declared.next.Turn.TheVariants.{Withdrawn, Approved}
 use Rattle.fab_desk_commands.proofs.PlanChecks.{IsInState, withdraw_passes, approve_passes}
 use Rattle.fab_desk_commands.proofs.PlanPut.{sound_put}
+use Rattle.fab_desk_commands.proofs.SoundAfter.{sound_serves}
 use Rattle.fab_desk_commands.proofs.Undos.{undo_at}
 
 -- nothing undoes a staged plan
@@ -56,11 +58,14 @@ module _ (w : WorldRows) (n : List ℕ) (p : PlanRecord) (is : IsPlan w n p) whe
     pub withdraw_made : (caller : List ℕ) → IsMade {A = A} w caller (Withdraw n) (turned_at {A = A} n Withdrawn w)
     withdraw_made caller = record { passes = withdraw_passes A w caller n (in_state state.Staged waits); makes = (p, is, turned_is {A = A} Withdrawn) }
 
-    pub withdraw_sound : StaysSound {A = A} w (Withdraw n) (turned_at {A = A} n Withdrawn w)
-    withdraw_sound sound few counted =
-        let old = sound.plans n p is in
-        let plan : IsSoundPlan (turned {A = A} Withdrawn p) = record { steps = old.steps; approvals = old.approvals } in
-        subst IsSound (sym (turned_is {A = A} Withdrawn)) (sound_put w n (turned {A = A} Withdrawn p) sound plan (ap undo_at is ∙ not_undone p.standing waits) (inl there))
+    pub withdraw_sound : IsSoundAfter {A = A} w (Withdraw n) (turned_at {A = A} n Withdrawn w)
+    withdraw_sound = record {
+      serves = sound_serves w;
+      sound = λ sound few counted.
+          let old = sound.plans n p is in
+          let plan : IsSoundPlan (turned {A = A} Withdrawn p) = record { steps = old.steps; approvals = old.approvals } in
+          subst IsSound (sym (turned_is {A = A} Withdrawn)) (sound_put w n (turned {A = A} Withdrawn p) sound plan (ap undo_at is ∙ not_undone p.standing waits) (inl there));
+    }
 
     -- ---- approve
     module _ (caller : List ℕ) (given : BTreeMap (List ℕ) ℕ) (adds : map.from_entries {R = name_cmp} given.entries ≡ map.insert p.approvals caller w.revision) where
@@ -70,11 +75,14 @@ module _ (w : WorldRows) (n : List ℕ) (p : PlanRecord) (is : IsPlan w n p) whe
       pub approve_made : ¬ IsAuthor w n caller → IsMade {A = A} w caller (Approve n) (turned_at {A = A} n (Approved given) w)
       approve_made other = record { passes = approve_passes A w caller n (in_state state.Staged waits) other; makes = (p, is, made_of) }
 
-      pub approve_sound : StaysSound {A = A} w (Approve n) (turned_at {A = A} n (Approved given) w)
-      approve_sound sound few counted =
-          let old = sound.plans n p is in
-          let plan : IsSoundPlan (record p { approvals = map.insert p.approvals caller w.revision }) = record {
-            steps = old.steps;
-            approvals = entry_put name_total p.approvals caller name_exact (λ _ revision. revision ≤ MOST_CHANGES) w.revision sound.few_changes old.approvals;
-          } in
-          subst IsSound (sym made_of) (sound_put w n (record p { approvals = map.insert p.approvals caller w.revision }) sound plan (ap undo_at is) (inl there))
+      pub approve_sound : IsSoundAfter {A = A} w (Approve n) (turned_at {A = A} n (Approved given) w)
+      approve_sound = record {
+        serves = sound_serves w;
+        sound = λ sound few counted.
+            let old = sound.plans n p is in
+            let plan : IsSoundPlan (record p { approvals = map.insert p.approvals caller w.revision }) = record {
+              steps = old.steps;
+              approvals = entry_put name_total p.approvals caller name_exact (λ _ revision. revision ≤ MOST_CHANGES) w.revision sound.few_changes old.approvals;
+            } in
+            subst IsSound (sym made_of) (sound_put w n (record p { approvals = map.insert p.approvals caller w.revision }) sound plan (ap undo_at is) (inl there));
+      }

@@ -15,6 +15,8 @@ use Rattle.fab_mapping.specs.Gone.{IsFirstGone}
 use Rattle.fab_mapping.specs.Mappings.{MappingRows}
 use Rattle.fab_mapping.specs.Soundness.{Fits}
 use Rattle.fab_reach_base.specs.Records.{ConfigRows}
+use Rattle.fab_reach_base.specs.Soundness.{IsSoundBeside}
+use Rattle.fab_reach_base.proofs.Lawful.{serves}
 use Rattle.fab_reach_base.proofs.Same.{same_some}
 use Rattle.fab_store_rows.specs.declared.record_row.PlanState.TheVariants as state
 use Rattle.fab_world.specs.History.{IsEarlier, changes_of, LeadsBack}
@@ -22,21 +24,21 @@ use Rattle.fab_store_rows.specs.Differences.{IsDifference}
 use Rattle.fab_world.specs.PlanRecords.{PlanRecord, Standing, staged, active, rolled_back, withdrawn}
 use Rattle.fab_world.specs.Plans.{Change, state_of, undo_of, IsActive}
 use Rattle.fab_world.specs.Soundness.{IsSound, IsSoundPlan, ListsActive}
-use Rattle.fab_world.specs.Worlds.{WorldRows}
+use Rattle.fab_world.specs.Worlds.{WorldRows, records_of}
 use Rattle.fab_world.specs.declared.limits.TheConstants.{MOST_PLANS, MOST_CHANGES}
 use Rattle.fab_desk_base.specs.Commands.{IsPlan}
 use Rattle.fab_desk_base.specs.Effects.{counted, with_plan, IsBefore, IsLastAfter}
 use Rattle.fab_desk_base.specs.Refusals.{IsOtherLast, IsGoneBefore}
-use Rattle.fab_desk_base.specs.Trying.{IsMade, StaysSound, IsTryFault}
+use Rattle.fab_desk_base.specs.Trying.{IsMade, IsTryFault}
 use Rattle.fab_desk_base.specs.declared.command.Command.TheVariants.{Rollback}
 use Rattle.fab_desk_base.specs.declared.fault.DeskFault.{DeskFault}
 use Rattle.fab_desk_base.specs.declared.fault.DeskFault.TheVariants as fault
-use Rattle.fab_desk_commands.specs.Nexts.{next_world, turned_at, with_turn, Suits}
+use Rattle.fab_desk_commands.specs.Nexts.{next_world, turned_at, with_turn, Suits, TellsRows}
 use Rattle.fab_desk_commands.specs.declared.next.Next.{Next}
 use Rattle.fab_desk_commands.specs.declared.next.Next.TheVariants.{Same, Stock, Staged, Turned, Reconfigured}
 use Rattle.fab_desk_commands.specs.declared.next.Turn.TheVariants.{Withdrawn, Approved, Activated, RolledBack}
 use Rattle.fab_desk_commands.specs.Kinds.{IsReconfiguration}
-use Rattle.fab_desk_commands.specs.Trials.{HasEarlier, IsBeforePlan, IsRollback, IsRestoreFault}
+use Rattle.fab_desk_commands.specs.Trials.{HasEarlier, IsBeforePlan, IsRollback, IsRestoreFault, IsSoundAfter}
 use Rattle.fab_desk_commands.proofs.Activations.{placed}
 use Rattle.fab_desk_commands.proofs.PlanChecks.{rollback_passes, gone_refused}
 use Rattle.fab_desk_commands.proofs.Orders.{absent_before, absent_reversed, changes_beside, last_first, listing_without}
@@ -110,22 +112,25 @@ module _ (w : WorldRows) (n : List ℕ) (p : PlanRecord) (is : IsPlan w n p) (wo
           let same = changes_beside (map.get w.plans) (map.get (map.insert w.plans n (undone p))) n beside (reverse rest) (absent_reversed rest n (absent_before rest n listed.each_once)) in
           subst (λ changes. LeadsBack changes c) (sym same) (subst (LeadsBack (changes_of (map.get w.plans) (reverse rest))) (before.2.only back.0 back.1) back.2)
 
-      pub rollback_sound : (A : Type 0) → StaysSound {A = A} w (Rollback n) (after w n p c rest)
-      rollback_sound A same few counts =
-          let old = sound.plans n p is in
-          let plan : IsSoundPlan (undone p) = record { steps = old.steps; approvals = old.approvals } in
-          let room : w.revision < MOST_CHANGES = counts refl in
-          record {
-            inventory = sound.inventory;
-            config = before.2.is.sound;
-            fits = fits;
-            few_paths = few;
-            few_plans = map_put name_total w.plans n (undone p) MOST_PLANS (inl (there w n p is)) sound.few_plans;
-            plans = entry_put name_total w.plans n name_exact (λ _ q. IsSoundPlan q) (undone p) plan sound.plans;
-            order = listing_without (map.get w.plans) (map.get (map.insert w.plans n (undone p))) n beside rest listed now_inactive;
-            earlier = rest_back;
-            few_changes = omega arith;
-          }
+      pub rollback_sound : (A : Type 0) → IsSoundAfter {A = A} w (Rollback n) (after w n p c rest)
+      rollback_sound A = record {
+        serves = λ _. let now : IsSoundBeside w.inventory c = record { parts = before.2.is.sound.parts; fits = fits } in serves (records_of (after w n p c rest)) now;
+        sound = λ _ few counts.
+            let old = sound.plans n p is in
+            let plan : IsSoundPlan (undone p) = record { steps = old.steps; approvals = old.approvals } in
+            let room : w.revision < MOST_CHANGES = counts refl in
+            record {
+              inventory = sound.inventory;
+              config = before.2.is.sound;
+              fits = fits;
+              few_paths = few;
+              few_plans = map_put name_total w.plans n (undone p) MOST_PLANS (inl (there w n p is)) sound.few_plans;
+              plans = entry_put name_total w.plans n name_exact (λ _ q. IsSoundPlan q) (undone p) plan sound.plans;
+              order = listing_without (map.get w.plans) (map.get (map.insert w.plans n (undone p))) n beside rest listed now_inactive;
+              earlier = rest_back;
+              few_changes = omega arith;
+            };
+      }
 
       -- what was before the plan is this
       one_before : (q : PlanRecord) (b : ConfigRows) → IsBefore w n q b → b ≡ c
@@ -190,6 +195,17 @@ is_reconfiguration w n c rest (Reconfigured config m (Approved given) order) h =
 is_reconfiguration w n c rest (Reconfigured config m (Activated d) order) h = absurd h
 is_reconfiguration w n c rest (Reconfigured config m (RolledBack d) order) h = h.1
 
+-- it tells what it changed
+pub rollback_tells : {A : Type 0} (w : WorldRows) (n : List ℕ) (c : ConfigRows) (rest : List (List ℕ)) (next : Next A) → IsRollback w n c rest next → TellsRows w next
+rollback_tells w n c rest Same h = absurd h
+rollback_tells w n c rest (Stock v d) h = absurd h
+rollback_tells w n c rest (Staged m q) h = absurd h
+rollback_tells w n c rest (Turned m t) h = absurd h
+rollback_tells w n c rest (Reconfigured config m Withdrawn order) h = absurd h
+rollback_tells w n c rest (Reconfigured config m (Approved given) order) h = absurd h
+rollback_tells w n c rest (Reconfigured config m (Activated d) order) h = absurd h
+rollback_tells w n c rest (Reconfigured config m (RolledBack d) order) h = subst (λ k. IsDifference w.config k d.taken.items d.added.items) (sym h.0) h.2
+
 pub rollback_suits : {A : Type 0} (w : WorldRows) (n : List ℕ) (p : PlanRecord) → IsPlan w n p → state_of p.standing ≡ state.Active → (c : ConfigRows) (rest : List (List ℕ)) (next : Next A) → IsRollback w n c rest next → w.revision < MOST_CHANGES → Suits w next
 rollback_suits w n p is works c rest Same h few = absurd h
 rollback_suits w n p is works c rest (Stock v d) h few = absurd h
@@ -198,4 +214,4 @@ rollback_suits w n p is works c rest (Turned m t) h few = absurd h
 rollback_suits w n p is works c rest (Reconfigured config m Withdrawn order) h few = absurd h
 rollback_suits w n p is works c rest (Reconfigured config m (Approved given) order) h few = absurd h
 rollback_suits w n p is works c rest (Reconfigured config m (Activated d) order) h few = absurd h
-rollback_suits w n p is works c rest (Reconfigured config m (RolledBack d) order) h few = ((p, subst (λ k. IsPlan w k p) (sym h.1) is, works), few, subst (λ k. IsDifference w.config k d.taken.items d.added.items) (sym h.0) h.2)
+rollback_suits w n p is works c rest (Reconfigured config m (RolledBack d) order) h few = ((p, subst (λ k. IsPlan w k p) (sym h.1) is, works), few, rollback_tells w n c rest (Reconfigured config m (RolledBack d) order) h)

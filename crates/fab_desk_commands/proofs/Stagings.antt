@@ -15,10 +15,12 @@ use Rattle.fab_world.specs.declared.limits.TheConstants.{MOST_PLANS}
 use Rattle.fab_desk_base.specs.Commands.{IsPlan}
 use Rattle.fab_desk_base.specs.Effects.{staged_plan, with_plan}
 use Rattle.fab_desk_base.specs.Refusals.{IsOtherPlan}
-use Rattle.fab_desk_base.specs.Trying.{IsMade, StaysSound}
+use Rattle.fab_desk_base.specs.Trying.{IsMade}
 use Rattle.fab_desk_base.specs.declared.command.Command.TheVariants.{Stage}
+use Rattle.fab_desk_commands.specs.Trials.{IsSoundAfter}
 use Rattle.fab_desk_commands.proofs.PlanChecks.{stage_passes}
 use Rattle.fab_desk_commands.proofs.PlanPut.{sound_put}
+use Rattle.fab_desk_commands.proofs.SoundAfter.{sound_serves}
 use Rattle.fab_desk_commands.proofs.Undos.{undo_at}
 
 -- there is room, or there is none
@@ -52,8 +54,8 @@ module _ {A : Type 0} (w : WorldRows) (caller n : List ℕ) (steps : Vec PlanSte
       pub new_made : IsMade w caller (Stage n steps) (with_plan n (staged_plan caller steps.items) w)
       new_made = record { passes = stage_passes w caller n steps no_other_plan (not_both w n room); makes = inr (free, refl) }
 
-      pub new_sound : IsWithinLimits steps.items → StaysSound w (Stage n steps) (with_plan n (staged_plan caller steps.items) w)
-      new_sound limits sound few counts = sound_put w n (staged_plan caller steps.items) sound plan (ap undo_at free) room
+      pub new_sound : IsWithinLimits steps.items → IsSoundAfter w (Stage n steps) (with_plan n (staged_plan caller steps.items) w)
+      new_sound limits = record { serves = sound_serves w; sound = λ sound few counts. sound_put w n (staged_plan caller steps.items) sound plan (ap undo_at free) room }
         where
           plan : IsSoundPlan (staged_plan caller steps.items)
           plan = record { steps = limits; approvals = λ k revision at. let e : ◌≡◌ {A = Option ℕ} None (Some revision) = sym (map.get-empty name_cmp k) ∙ at in absurd cc }

@@ -64,6 +64,12 @@ TellsChange before after (Activated change) = IsDifference before after change.t
 TellsChange before after (RolledBack change) = IsDifference before after change.taken.items change.added.items
 TellsChange before after _ = ⊥
 
+-- another inventory comes with the rows in which it differs, and another configuration too
+abbrev pub TellsRows : {A : Type 0} → WorldRows → Next A → Type 0
+TellsRows w (Stock v change) = IsInventoryDifference w.inventory v change
+TellsRows w (Reconfigured c n t order) = TellsChange w.config c t
+TellsRows w _ = Unit {0}
+
 -- the parts are for this world: it may take them over, once there is room for them
 abbrev pub Suits : {A : Type 0} → WorldRows → Next A → Type 0
 Suits w Same = Unit {0}

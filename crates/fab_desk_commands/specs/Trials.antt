@@ -2,19 +2,31 @@
 use Rattle.std.specs.Prelude.{ℕ, ◌≡◌, ◌++◌, List, [], ◌∷◌, Some}
 use Rattle.fab_mapping.specs.Gone.{IsFirstGone}
 use Rattle.fab_reach_base.specs.Records.{ConfigRows}
+use Rattle.fab_reach_base.specs.Serving.{IsServing}
 use Rattle.fab_store_rows.specs.Differences.{IsDifference}
 use Rattle.fab_plans_base.specs.Steps.{PlanStep}
 use Rattle.fab_plans.specs.Outcomes.{IsRefusedOutcome}
 use Rattle.fab_world.specs.History.{IsEarlier, IsOnlyEarlier}
 use Rattle.fab_world.specs.PlanRecords.{PlanRecord}
 use Rattle.fab_world.specs.Plans.{Change, undo_of}
-use Rattle.fab_world.specs.Worlds.{WorldRows}
+use Rattle.fab_world.specs.Soundness.{IsSound}
+use Rattle.fab_world.specs.Worlds.{WorldRows, records_of}
+use Rattle.fab_desk_base.specs.Trying.{StaysSound}
+use Rattle.fab_desk_base.specs.declared.command.Command.{Command}
 use Rattle.fab_desk_base.specs.declared.fault.DeskFault.{DeskFault}
 use Rattle.fab_desk_base.specs.declared.fault.DeskFault.TheVariants.{Gone, Memory, Plan}
 use Rattle.fab_desk_commands.specs.declared.next.Next.{Next}
 use Rattle.fab_desk_commands.specs.declared.next.Next.TheVariants.{Reconfigured}
 use Rattle.fab_desk_commands.specs.declared.next.Turn.{Turn}
 use Rattle.fab_desk_commands.specs.declared.next.Turn.TheVariants.{Activated, RolledBack}
+
+-- ---- the world after a command
+
+-- where the world before is sound, books may stand at this one, whatever the limits on paths and on
+-- changes, and it is sound if they are kept
+pub record IsSoundAfter {A : Type 0} (w : WorldRows) (c : Command A) (new : WorldRows) : Type 0 where
+  pub serves : IsSound w → IsServing (records_of new)
+  pub sound : StaysSound w c new
 
 -- ---- activation
 

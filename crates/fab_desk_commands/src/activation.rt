@@ -5,11 +5,11 @@ ghost use Rattle.fab_plans.specs.Outcomes.{IsOutcome};
 ghost use Rattle.fab_world.specs.Soundness.{IsSound};
 ghost use Rattle.fab_world.specs.declared.limits.TheConstants.{MOST_CHANGES};
 ghost use Rattle.fab_desk_base.specs.Answers.{HasPlan};
-ghost use Rattle.fab_desk_base.specs.Trying.{IsMade, StaysSound, IsTryFault};
+ghost use Rattle.fab_desk_base.specs.Trying.{IsMade, IsTryFault};
 ghost use Rattle.fab_desk_base.specs.declared.command.Command.TheVariants.{Activate};
-ghost use Rattle.fab_desk_commands.specs.Nexts.{next_world, Suits};
+ghost use Rattle.fab_desk_commands.specs.Nexts.{next_world, Suits, TellsRows};
 ghost use Rattle.fab_desk_commands.specs.Kinds.{IsReconfiguration};
-ghost use Rattle.fab_desk_commands.specs.Trials.{IsOutcomeFault, IsActivation};
+ghost use Rattle.fab_desk_commands.specs.Trials.{IsOutcomeFault, IsActivation, IsSoundAfter};
 
 use crate::found::staged_at;
 use crate::{Next, Turn};
@@ -91,7 +91,8 @@ pub fn activated<A: Allocator + Copy>(
     ensures ok { (caller : List ℕ) → IfOk result (λ next. IsMade {A = A.row.Denot} world.now caller (Activate plan.now) (next_world world.now next)) }
     ensures kind { IfOk result (IsReconfiguration plan.now) }
     ensures suits { IfOk result (λ next. world.now.revision < MOST_CHANGES → Suits world.now next) }
-    ensures sound { IfOk result (λ next. StaysSound {A = A.row.Denot} world.now (Activate plan.now) (next_world world.now next)) }
+    ensures tells { IfOk result (TellsRows world.now) }
+    ensures sound { IfOk result (λ next. IsSoundAfter {A = A.row.Denot} world.now (Activate plan.now) (next_world world.now next)) }
     ensures err { (caller : List ℕ) → IfErr result (IsTryFault {A = A.row.Denot} world.now caller (Activate plan.now)) }
 {
     let kept = match staged_at(world, plan) {

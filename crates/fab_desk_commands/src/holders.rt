@@ -5,9 +5,10 @@ ghost use Rattle.fab_world.specs.Soundness.{IsSound};
 ghost use Rattle.fab_desk_base.specs.Commands.{IsGiven};
 ghost use Rattle.fab_desk_base.specs.declared.command.Command.TheVariants.{PutHolder, DropHolder};
 ghost use Rattle.fab_desk_base.specs.Effects.{counted, with_inventory};
-ghost use Rattle.fab_desk_base.specs.Trying.{IsMade, StaysSound, IsTryFault};
+ghost use Rattle.fab_desk_base.specs.Trying.{IsMade, IsTryFault};
 ghost use Rattle.fab_desk_base.specs.Users.{IsHolderUser};
 ghost use Rattle.fab_desk_commands.specs.Keeping.{IsKeptTarget, IsUsedBy};
+ghost use Rattle.fab_desk_commands.specs.Trials.{IsSoundAfter};
 
 use crate::refusal::refusal;
 use fab_desk_base::{DeskFault, holder_user, leaving_target};
@@ -57,7 +58,7 @@ pub fn holder_put<A: Allocator + Copy>(
     requires sound { IsSound world.now }
     requires given { IsGiven (PutHolder kind name.now tenant.now ports.now) }
     ensures ok { (caller : List ℕ) → IfOk result (λ v. IsMade world.now caller (PutHolder kind name.now tenant.now ports.now) (counted (with_inventory v world.now))) }
-    ensures sound { IfOk result (λ v. StaysSound world.now (PutHolder kind name.now tenant.now ports.now) (counted (with_inventory v world.now))) }
+    ensures sound { IfOk result (λ v. IsSoundAfter world.now (PutHolder kind name.now tenant.now ports.now) (counted (with_inventory v world.now))) }
     ensures err { (caller : List ℕ) → IfErr result (IsTryFault world.now caller (PutHolder kind name.now tenant.now ports.now)) }
 {
     let Ok(mut next) = world.inventory.copy() else {
@@ -119,7 +120,7 @@ pub fn holder_dropped<A: Allocator + Copy>(
     requires sound { IsSound world.now }
     requires there { kind_of world.now.inventory.holders name.now ≡ Some kind }
     ensures ok { (caller : List ℕ) → IfOk result (λ v. IsMade {A = A} world.now caller (DropHolder kind name.now) (counted (with_inventory v world.now))) }
-    ensures sound { IfOk result (λ v. StaysSound {A = A} world.now (DropHolder kind name.now) (counted (with_inventory v world.now))) }
+    ensures sound { IfOk result (λ v. IsSoundAfter {A = A} world.now (DropHolder kind name.now) (counted (with_inventory v world.now))) }
     ensures err { (caller : List ℕ) → IfErr result (IsTryFault {A = A} world.now caller (DropHolder kind name.now)) }
 {
     if let Err(fault) = unused(world.config.mapping(), kind, name) {

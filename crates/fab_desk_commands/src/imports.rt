@@ -3,7 +3,8 @@ ghost use Rattle.std.specs.Prelude.{ℕ, List, IfOk, IfErr};
 ghost use Rattle.fab_world.specs.Soundness.{IsSound};
 ghost use Rattle.fab_desk_base.specs.declared.command.Command.TheVariants.{Import};
 ghost use Rattle.fab_desk_base.specs.Effects.{counted, with_inventory};
-ghost use Rattle.fab_desk_base.specs.Trying.{IsMade, StaysSound, IsTryFault};
+ghost use Rattle.fab_desk_base.specs.Trying.{IsMade, IsTryFault};
+ghost use Rattle.fab_desk_commands.specs.Trials.{IsSoundAfter};
 
 use crate::refusal::refusal;
 use fab_desk_base::DeskFault;
@@ -25,7 +26,7 @@ pub fn imported<A: Allocator + Copy>(
 ) -> Result<Inventory<A>, DeskFault>
     requires { IsSound world.now }
     ensures ok { (caller : List ℕ) → IfOk result (λ v. IsMade world.now caller (Import fabric rows.now) (counted (with_inventory v world.now))) }
-    ensures sound { IfOk result (λ v. StaysSound world.now (Import fabric rows.now) (counted (with_inventory v world.now))) }
+    ensures sound { IfOk result (λ v. IsSoundAfter world.now (Import fabric rows.now) (counted (with_inventory v world.now))) }
     ensures err { (caller : List ℕ) → IfErr result (IsTryFault world.now caller (Import fabric rows.now)) }
 {
     let Ok(mut next) = world.inventory.copy() else {

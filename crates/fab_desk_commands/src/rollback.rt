@@ -9,12 +9,12 @@ ghost use Rattle.fab_world.specs.declared.limits.TheConstants.{MOST_CHANGES};
 ghost use Rattle.fab_desk_base.specs.Answers.{HasPlan};
 ghost use Rattle.fab_desk_base.specs.Effects.{IsLastAfter};
 ghost use Rattle.fab_desk_base.specs.Refusals.{FailsWith, IsOtherLast};
-ghost use Rattle.fab_desk_base.specs.Trying.{IsMade, StaysSound, IsTryFault};
+ghost use Rattle.fab_desk_base.specs.Trying.{IsMade, IsTryFault};
 ghost use Rattle.fab_desk_base.specs.declared.command.Command.TheVariants.{Rollback};
 ghost use Rattle.fab_desk_base.specs.declared.fault.DeskFault.TheVariants as fault;
-ghost use Rattle.fab_desk_commands.specs.Nexts.{next_world, Suits};
+ghost use Rattle.fab_desk_commands.specs.Nexts.{next_world, Suits, TellsRows};
 ghost use Rattle.fab_desk_commands.specs.Kinds.{IsReconfiguration};
-ghost use Rattle.fab_desk_commands.specs.Trials.{HasEarlier, IsBeforePlan, IsRollback, IsRestoreFault};
+ghost use Rattle.fab_desk_commands.specs.Trials.{HasEarlier, IsBeforePlan, IsRollback, IsRestoreFault, IsSoundAfter};
 
 use crate::again::turned_round;
 use crate::found::active_at;
@@ -154,7 +154,8 @@ pub fn rolled_back<A: Allocator + Copy>(
     ensures ok { (caller : List ℕ) → IfOk result (λ next. IsMade {A = A.row.Denot} world.now caller (Rollback plan.now) (next_world world.now next)) }
     ensures kind { IfOk result (IsReconfiguration plan.now) }
     ensures suits { IfOk result (λ next. world.now.revision < MOST_CHANGES → Suits world.now next) }
-    ensures sound { IfOk result (λ next. StaysSound {A = A.row.Denot} world.now (Rollback plan.now) (next_world world.now next)) }
+    ensures tells { IfOk result (TellsRows world.now) }
+    ensures sound { IfOk result (λ next. IsSoundAfter {A = A.row.Denot} world.now (Rollback plan.now) (next_world world.now next)) }
     ensures err { (caller : List ℕ) → IfErr result (IsTryFault {A = A.row.Denot} world.now caller (Rollback plan.now)) }
 {
     let kept = match active_at(world, plan) {

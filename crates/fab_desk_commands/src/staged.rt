@@ -6,8 +6,9 @@ ghost use Rattle.fab_lemmas.specs.Room.{IsFull, HasRoom};
 ghost use Rattle.fab_world.specs.declared.limits.TheConstants.{MOST_PLANS};
 ghost use Rattle.fab_desk_base.specs.Commands.{IsGiven};
 ghost use Rattle.fab_desk_base.specs.Effects.{with_plan, staged_plan};
-ghost use Rattle.fab_desk_base.specs.Trying.{IsMade, StaysSound, IsTryFault};
+ghost use Rattle.fab_desk_base.specs.Trying.{IsMade, IsTryFault};
 ghost use Rattle.fab_desk_base.specs.declared.command.Command.TheVariants.{Stage};
+ghost use Rattle.fab_desk_commands.specs.Trials.{IsSoundAfter};
 
 use crate::found::is_author;
 use fab_desk_base::{DeskFault, DeskLimit};
@@ -58,7 +59,7 @@ pub fn is_staged_already<A: Allocator + Copy>(
     requires { IsGiven (Stage plan.now steps.now) }
     ensures same { IfOk result (λ b. IsTrue b → IsMade world.now caller.now (Stage plan.now steps.now) world.now) }
     ensures new { IfOk result (λ b. b ≡ false → (map.contains_key world.now.plans plan.now ≡ false) × IsMade world.now caller.now (Stage plan.now steps.now) (with_plan plan.now (staged_plan caller.now steps.now.items) world.now)) }
-    ensures sound { IfOk result (λ b. b ≡ false → StaysSound world.now (Stage plan.now steps.now) (with_plan plan.now (staged_plan caller.now steps.now.items) world.now)) }
+    ensures sound { IfOk result (λ b. b ≡ false → IsSoundAfter world.now (Stage plan.now steps.now) (with_plan plan.now (staged_plan caller.now steps.now.items) world.now)) }
     ensures err { IfErr result (IsTryFault world.now caller.now (Stage plan.now steps.now)) }
 {
     if let Some(kept) = world.plans.get(plan) {

@@ -3,10 +3,11 @@ ghost use Rattle.std.specs.Prelude.{◌≡◌, ℕ, List, IfOk, IfErr};
 ghost use Rattle.std.specs.FinMap as map;
 ghost use Rattle.fab_names.specs.Orders.{name_cmp};
 ghost use Rattle.fab_desk_base.specs.Answers.{HasPlan};
-ghost use Rattle.fab_desk_base.specs.Trying.{IsMade, StaysSound, IsTryFault};
+ghost use Rattle.fab_desk_base.specs.Trying.{IsMade, IsTryFault};
 ghost use Rattle.fab_desk_base.specs.declared.command.Command.TheVariants.{Withdraw, Approve};
 ghost use Rattle.fab_desk_commands.specs.Nexts.{next_world, Suits};
 ghost use Rattle.fab_desk_commands.specs.Kinds.{IsTurn};
+ghost use Rattle.fab_desk_commands.specs.Trials.{IsSoundAfter};
 
 use crate::found::{is_author, staged_at};
 use crate::{Next, Turn};
@@ -25,7 +26,7 @@ pub fn withdrawn<A: Allocator + Copy>(world: &World<A>, plan: &Name) -> Result<N
     ensures ok { (caller : List ℕ) → IfOk result (λ next. IsMade {A = A.row.Denot} world.now caller (Withdraw plan.now) (next_world world.now next)) }
     ensures kind { IfOk result (IsTurn plan.now) }
     ensures suits { IfOk result (Suits world.now) }
-    ensures sound { IfOk result (λ next. StaysSound {A = A.row.Denot} world.now (Withdraw plan.now) (next_world world.now next)) }
+    ensures sound { IfOk result (λ next. IsSoundAfter {A = A.row.Denot} world.now (Withdraw plan.now) (next_world world.now next)) }
     ensures err { (caller : List ℕ) → IfErr result (IsTryFault {A = A.row.Denot} world.now caller (Withdraw plan.now)) }
 {
     match staged_at(world, plan) {
@@ -104,7 +105,7 @@ pub fn approved<A: Allocator + Copy>(
     ensures ok { IfOk result (λ next. IsMade {A = A.row.Denot} world.now caller.now (Approve plan.now) (next_world world.now next)) }
     ensures kind { IfOk result (IsTurn plan.now) }
     ensures suits { IfOk result (Suits world.now) }
-    ensures sound { IfOk result (λ next. StaysSound {A = A.row.Denot} world.now (Approve plan.now) (next_world world.now next)) }
+    ensures sound { IfOk result (λ next. IsSoundAfter {A = A.row.Denot} world.now (Approve plan.now) (next_world world.now next)) }
     ensures err { IfErr result (IsTryFault {A = A.row.Denot} world.now caller.now (Approve plan.now)) }
 {
     let kept = match staged_at(world, plan) {

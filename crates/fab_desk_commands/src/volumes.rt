@@ -5,9 +5,10 @@ ghost use Rattle.fab_world.specs.Soundness.{IsSound};
 ghost use Rattle.fab_desk_base.specs.Commands.{IsGiven};
 ghost use Rattle.fab_desk_base.specs.declared.command.Command.TheVariants.{PutVolume, DropVolume};
 ghost use Rattle.fab_desk_base.specs.Effects.{counted, with_inventory};
-ghost use Rattle.fab_desk_base.specs.Trying.{IsMade, StaysSound, IsTryFault};
+ghost use Rattle.fab_desk_base.specs.Trying.{IsMade, IsTryFault};
 ghost use Rattle.fab_desk_base.specs.Users.{IsVolumeUser};
 ghost use Rattle.fab_desk_commands.specs.Keeping.{IsMappedBy};
+ghost use Rattle.fab_desk_commands.specs.Trials.{IsSoundAfter};
 
 use crate::refusal::refusal;
 use fab_desk_base::{DeskFault, moved_volume_user, volume_user};
@@ -33,7 +34,7 @@ pub fn volume_put<A: Allocator + Copy>(
     requires sound { IsSound world.now }
     requires given { IsGiven {A = A} (PutVolume name.now volume.now) }
     ensures ok { (caller : List ℕ) → IfOk result (λ v. IsMade {A = A} world.now caller (PutVolume name.now volume.now) (counted (with_inventory v world.now))) }
-    ensures sound { IfOk result (λ v. StaysSound {A = A} world.now (PutVolume name.now volume.now) (counted (with_inventory v world.now))) }
+    ensures sound { IfOk result (λ v. IsSoundAfter {A = A} world.now (PutVolume name.now volume.now) (counted (with_inventory v world.now))) }
     ensures err { (caller : List ℕ) → IfErr result (IsTryFault {A = A} world.now caller (PutVolume name.now volume.now)) }
 {
     let Ok(mut next) = world.inventory.copy() else {
@@ -84,7 +85,7 @@ pub fn volume_dropped<A: Allocator + Copy>(
     requires sound { IsSound world.now }
     requires there { map.contains_key world.now.inventory.volumes name.now ≡ true }
     ensures ok { (caller : List ℕ) → IfOk result (λ v. IsMade {A = A} world.now caller (DropVolume name.now) (counted (with_inventory v world.now))) }
-    ensures sound { IfOk result (λ v. StaysSound {A = A} world.now (DropVolume name.now) (counted (with_inventory v world.now))) }
+    ensures sound { IfOk result (λ v. IsSoundAfter {A = A} world.now (DropVolume name.now) (counted (with_inventory v world.now))) }
     ensures err { (caller : List ℕ) → IfErr result (IsTryFault {A = A} world.now caller (DropVolume name.now)) }
 {
     if let Err(fault) = unmapped(world.config.mapping(), name) {

@@ -1,9 +1,9 @@
 -- What a command comes to.
-use Rattle.std.proofs.Common.{ℕ, ◌≡◌, ◌⊎◌, inl, inr, List, Option, None, Some, IsSome, MatchOption, refl, sym, ap, subst}
+use Rattle.std.proofs.Common.{ℕ, ◌≡◌, ◌⊎◌, inl, inr, List, slice_get, Option, None, Some, IsSome, MatchOption, refl, sym, ap, ◌∙◌, subst}
 use mathlib.Core.Bool.{true≢false}
 use Rattle.std.proofs.lemmas.Option.{same_Some, none-some}
 use Rattle.fab_policy.specs.declared.act.Verdict.TheVariants.{Allowed}
-use Rattle.fab_policy_base.specs.Policies.{PolicyRows}
+use Rattle.fab_policy_base.specs.Policies.{CallerRow, PolicyRows}
 use Rattle.fab_reach_base.specs.Records.{Records}
 use Rattle.fab_reach_base.specs.declared.book.Delta.{Delta}
 use Rattle.fab_world.specs.Soundness.{IsSound}
@@ -13,7 +13,7 @@ use Rattle.fab_desk_commands.specs.declared.next.Next.{Next}
 use Rattle.fab_desk_base.specs.Acts.{IsJudged}
 use Rattle.fab_desk_base.specs.Answers.{IsMove, IsReport, IsLeft, IsCarriedOut, IsOutcomeFor, IsAnswerTo, IsThere, HasPlan, IsStep}
 use Rattle.fab_desk_base.specs.Commands.{action_of, plan_of, IsGiven, IsStaging}
-use Rattle.fab_desk_base.specs.Refusals.{IsFirstFault}
+use Rattle.fab_desk_base.specs.Refusals.{IsEffect, IsFirstFault}
 use Rattle.fab_desk_base.specs.Trying.{IsTryFault}
 use Rattle.fab_desk_base.specs.declared.command.Command.{Command}
 use Rattle.fab_desk_base.specs.declared.command.Command.TheVariants.{Import, PutHolder, PutVolume, DropHolder, DropVolume, Stage, Withdraw, Approve, DryRun, Activate, Rollback, Show}
@@ -22,7 +22,7 @@ use Rattle.fab_desk_base.specs.declared.fault.DeskFault.{DeskFault}
 use Rattle.fab_desk_base.specs.declared.fault.DeskFault.TheVariants as fault
 use Rattle.fab_desk_base.specs.declared.reply.Reply.{Reply}
 use Rattle.fab_desk_base.specs.declared.reply.Reply.TheVariants as reply
-use Rattle.fab_desk_machine.specs.Proposals.{IsChangeFor, IsProposalFor, IsEnd, IsSenderOf, query_in, request_of}
+use Rattle.fab_desk_machine.specs.Proposals.{IsChangeFor, IsProposalFor, IsEffectOf, IsEnd, IsSenderOf, query_in, request_of}
 use Rattle.fab_desk_machine.specs.Reports.{reply_of, TellsOf, Tells}
 use Rattle.fab_desk_machine.proofs.TriedEffects.{no_policy}
 use Rattle.fab_desk_machine.specs.Trials.{effect_world, HasEffect, IsNewPlan, IsStepReady, dry_run_plan_of}
@@ -208,6 +208,12 @@ pub step_of : {A : Type 0} (p : PolicyRows) (w : WorldRows) (token : List ℕ) (
 step_of p w token moment c s (only, row, at) r new h =
     inr (s.id, row.0, only, row.1, subst (λ m. IsAnswerTo p w s.id row.0.name m c r new) at (subst (λ n. IsAnswerTo p w s.id n s.moment c r new) row.2 h))
 
+-- the effect of the request is that of the command of its sender
+pub sent_effect : {A : Type 0} (p : PolicyRows) (w : WorldRows) (token : List ℕ) (moment : ℕ) (c : Command A) (s : Sender) → IsSenderOf p token moment (Some s) → (v : WorldRows) → IsEffectOf p w (request_of token moment c) v → IsEffect w s.name c v
+sent_effect p w token moment c s (only, row, at) v (id, caller, has, there, is) =
+    let one : caller ≡ row.0 = same_Some caller row.0 (sym there ∙ ap (slice_get p.callers) (only.only id has.has) ∙ row.1) in
+    subst (λ n. IsEffect w n c v) (ap (λ (x : CallerRow). x.name) one ∙ sym row.2) is
+
 -- ---- the plan of a command
 
 -- the plan that a command is about is there, where what it is about is
@@ -224,6 +230,10 @@ plan_there w (DropHolder kind m) h n e = absurd (none-some n e)
 plan_there w (DropVolume m) h n e = absurd (none-some n e)
 plan_there w (Stage m steps) h n e = absurd (none-some n e)
 plan_there w (Show q) h n e = absurd (none-some n e)
+
+-- what holds of what is there
+pub something : {X : Type 0} (P : Type 0) (Q : X → Type 0) (o : Option X) (x : X) → o ≡ Some x → MatchOption o P Q → Q x
+something P Q o x some h = subst (λ y. MatchOption y P Q) some h
 
 -- what holds where there is nothing
 pub nothing : {X : Type 0} (P : Type 0) (Q : X → Type 0) (o : Option X) → o ≡ None → MatchOption o P Q → P

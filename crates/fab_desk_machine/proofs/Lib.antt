@@ -1,3 +1,4 @@
+pub mod StockLists
 pub mod TriedEffects
 pub mod WithinLimits
 pub mod Moving

@@ -1,10 +1,7 @@
 -- From what is tried to what has effect, by the two limits.
-use Rattle.std.proofs.Common.{ℕ, ◌≤◌, ◌<◌, inl, inr, List, Result, Ok, Err, IfErr, OnOk, sym, subst, arith}
-use Rattle.fab_reach_base.specs.Serving.{IsServing}
-use Rattle.fab_reach_base.specs.Soundness.{IsSoundBeside}
-use Rattle.fab_reach_base.proofs.Lawful.{serves}
+use Rattle.std.proofs.Common.{ℕ, ◌≤◌, ◌<◌, inl, inr, List, sym, subst, arith}
 use Rattle.fab_world.specs.Soundness.{IsSound}
-use Rattle.fab_world.specs.Worlds.{WorldRows, records_of}
+use Rattle.fab_world.specs.Worlds.{WorldRows}
 use Rattle.fab_world.specs.declared.limits.TheConstants.{MOST_CHANGES}
 use Rattle.fab_desk_base.specs.Commands.{tried}
 use Rattle.fab_desk_base.specs.Refusals.{HasManyPaths}
@@ -18,10 +15,6 @@ use Rattle.fab_desk_base.proofs.Tried.{done_of, many_paths, many_changes}
 use Rattle.fab_desk_machine.specs.Limits.{IsLimitFault}
 use Rattle.fab_desk_machine.specs.Trials.{effect_world, MayCount, IsTried, HasEffect}
 use Rattle.fab_desk_machine.specs.declared.effects.Effect.{Effect}
-
--- a book may stand at a sound world
-pub sound_serves : (w : WorldRows) → IsSound w → IsServing (records_of w)
-sound_serves w sound = let beside : IsSoundBeside w.inventory w.config = record { parts = sound.config.parts; fits = sound.fits } in serves (records_of w) beside
 
 module _ {A : Type 0} (w : WorldRows) (caller : List ℕ) (c : Command A) (e : Effect A) (h : IsTried w caller c e) where
   abbrev after : WorldRows
@@ -38,7 +31,7 @@ module _ {A : Type 0} (w : WorldRows) (caller : List ℕ) (c : Command A) (e : E
   has_effect sound few more = record {
     is = done_of w caller (tried c) after h.made few more;
     suits = h.suits (may_count more);
-    sound = h.sound sound few (may_count more);
+    sound = h.sound.sound sound few (may_count more);
   }
 
   pub paths_fault : (r : DeskFault) → IsLimitFault (fault.Limit Paths) (HasManyPaths after) r → IsTryFault w caller (tried c) r
@@ -48,12 +41,3 @@ module _ {A : Type 0} (w : WorldRows) (caller : List ℕ) (c : Command A) (e : E
   pub changes_fault : (r : DeskFault) → ¬ HasManyPaths after → IsLimitFault (fault.Limit Changes) (HasManyChanges w (tried c)) r → IsTryFault w caller (tried c) r
   changes_fault r few (inl is) = subst (IsTryFault w caller (tried c)) (sym is) tt
   changes_fault r few (inr (is, many)) = subst (IsTryFault w caller (tried c)) (sym is) (many_changes w caller (tried c) after h.made few many)
-
-  -- the two checks together
-  pub limits_ok : {X : Type 0} (r : Result X DeskFault) → IsSound w → ¬ HasManyPaths after → OnOk r (¬ HasManyChanges w (tried c)) → OnOk r (HasEffect w caller c e)
-  limits_ok (Ok x) sound few more = has_effect sound few more
-  limits_ok (Err q) sound few more = more
-
-  pub limits_err : {X : Type 0} (r : Result X DeskFault) → ¬ HasManyPaths after → IfErr r (IsLimitFault (fault.Limit Changes) (HasManyChanges w (tried c))) → IfErr r (IsTryFault w caller (tried c))
-  limits_err (Ok x) few f = f
-  limits_err (Err q) few f = changes_fault q few f

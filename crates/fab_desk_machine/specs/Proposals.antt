@@ -8,6 +8,7 @@ use Rattle.fab_world.specs.Soundness.{IsSound}
 use Rattle.fab_world.specs.Worlds.{WorldRows, records_of}
 use Rattle.fab_desk_commands.specs.Nexts.{next_world, Suits}
 use Rattle.fab_desk_base.specs.Answers.{IsMove, IsKept, IsDeniedWith, IsRefusedWith, IsCarriedOut, Request, IsStep, IsNobodys}
+use Rattle.fab_desk_base.specs.Refusals.{IsEffect}
 use Rattle.fab_desk_base.specs.declared.command.Command.{Command}
 use Rattle.fab_desk_base.specs.declared.command.Command.TheVariants.{Show}
 use Rattle.fab_desk_base.specs.declared.command.Query.{Query}
@@ -46,6 +47,25 @@ IsEnd p w id caller moment c r new =
     ((q : DeskFault) × (IsDeniedWith p w id caller moment c q ⊎ IsRefusedWith p w id caller moment c q) × IsKept w q r new)
     ⊎ IsCarriedOut p w id caller moment c r new
 
+-- ---- how many questions a book asks
+
+-- the reply says that the command was done, or what it would do
+abbrev pub IsAccepted : {A : Type 0} → Reply A → Type 0
+IsAccepted (reply.Refused q) = ⊥
+IsAccepted (reply.Shown s) = ⊥
+IsAccepted _ = Unit {0}
+
+-- the answer says so; or there is a change, of which the reply may say so
+abbrev pub MayAccept : {A R : Type 0} → Proposal A R → Type 0
+MayAccept (Answer r) = IsAccepted r
+MayAccept (Ready change) = Unit {0}
+
+-- the count went from the one number to the other, as a step may that leads from w to a world with P
+abbrev pub CountsStep : (Records → Records → ℕ → ℕ → Type 0) → WorldRows → (WorldRows → Type 0) → ℕ → ℕ → Type 0
+CountsStep bounds w P old new = (v : WorldRows) → P v → bounds (records_of w) (records_of v) old new
+
+-- ---- reads
+
 -- what a read asks for
 abbrev pub query_in : {A : Type 0} → Command A → Option Query
 query_in (Show q) = Some q
@@ -56,6 +76,10 @@ query_in _ = None
 -- the request
 abbrev pub request_of : {A : Type 0} → List ℕ → ℕ → Command A → Request A
 request_of token moment c = record { token = token; moment = moment; command = c }
+
+-- the effect of the request's command, of a dry run as of the activation
+abbrev pub IsEffectOf : {A : Type 0} → PolicyRows → WorldRows → Request A → WorldRows → Type 0
+IsEffectOf p w q v = (id : ℕ) × (caller : CallerRow) × IsOnlyWith p q.token id × (slice_get p.callers id ≡ Some caller) × IsEffect w caller.name q.command v
 
 -- the request as it is asked
 abbrev pub asked_of : {A : Type 0} → Asked A → Request A

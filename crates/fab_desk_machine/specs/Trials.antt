@@ -10,13 +10,14 @@ use Rattle.fab_store_world.specs.declared.inventories.InventoryDifference.{Inven
 use Rattle.fab_world.specs.Soundness.{IsSound}
 use Rattle.fab_world.specs.Worlds.{WorldRows, records_of}
 use Rattle.fab_world.specs.declared.limits.TheConstants.{MOST_CHANGES}
-use Rattle.fab_desk_commands.specs.Nexts.{next_world, Suits}
+use Rattle.fab_desk_commands.specs.Nexts.{next_world, Suits, TellsRows}
+use Rattle.fab_desk_commands.specs.Trials.{IsSoundAfter}
 use Rattle.fab_desk_commands.specs.declared.next.Next.{Next}
 use Rattle.fab_desk_commands.specs.declared.next.Next.TheVariants.{Same, Stock}
 use Rattle.fab_desk_base.specs.Commands.{is_counted, tried}
 use Rattle.fab_desk_base.specs.Effects.{staged_plan, with_plan}
 use Rattle.fab_desk_base.specs.Refusals.{IsEffect}
-use Rattle.fab_desk_base.specs.Trying.{IsMade, StaysSound}
+use Rattle.fab_desk_base.specs.Trying.{IsMade}
 use Rattle.fab_desk_base.specs.declared.command.Command.{Command}
 use Rattle.fab_desk_base.specs.declared.command.Command.TheVariants.{Stage, DryRun}
 use Rattle.fab_desk_base.specs.declared.fault.DeskFault.{DeskFault}
@@ -68,6 +69,11 @@ abbrev pub EffectSuits : {A : Type 0} → WorldRows → Command A → Effect A �
 EffectSuits w c (Parts next) = Suits w next
 EffectSuits w c NewPlan = IsNewPlan w c
 
+-- the effect tells the rows in which the inventory, or the configuration, differs
+abbrev pub EffectTells : {A : Type 0} → WorldRows → Effect A → Type 0
+EffectTells w (Parts next) = TellsRows w next
+EffectTells w NewPlan = Unit {0}
+
 -- there may be one change more, where the command counts as one
 abbrev pub MayCount : {A : Type 0} → WorldRows → Command A → Type 0
 MayCount w c = is_counted c ≡ true → w.revision < MOST_CHANGES
@@ -76,7 +82,8 @@ MayCount w c = is_counted c ≡ true → w.revision < MOST_CHANGES
 pub record IsTried {A : Type 0} (w : WorldRows) (caller : List ℕ) (c : Command A) (e : Effect A) : Type 0 where
   pub made : IsMade w caller (tried c) (effect_world w caller c e)
   pub suits : MayCount w (tried c) → EffectSuits w c e
-  pub sound : StaysSound w (tried c) (effect_world w caller c e)
+  pub tells : EffectTells w e
+  pub sound : IsSoundAfter w (tried c) (effect_world w caller c e)
 
 -- the command has the effect
 pub record HasEffect {A : Type 0} (w : WorldRows) (caller : List ℕ) (c : Command A) (e : Effect A) : Type 0 where

@@ -2,13 +2,13 @@
 ghost use Rattle.std.specs.Prelude.{◌≡◌, IfOk, OnErr, map};
 ghost use Rattle.fab_world.specs.Soundness.{IsSound};
 ghost use Rattle.fab_world.specs.Worlds.{records_of};
-ghost use Rattle.fab_desk_machine.specs.Proposals.{AreAnswered, IsAnswered, asked_of, request_of};
+ghost use Rattle.fab_desk_machine.specs.Proposals.{AreAnswered, CountsStep, IsAccepted, IsAnswered, IsEffectOf, asked_of, request_of};
 
 use crate::change::carry_through;
 use crate::proposing::{Proposal, propose};
 use fab_desk_base::{Command, Reply};
 use fab_policy_base::Policy;
-use fab_reach_base::PathBook;
+use fab_reach_books::PathBook;
 use fab_world::World;
 use std::alloc::{AllocError, Allocator};
 
@@ -36,6 +36,7 @@ pub fn answer<A: Allocator + Copy, B: PathBook<A>>(
     ensures sound { IsSound world.new }
     ensures stands { B.stands book.new (records_of world.new) }
     ensures answers { IsAnswered policy.now world.old (request_of token.now moment command) result world.new }
+    ensures bounds { IsAccepted result → CountsStep B.bounds world.old (IsEffectOf policy.now world.old (request_of token.now moment command)) (B.count book.old) (B.count book.new) }
 {
     match propose(alloc, world, book, policy, token, moment, command) {
         Proposal::Answer(reply) => reply,

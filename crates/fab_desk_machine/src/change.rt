@@ -13,7 +13,8 @@ ghost use Rattle.fab_desk_machine.specs.Trials.{IsStepReady};
 use crate::report::{Report, reply_with};
 use fab_desk_base::{DeskFault, Reply};
 use fab_desk_commands::Next;
-use fab_reach_base::{Delta, Path, PathBook};
+use fab_reach_base::{Delta, Path};
+use fab_reach_books::PathBook;
 use fab_world::World;
 use std::alloc::{AllocError, Allocator};
 
@@ -78,6 +79,7 @@ fn adopt<A: Allocator + Copy, B: PathBook<A>>(
 ) -> Delta<A>
     ensures stands { (old new : Records) → IsStepReady (B.leads book.old) old new step → B.stands book.old old → B.stands book.new new }
     ensures delta { (old new : Records) → IsStepReady (B.leads book.old) old new step → IsDelta old new result.gained.items result.lost.items }
+    ensures uncounted { B.count book.new ≡ B.count book.old }
 {
     match step {
         Some(ready) => book.adopt(ready),
@@ -100,6 +102,7 @@ pub fn take_over<A: Allocator + Copy, B: PathBook<A>>(
     ensures world { world.new ≡ next_world world.old change.next }
     ensures stands { B.stands book.new (records_of world.new) }
     ensures reply { (delta : Delta A) × (result ≡ reply_of change.report delta) × IsMove world.old world.new delta }
+    ensures uncounted { B.count book.new ≡ B.count book.old }
 {
     let delta = adopt(alloc, book, change.step);
     change.next.take_over(alloc, world);
@@ -120,6 +123,7 @@ pub fn carry_through<A: Allocator + Copy, B: PathBook<A>>(
     ensures stands { B.stands book.new (records_of world.new) }
     ensures done { (IsMemory result × (world.new ≡ world.old))
         ⊎ ((world.new ≡ next_world world.old change.next) × ((delta : Delta A) × (result ≡ reply_of change.report delta) × IsMove world.old world.new delta)) }
+    ensures uncounted { B.count book.new ≡ B.count book.old }
 {
     match change.next.make_room(alloc, world) {
         Ok(()) => take_over(alloc, change, world, book),

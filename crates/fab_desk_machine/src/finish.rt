@@ -12,7 +12,7 @@ ghost use Rattle.fab_desk_base.specs.Answers.{IsCarriedOut, IsDeniedWith, IsTher
 ghost use Rattle.fab_desk_base.specs.Commands.{action_of, tried};
 ghost use Rattle.fab_desk_base.specs.Refusals.{IsFirstFault};
 ghost use Rattle.fab_desk_base.specs.declared.reply.Reply.TheVariants as reply;
-ghost use Rattle.fab_desk_machine.specs.Proposals.{IsEnd, IsMemory, IsProposalFor};
+ghost use Rattle.fab_desk_machine.specs.Proposals.{IsAccepted, IsEnd, IsMemory, IsProposalFor};
 ghost use Rattle.fab_desk_machine.specs.Trials.{EffectSuits, IsNewPlan, IsPrepared, IsStepReady, dry_run_plan_of, effect_world, planned};
 
 use crate::change::{Change, lists_of};
@@ -25,7 +25,7 @@ use fab_desk_base::{Command, DeskFault, Reply};
 use fab_desk_commands::{Next, staged_next};
 use fab_names::Name;
 use fab_policy_base::Policy;
-use fab_reach_base::PathBook;
+use fab_reach_books::PathBook;
 use fab_world::World;
 use std::alloc::{AllocError, Allocator};
 use std::collections::BTreeSet;
@@ -42,7 +42,8 @@ pub fn turn_down<A: Allocator + Copy>(
     requires refused { IsFirstFault world.now sender.now.name (tried command.now) fault }
     requires there { (p : PolicyRows) (i : ℕ) → IsThere p world.now i command.now }
     requires change { IsSome (action_of command.now) }
-    ensures { IsMemory result ⊎ IsEnd policy.now world.now sender.now.id sender.now.name sender.now.moment command.now result world.now }
+    ensures end { IsMemory result ⊎ IsEnd policy.now world.now sender.now.id sender.now.name sender.now.moment command.now result world.now }
+    ensures refused { ¬ IsAccepted result }
 {
     let moved = BTreeSet::new(alloc);
     match denial(alloc, policy, world, sender, command, &moved) {

@@ -12,6 +12,7 @@ mod change;
 mod effects;
 mod finish;
 mod limits;
+mod moves;
 mod proposing;
 mod report;
 mod steps;

@@ -6,9 +6,10 @@ ghost use Rattle.fab_world.specs.Soundness.{IsSound};
 ghost use Rattle.fab_world.specs.Worlds.{records_of};
 ghost use Rattle.fab_desk_base.specs.Answers.{IsAnswerTo, IsStep, IsThere};
 ghost use Rattle.fab_desk_base.specs.Commands.{IsGiven, action_of};
+ghost use Rattle.fab_desk_base.specs.Refusals.{IsEffect};
 ghost use Rattle.fab_desk_base.specs.declared.command.Command.TheVariants as command;
 ghost use Rattle.fab_desk_base.specs.declared.fault.DeskFault.TheVariants as faults;
-ghost use Rattle.fab_desk_machine.specs.Proposals.{IsEnd, IsMemory, IsProposalFor, IsSenderOf, query_in, request_of};
+ghost use Rattle.fab_desk_machine.specs.Proposals.{CountsStep, IsAccepted, IsEffectOf, IsEnd, IsMemory, IsProposalFor, IsSenderOf, MayAccept, query_in, request_of};
 
 use crate::bodies::{is_given, is_there};
 use crate::change::Change;
@@ -18,7 +19,7 @@ use crate::verdicts::Sender;
 use fab_desk_base::{Command, DeskFault, Query, Reply};
 use fab_desk_reads::shown;
 use fab_policy_base::Policy;
-use fab_reach_base::PathBook;
+use fab_reach_books::PathBook;
 use fab_world::World;
 use std::alloc::Allocator;
 
@@ -62,7 +63,8 @@ fn read<A: Allocator + Copy, B: PathBook<A>>(
 ) -> Reply<A>
     requires sound { IsSound world.now }
     requires stands { B.stands book.now (records_of world.now) }
-    ensures { IsMemory result ⊎ IsAnswerTo policy.now world.now sender.now.id sender.now.name sender.now.moment (command.Show query.now) result world.now }
+    ensures answers { IsMemory result ⊎ IsAnswerTo policy.now world.now sender.now.id sender.now.name sender.now.moment (command.Show query.now) result world.now }
+    ensures read { ¬ IsAccepted result }
 {
     match shown(alloc, policy, world, book, sender.id, query) {
         Ok(Some(shown)) => Reply::Shown(shown),
@@ -87,6 +89,7 @@ fn end<A: Allocator + Copy, B: PathBook<A>>(
     requires change { IsSome (action_of command) }
     ensures stays { B.stands book.new (records_of world.now) }
     ensures proposes { IsProposalFor (B.leads book.new) (IsEnd policy.now world.now sender.now.id sender.now.name sender.now.moment command) world.now result }
+    ensures bounds { MayAccept result → CountsStep B.bounds world.now (IsEffect world.now sender.now.name command) (B.count book.old) (B.count book.new) }
 {
     match try_out(alloc, world, book, &sender.name, &command) {
         Ok(prepared) => carry_out(alloc, world, book, policy, sender, command, prepared),
@@ -113,6 +116,7 @@ fn act<A: Allocator + Copy, B: PathBook<A>>(
     requires change { IsSome (action_of command) }
     ensures stays { B.stands book.new (records_of world.now) }
     ensures proposes { IsProposalFor (B.leads book.new) (IsAnswerTo policy.now world.now sender.now.id sender.now.name sender.now.moment command) world.now result }
+    ensures bounds { MayAccept result → CountsStep B.bounds world.now (IsEffect world.now sender.now.name command) (B.count book.old) (B.count book.new) }
 {
     if !is_given(&command) {
         return Proposal::Answer(Reply::Refused(DeskFault::BadBody { line: 0 }));
@@ -136,6 +140,7 @@ fn answer_to<A: Allocator + Copy, B: PathBook<A>>(
     requires stands { B.stands book.old (records_of world.now) }
     ensures stays { B.stands book.new (records_of world.now) }
     ensures proposes { IsProposalFor (B.leads book.new) (IsAnswerTo policy.now world.now sender.now.id sender.now.name sender.now.moment command) world.now result }
+    ensures bounds { MayAccept result → CountsStep B.bounds world.now (IsEffect world.now sender.now.name command) (B.count book.old) (B.count book.new) }
 {
     match query_of(&command) {
         Some(query) => Proposal::Answer(read(alloc, world, book, policy, sender, &query)),
@@ -169,6 +174,9 @@ pub fn sender_of(policy: &Policy, token: &str, moment: u64) -> Option<Sender>
 /// (`NotFound`); a read, what it shows; the policy denies it (`Denied`); the first refusal of the
 /// records, the limits on paths and on changes the last of them; of a dry run the lists of paths
 /// that the activation gains and loses; else the change. Want of memory is answered `Memory`.
+///
+/// The count of the book's questions rises within the bounds of a step to the command's effect, where
+/// the command is done or its dry run is answered; of what is refused nothing is said of it.
 pub fn propose<A: Allocator + Copy, B: PathBook<A>>(
     alloc: A,
     world: &World<A>,
@@ -182,6 +190,7 @@ pub fn propose<A: Allocator + Copy, B: PathBook<A>>(
     requires stands { B.stands book.old (records_of world.now) }
     ensures stays { B.stands book.new (records_of world.now) }
     ensures proposes { IsProposalFor (B.leads book.new) (IsStep policy.now world.now (request_of token.now moment command)) world.now result }
+    ensures bounds { MayAccept result → CountsStep B.bounds world.now (IsEffectOf policy.now world.now (request_of token.now moment command)) (B.count book.old) (B.count book.new) }
 {
     match sender_of(policy, token, moment) {
         Some(sender) => answer_to(alloc, world, book, policy, &sender, command),

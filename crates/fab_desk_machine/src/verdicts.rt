@@ -10,14 +10,15 @@ ghost use Rattle.fab_desk_base.specs.Touching.{MovesTenant};
 ghost use Rattle.fab_desk_machine.specs.Trials.{HasEffect, IsPrepared, denied_of, effect_world};
 
 use crate::effects::Effect;
-use crate::limits::moved_view;
+use crate::moves::moved_view;
 use crate::steps::Prepared;
 use fab_desk_base::{Command, DeskFault};
 use fab_desk_verdicts::{judged, moved_tenants};
 use fab_names::Name;
 use fab_policy::Verdict;
 use fab_policy_base::{CallerId, Policy};
-use fab_reach_base::{Delta, PathBook, View};
+use fab_reach_base::{Delta, View};
+use fab_reach_books::PathBook;
 use fab_world::World;
 use std::alloc::{AllocError, Allocator};
 use std::collections::BTreeSet;

@@ -7,8 +7,8 @@ use fab_desk_base::Command;
 use fab_desk_machine::{Proposal, carry_through, lists_of, propose};
 use fab_desk_rows::next_changes;
 use fab_policy::Policy;
-use fab_reach::PortBook;
-use fab_reach_base::PathBook;
+use fab_reach::IndexBook;
+use fab_reach_books::PathBook;
 use fab_store_rows::TableRows;
 use fab_store_world::Changes;
 use fab_test_machine::{Ask, command, opened};
@@ -126,5 +126,5 @@ fn go_through<R: Abort + AllocGlobal, B: PathBook<Global>>(
 /// the turn says; and where a turn says no command or no change.
 pub fn tell<R: Abort + AllocGlobal>(rt: &R, turns: &[Turn]) {
     let policy = policy(rt);
-    go_through::<R, PortBook<Global>>(rt, &policy, turns);
+    go_through::<R, IndexBook<Global>>(rt, &policy, turns);
 }

@@ -11,8 +11,8 @@ use crate::small::{
 };
 use fab_desk_machine::{Change, Proposal, propose, take_over};
 use fab_policy::Policy;
-use fab_reach::PortBook;
-use fab_reach_base::PathBook;
+use fab_reach::IndexBook;
+use fab_reach_books::PathBook;
 use fab_test_alloc::Refusing;
 use fab_test_machine::{ADA, policy};
 use fab_world::World;
@@ -170,7 +170,7 @@ fn refuse<R: Abort + AllocGlobal>(
         policy,
     };
     let mut world = World::new(means.heap);
-    tried::<R, PortBook<Heap<'_>>>(rt, means, &mut world, case, requests)
+    tried::<R, IndexBook<Heap<'_>>>(rt, means, &mut world, case, requests)
 }
 
 /// How many requests of the case's command were answered with want of memory, until the command met
@@ -260,7 +260,7 @@ fn needs_no_memory<R: Abort + AllocGlobal>(rt: &R, case: &Case<'_>) -> bool {
         policy: &policy,
     };
     let mut world = World::new(means.heap);
-    taken_over::<R, PortBook<Heap<'_>>>(rt, means, &mut world, case) == case.came
+    taken_over::<R, IndexBook<Heap<'_>>>(rt, means, &mut world, case) == case.came
 }
 
 #[test]

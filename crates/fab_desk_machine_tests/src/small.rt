@@ -9,7 +9,7 @@ use fab_inventory::{HolderKind, Volume};
 use fab_names::{Fabric, Name, Wwn};
 use fab_plans_text::read_plan;
 use fab_policy::Policy;
-use fab_reach_base::PathBook;
+use fab_reach_books::PathBook;
 use fab_test_alloc::Refusing;
 use fab_test_machine::{ADA, FIRST_INITIATOR, FIRST_PLAN, FIRST_TARGET, opened};
 use fab_test_world::is_same;

@@ -5,7 +5,7 @@ ghost use Rattle.fab_desk_base.specs.Showing.{ShowsPaths};
 
 use fab_desk_base::Shown;
 use fab_names::Name;
-use fab_reach_base::PathBook;
+use fab_reach_books::PathBook;
 use std::alloc::{AllocError, Allocator};
 
 /// The paths of a host, by a book.

@@ -9,7 +9,7 @@ use crate::paths::paths_shown;
 use crate::records::recorded;
 use fab_desk_base::{Query, Shown};
 use fab_policy::{CallerId, Policy};
-use fab_reach_base::PathBook;
+use fab_reach_books::PathBook;
 use fab_world::World;
 use std::alloc::{AllocError, Allocator};
 

@@ -3,7 +3,7 @@
 use crate::lists::{List, all_turns};
 use fab_desk::Desk;
 use fab_desk_base::Reply;
-use fab_reach::PortBook;
+use fab_reach::IndexBook;
 use fab_store::{OpenFault, SqlStore, Store};
 use fab_test_machine::{Turn, command, is_told, policy};
 use sqlite::{Alter, Connection};
@@ -12,7 +12,7 @@ use std::process::Abort;
 use std::test::Fail;
 
 /// A desk over a store.
-pub type DeskOver<S> = Desk<Global, S, PortBook<Global>>;
+pub type DeskOver<S> = Desk<Global, S, IndexBook<Global>>;
 
 /// What was made. Ends the test where it was not.
 pub fn made<T>(rt: &impl Abort, made: Result<T, Fail>, wanted: &str) -> T {

@@ -1,10 +1,12 @@
 //! Tests of the desk over tables in memory: worked requests, with the tables read back after each;
-//! each call of the store refused in turn, and one of them in the midst of a list; what a store counts;
-//! plans rolled back; tables that somebody else has changed. And stops: its files are on two memory
-//! disks, one of which fails after so many calls; what is left is opened again, and serves on. Nothing
-//! here is part of the product.
+//! each call of the store refused in turn, and one of them in the midst of a list; what a store counts,
+//! and how many pairs a desk asks about; plans rolled back; tables that somebody else has changed. And
+//! stops: its files are on two memory disks, one of which fails after so many calls; what is left is
+//! opened again, and serves on. Nothing here is part of the product.
 #![tactic(auto)]
 
+#[cfg(test)]
+mod asked;
 #[cfg(test)]
 mod at_once;
 #[cfg(test)]

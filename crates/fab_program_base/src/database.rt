@@ -6,13 +6,13 @@ ghost use Rattle.fab_program_base.specs.Databases.{IsAgain, IsDeskOver, IsMade};
 use fab_policy_base::Policy;
 use fab_program_looks::of_opening;
 use fab_program_outside::{Fault, Files, is_free};
-use fab_reach::PortBook;
+use fab_reach::IndexBook;
 use fab_store::{OpenFault, Store};
 use fab_wire::Desk;
 use std::alloc::Global;
 
 /// The desk of the program over a store.
-pub type ProgramDesk<S> = Desk<Global, S, PortBook<Global>>;
+pub type ProgramDesk<S> = Desk<Global, S, IndexBook<Global>>;
 
 /// Where the tables of desks are found and made.
 pub trait Databases {

@@ -2,7 +2,7 @@
 
 use super::tables::are_same;
 use fab_policy_base::{Policy, TRIAL_POLICY};
-use fab_reach_base::PathBook;
+use fab_reach_books::PathBook;
 use fab_store::{SqlStore, Store};
 use fab_wire::{Desk, serve_one};
 use fab_wire_base::routes::Routes;

@@ -7,8 +7,8 @@
 
 use super::answers::{Asking, asking_of, is_given};
 use super::desks::{Asked, Trial, desk_of, made};
-use fab_reach::PortBook;
-use fab_reach_base::PathBook;
+use fab_reach::IndexBook;
+use fab_reach_books::PathBook;
 use fab_store::{SqlStore, Store};
 use fab_test_alloc::Refusing;
 use fab_test_wire::rows::{
@@ -169,7 +169,7 @@ fn try_over<R: Abort + AllocGlobal, S: Alter + Drop>(
     first: u64,
 ) -> Option<u64> {
     let tables = made(rt, tables);
-    try_at::<R, &Refusing<Global>, SqlStore<S>, PortBook<&Refusing<Global>>>(
+    try_at::<R, &Refusing<Global>, SqlStore<S>, IndexBook<&Refusing<Global>>>(
         rt, refusing, refusing, tables, case, first,
     )
 }

@@ -2,7 +2,7 @@
 //! none.
 
 use super::desks::{Asked, Trial, desk_of, made};
-use fab_reach::PortBook;
+use fab_reach_plain::PlainBook;
 use fab_store::SqlStore;
 use fab_test_alloc::Refusing;
 use sqlite::{Alter, Connection};
@@ -18,7 +18,7 @@ fn is_told(desk: &impl Asked) -> bool {
 fn is_quiet<R: Abort + AllocGlobal, S: Alter + Drop>(rt: &R, tables: SqlStore<S>) -> bool {
     let refusing = Refusing::new(rt.alloc());
     let tables = made(rt, tables);
-    let desk: Trial<&Refusing<Global>, SqlStore<S>, PortBook<&Refusing<Global>>> = desk_of(
+    let desk: Trial<&Refusing<Global>, SqlStore<S>, PlainBook<&Refusing<Global>>> = desk_of(
         rt, &refusing, tables,
     );
     refusing.refuse_after(0);

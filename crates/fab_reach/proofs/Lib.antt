@@ -1,11 +1,10 @@
-pub mod Telling
-pub mod Reached
-pub mod Pairs
-pub mod Bounding
-pub mod Holding
-pub mod Offering
-pub mod Covering
-pub mod Keeping
-pub mod BookPaths
-pub mod Staying
-pub mod Zones
+mod OfferLoops
+mod LooseLoops
+mod OfInitiators
+mod Regroups
+mod FoundMoves
+mod FoundPairs
+mod AskedPairs
+mod Few
+mod OwnRows
+mod AtMost

@@ -1,4 +1,1 @@
-pub mod Counting
-pub mod Offers
-pub mod Changes
-pub mod Covering
+pub mod Inner

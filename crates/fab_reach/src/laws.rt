@@ -1,16 +1,14 @@
-//! Whether a path is there can be told: a law is the contract of a function that does nothing.
-ghost use Rattle.std.specs.Prelude.{◌⊎◌, ℕ, List};
-ghost use Rattle.fab_reach_base.specs.Reach.{Reaches, ReachesFrom};
+//! Laws of the pairs to ask about: a law is the contract of a function that does nothing.
+ghost use Rattle.std.specs.Prelude.{ℕ, List, Bool};
+ghost use Rattle.std.specs.BTreeSet.{BTreeSet};
+ghost use Rattle.fab_names.specs.declared.fabric.Fabric.{Fabric};
 ghost use Rattle.fab_reach_base.specs.Records.{Records};
-ghost use Rattle.fab_reach_base.specs.declared.path.Path.{Path};
+ghost use Rattle.fab_reach_books.specs.Inner.Moving.{IsMoving};
+ghost use Rattle.fab_reach_moves.specs.Moves.{AreMoved, AreTouched, AreFlagged};
+ghost use Rattle.fab_reach.specs.Inner.Finding.{IsFound};
 
-/// A path is there in a world, or it is not: a search through the active rows, the storage groups and
-/// their host groups tells which.
-pub fn paths()
-    ensures { (w : Records) (x : Path) → Reaches w x ⊎ ¬ Reaches w x }
-{}
-
-/// The same of a path of a host.
-pub fn paths_of_hosts()
-    ensures { (w : Records) (host : List ℕ) (x : Path) → ReachesFrom w host x ⊎ ¬ ReachesFrom w host x }
+/// The pairs that are found by moved ports, touched storage groups and flags are those to ask about.
+pub fn found_pairs_are_moving()
+    ensures { (w v : Records) (moved : BTreeSet ℕ) (touched : BTreeSet (List ℕ)) (flagged : Fabric → Bool) → AreMoved w v moved → AreTouched w v touched → AreFlagged w v flagged
+        → (p q : ℕ) → (IsFound w v moved touched flagged p q → IsMoving w v p q) × (¬ IsFound w v moved touched flagged p q → ¬ IsMoving w v p q) }
 {}

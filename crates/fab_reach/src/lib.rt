@@ -1,23 +1,19 @@
-//! Which host ports reach which volumes: the book of paths that goes from world to world, a bound on
-//! paths that lists none of them, and the law that a path is there or is not.
-//!
-//! The book lists anew only the ports whose paths a change may have moved. A port keeps its paths
-//! where it is known as before, is in the same zones, and each exposed storage group of its host still
-//! offers what it offered, by targets that are known as before and in the same zones. So a step looks
-//! once through ports and through the parts of the mapping, and lists paths of the other ports alone.
+//! Which host ports reach which volumes, and the book of paths that goes from world to world: it asks
+//! about the pairs of ports that a step may touch alone, and counts its questions.
 #![tactic(auto)]
 
-mod book;
-mod counts;
-mod groups;
+mod asked;
+mod finding;
+mod index_book;
+mod initiators;
 pub mod laws;
-mod moving;
+mod loose;
 mod offers;
-mod ports;
+mod own_rows;
+mod regrouped;
 
-pub use book::{PortBook, PortStep};
 pub use fab_reach_base::{
-    Config, Delta, MOST_PATHS, Path, PathBook, PathsFault, PlainBook, PlainStep, View, all_paths,
-    few_paths, initiators, paths_from, paths_of, plain_paths, without,
+    Config, Delta, MOST_PATHS, Path, PathsFault, View, all_paths, few_paths, plain_paths,
 };
-pub use offers::offer_few_paths;
+pub use fab_reach_books::{PathBook, RowDiff, Sight, ViewSight, row_diff};
+pub use index_book::{IndexBook, IndexStep};

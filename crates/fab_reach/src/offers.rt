@@ -1,142 +1,172 @@
-//! How many paths storage groups offer at most.
-ghost use Rattle.std.specs.Prelude.{◌≡◌, ◌↔◌, ℕ, min, true, IsTrue, IfOk};
-ghost use Rattle.std.specs.FinMap as map;
-ghost use Rattle.fab_names.specs.declared.fabric.Fabric.{Fabric};
-ghost use Rattle.fab_inventory.specs.Inventories.{InventoryRows};
-ghost use Rattle.fab_mapping.specs.Mappings.{MappingRows};
-ghost use Rattle.fab_reach.specs.Counting.{Bounds};
-ghost use Rattle.fab_reach.specs.Offers.{AreOfHostGroups, IsTargetAt, OfGroup, Offers, OffersIn, PortIsAt};
-ghost use Rattle.fab_reach_base.specs.Limits.{MoreThan};
-ghost use Rattle.fab_reach_base.specs.Reach.{Reaches};
-ghost use Rattle.fab_reach_base.specs.Views.{seen};
-ghost use Rattle.fab_reach_base.specs.declared.listing.TheConstants.{MOST_PATHS};
+//! The pairs that storage groups offered before a step.
+ghost use Rattle.std.specs.Prelude.{◌≡◌, ◌↔◌, ℕ, List, Some, true, OnOk, IfOk};
+ghost use Rattle.std.specs.Option.{option_copied};
+ghost use Rattle.std.specs.Ordering.{nat_cmp};
+ghost use Rattle.std.specs.FinSet as set;
+ghost use Rattle.fab_lemmas.specs.MapsOfSets.{in_tree};
+ghost use Rattle.fab_names.specs.Orders.{name_cmp};
+ghost use Rattle.fab_reach_base.specs.Adding.{Adds};
+ghost use Rattle.fab_reach_base.specs.Gathering.{ServesBy, Serves};
+ghost use Rattle.fab_reach_books.specs.Inner.Sets.{HasPairIn, HasPortIn};
+ghost use Rattle.fab_reach_index.specs.Inner.Holding.{HoldsIn};
+ghost use Rattle.fab_reach.specs.Inner.Offering.{IsHostPort, IsPortServed, IsPortServedBy, IsPortServedAt};
 
-use crate::counts::{by_holder, by_host_group, count_of};
-use fab_inventory::Inventory;
-use fab_mapping::{Mapping, StorageGroup};
-use fab_names::{Fabric, Name, Wwn};
-use fab_reach_base::{MOST_PATHS, View};
+use fab_mapping::{HostGroup, Mapping, StorageGroup};
+use fab_names::{Name, Wwn};
+use fab_reach_index::{Index, add_held};
 use std::alloc::{AllocError, Allocator};
-use std::collections::BTreeMap;
+use std::collections::{BTreeMap, BTreeSet};
 
-/// The ports of the hosts that a storage group serves. A host of two of its host groups counts
-/// twice.
-fn of_group<A: Allocator + Copy>(counts: &BTreeMap<Name, u64, A>, group: &StorageGroup<A>) -> u64
-    ensures { (v : InventoryRows) (f : Fabric) (m : MappingRows) → AreOfHostGroups v f m counts.now → Bounds (OfGroup v f m group.now) result }
+/// Adds the ports that the hosts of a host group hold.
+fn add_hosts<A: Allocator + Copy>(
+    ports: &mut BTreeSet<Wwn, A>,
+    held: &BTreeMap<Name, BTreeSet<Wwn, A>, A>,
+    hosts: &HostGroup<A>,
+) -> Result<(), AllocError>
+    ensures { OnOk result (Adds (IsHostPort held.now hosts.now) (HasPortIn ports.old) (HasPortIn ports.new)) }
 {
-    let mut count: u64 = 0;
+    for host in hosts.hosts() {
+        add_held(ports, held, host)?;
+    }
+    Ok(())
+}
+
+/// Adds the ports that the hosts of the host group of this name hold, if there is one.
+fn add_hosts_of<A: Allocator + Copy>(
+    ports: &mut BTreeSet<Wwn, A>,
+    held: &BTreeMap<Name, BTreeSet<Wwn, A>, A>,
+    mapping: &Mapping<A>,
+    name: &Name,
+) -> Result<(), AllocError>
+    ensures { OnOk result (Adds (λ p. (h : List ℕ) × ServesBy mapping.now name.now h × HoldsIn held.now h p) (HasPortIn ports.old) (HasPortIn ports.new)) }
+{
+    if let Some(hosts) = mapping.host_group(name) {
+        add_hosts(ports, held, hosts)?;
+    }
+    Ok(())
+}
+
+/// Adds the ports of the hosts that a storage group serves.
+fn add_served<A: Allocator + Copy>(
+    ports: &mut BTreeSet<Wwn, A>,
+    held: &BTreeMap<Name, BTreeSet<Wwn, A>, A>,
+    mapping: &Mapping<A>,
+    group: &StorageGroup<A>,
+) -> Result<(), AllocError>
+    ensures { OnOk result (Adds (IsPortServed mapping.now held.now group.now) (HasPortIn ports.old) (HasPortIn ports.new)) }
+{
     for name in group.host_groups() {
-        count = count.saturating_add(count_of(counts, name));
+        add_hosts_of(ports, held, mapping, name)?;
     }
-    count
+    Ok(())
 }
 
-/// Whether the port is logged in at the fabric.
-fn port_is_at<A: Allocator + Copy>(inventory: &Inventory<A>, fabric: Fabric, name: &Wwn) -> bool
-    ensures { IsTrue result ↔ PortIsAt inventory.now fabric name.now }
-{
-    let Some(port) = inventory.port(name) else {
-        return false;
-    };
-    let Some((there, _place)) = port.at else {
-        return false;
-    };
-    there == fabric
-}
-
-/// The targets of a storage group that are logged in at the fabric.
-fn targets_at<A: Allocator + Copy>(
-    inventory: &Inventory<A>,
-    fabric: Fabric,
-    group: &StorageGroup<A>,
-) -> u64
-    ensures { Bounds (IsTargetAt inventory.now fabric group.now) result }
-{
-    let mut count: u64 = 0;
-    for target in group.targets() {
-        if port_is_at(inventory, fabric, target) {
-            count = count.saturating_add(1);
-        }
-    }
-    count
-}
-
-/// How many units a storage group has.
-fn units_of<A: Allocator + Copy>(group: &StorageGroup<A>) -> u64
-    ensures { result ≡ min (map.len group.now.units) 18446744073709551615 }
-{
-    let mut count: u64 = 0;
-    for (_unit, _volume) in group.units() {
-        count = count.saturating_add(1);
-    }
-    count
-}
-
-/// The paths that a storage group could give in the fabric.
-fn offered_by<A: Allocator + Copy>(
-    inventory: &Inventory<A>,
-    fabric: Fabric,
-    counts: &BTreeMap<Name, u64, A>,
-    group: &StorageGroup<A>,
-) -> u64
-    ensures { (m : MappingRows) → AreOfHostGroups inventory.now fabric m counts.now → Bounds (Offers inventory.now fabric m group.now) result }
-{
-    let ports = of_group(counts, group);
-    let targets = targets_at(inventory, fabric, group);
-    ports
-        .saturating_mul(targets)
-        .saturating_mul(units_of(group))
-}
-
-/// The paths that all exposed storage groups could give in the fabric.
-fn offered_with<A: Allocator + Copy>(
-    inventory: &Inventory<A>,
-    mapping: &Mapping<A>,
-    fabric: Fabric,
-    counts: &BTreeMap<Name, u64, A>,
-) -> u64
-    requires { AreOfHostGroups inventory.now fabric mapping.now counts.now }
-    ensures { Bounds (OffersIn inventory.now fabric mapping.now) result }
-{
-    let mut count: u64 = 0;
-    for (_name, group) in mapping.groups() {
-        if group.is_exposed() {
-            count = count.saturating_add(offered_by(inventory, fabric, counts, group));
-        }
-    }
-    count
-}
-
-/// The paths that all exposed storage groups could give in the fabric; the ports of their hosts are
-/// counted first.
-fn offered_in<A: Allocator + Copy>(
+/// The ports of the hosts that a storage group serves.
+pub fn served_ports<A: Allocator + Copy>(
     alloc: A,
-    inventory: &Inventory<A>,
+    held: &BTreeMap<Name, BTreeSet<Wwn, A>, A>,
     mapping: &Mapping<A>,
-    fabric: Fabric,
-) -> Result<u64, AllocError>
-    ensures { IfOk result (Bounds (OffersIn inventory.now fabric mapping.now)) }
+    group: &StorageGroup<A>,
+) -> Result<BTreeSet<Wwn, A>, AllocError>
+    ensures { IfOk result (λ ports. (p : ℕ) → HasPortIn ports p ↔ IsPortServed mapping.now held.now group.now p) }
 {
-    let held = by_holder(alloc, inventory, fabric)?;
-    let counts = by_host_group(alloc, &held, mapping)?;
-    Ok(offered_with(inventory, mapping, fabric, &counts))
+    let mut ports = BTreeSet::new(alloc);
+    add_served(&mut ports, held, mapping, group)?;
+    Ok(ports)
 }
 
-/// Whether the exposed storage groups offer so few paths that there can not be more than
-/// `MOST_PATHS`, whatever the zoning. Where they offer more there may be fewer all the same:
-/// `few_paths` tells. It lists no path, walks once through ports, hosts of host groups, and parts of
-/// storage groups for each fabric, and takes memory for a number by holder and by host group.
-///
-/// # Errors
-/// `AllocError` where there is no memory.
-pub fn offer_few_paths<A: Allocator + Copy>(
-    alloc: A,
-    view: &View<'_, A>,
-) -> Result<bool, AllocError>
-    ensures { IfOk result (λ few. IsTrue few → ¬ MoreThan MOST_PATHS (Reaches (seen view.now))) }
+/// Adds the pair of each of the initiators with the target.
+pub fn add_with_target<A: Allocator + Copy>(
+    pairs: &mut BTreeSet<(Wwn, Wwn), A>,
+    initiators: &BTreeSet<Wwn, A>,
+    target: Wwn,
+) -> Result<(), AllocError>
+    ensures { OnOk result (Adds (λ e. HasPortIn initiators.now e.0 × (e.1 ≡ target)) (HasPairIn pairs.old) (HasPairIn pairs.new)) }
 {
-    let mapping = view.config.mapping();
-    let a = offered_in(alloc, view.inventory, mapping, Fabric::A)?;
-    let b = offered_in(alloc, view.inventory, mapping, Fabric::B)?;
-    Ok(a.saturating_add(b) <= MOST_PATHS as u64)
+    for port in initiators {
+        pairs.insert((*port, target))?;
+    }
+    Ok(())
+}
+
+/// Adds the pair of the initiator with each of the targets.
+pub fn add_with_initiator<A: Allocator + Copy>(
+    pairs: &mut BTreeSet<(Wwn, Wwn), A>,
+    initiator: Wwn,
+    targets: &BTreeSet<Wwn, A>,
+) -> Result<(), AllocError>
+    ensures { OnOk result (Adds (λ e. HasPortIn targets.now e.1 × (e.0 ≡ initiator)) (HasPairIn pairs.old) (HasPairIn pairs.new)) }
+{
+    for port in targets {
+        pairs.insert((initiator, *port))?;
+    }
+    Ok(())
+}
+
+/// Adds the pairs of the target with the ports that the storage group of this name serves.
+fn add_served_by<A: Allocator + Copy>(
+    alloc: A,
+    pairs: &mut BTreeSet<(Wwn, Wwn), A>,
+    held: &BTreeMap<Name, BTreeSet<Wwn, A>, A>,
+    mapping: &Mapping<A>,
+    name: &Name,
+    target: Wwn,
+) -> Result<(), AllocError>
+    ensures { OnOk result (Adds (λ e. IsPortServedBy mapping.now held.now name.now e.0 × (e.1 ≡ target)) (HasPairIn pairs.old) (HasPairIn pairs.new)) }
+{
+    let Some(group) = mapping.group(name) else {
+        return Ok(());
+    };
+    let ports = served_ports(alloc, held, mapping, group)?;
+    add_with_target(pairs, &ports, target)?;
+    Ok(())
+}
+
+/// Adds the pairs of the target with the ports that the storage groups of these names serve.
+fn add_served_by_all<A: Allocator + Copy>(
+    alloc: A,
+    pairs: &mut BTreeSet<(Wwn, Wwn), A>,
+    held: &BTreeMap<Name, BTreeSet<Wwn, A>, A>,
+    mapping: &Mapping<A>,
+    names: &BTreeSet<Name, A>,
+    target: Wwn,
+) -> Result<(), AllocError>
+    ensures { OnOk result (Adds (λ e. (n : List ℕ) × (in_tree name_cmp (Some names.now) n ≡ true) × IsPortServedBy mapping.now held.now n e.0 × (e.1 ≡ target)) (HasPairIn pairs.old) (HasPairIn pairs.new)) }
+{
+    for name in names {
+        add_served_by(alloc, pairs, held, mapping, name, target)?;
+    }
+    Ok(())
+}
+
+/// Adds the pairs of the target that it was offered in.
+fn add_offered_to<A: Allocator + Copy>(
+    alloc: A,
+    pairs: &mut BTreeSet<(Wwn, Wwn), A>,
+    index: &Index<A>,
+    mapping: &Mapping<A>,
+    target: &Wwn,
+) -> Result<(), AllocError>
+    ensures { OnOk result (Adds (λ e. IsPortServedAt mapping.now index.now.held index.now.targeted target.now e.0 × (e.1 ≡ target.now)) (HasPairIn pairs.old) (HasPairIn pairs.new)) }
+{
+    if let Some(names) = index.targeted.get(target) {
+        add_served_by_all(alloc, pairs, &index.held, mapping, names, *target)?;
+    }
+    Ok(())
+}
+
+/// Adds the pairs that each of the targets was offered in.
+pub fn add_offered_to_all<A: Allocator + Copy>(
+    alloc: A,
+    pairs: &mut BTreeSet<(Wwn, Wwn), A>,
+    index: &Index<A>,
+    mapping: &Mapping<A>,
+    targets: &BTreeSet<Wwn, A>,
+) -> Result<(), AllocError>
+    ensures { OnOk result (Adds (λ e. HasPortIn targets.now e.1 × IsPortServedAt mapping.now index.now.held index.now.targeted e.1 e.0) (HasPairIn pairs.old) (HasPairIn pairs.new)) }
+{
+    for target in targets {
+        add_offered_to(alloc, pairs, index, mapping, target)?;
+    }
+    Ok(())
 }

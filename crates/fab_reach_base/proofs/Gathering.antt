@@ -23,7 +23,7 @@ use Rattle.fab_mapping.specs.Mappings.{MappingRows}
 use Rattle.fab_reach_base.specs.Adding.{Adds, AddsOnly}
 use Rattle.fab_reach_base.specs.Records.{Records}
 use Rattle.fab_reach_base.specs.Orders.{path_cmp, Has, IsListOf}
-use Rattle.fab_reach_base.specs.Reach.{IsPort, IsInitiator, IsTarget, PathOf, Reaches, ReachesFromAny}
+use Rattle.fab_reach_base.specs.Reach.{IsPort, IsInitiator, IsTarget, PathOf, Reaches}
 use Rattle.fab_reach_base.specs.Gathering.{Index, Lists, IsIndexOf, MayMeet, UnitPath, GroupPath, HasTarget, IsTargeted, PathFrom, StopsAt}
 use Rattle.fab_reach_base.specs.Limits.{MoreThan, IsPathsFault}
 use Rattle.fab_reach_base.proofs.PathOrder.{path_total, path_exact}
@@ -233,12 +233,6 @@ module _ (w : Records) where
       (λ x h.
       let k = known x.initiator h.from h.from_is in
       ((x.initiator, k.0), subst (λ ys. Contains ys (x.initiator, k.0)) (sym is) ((entry_decides nat_cmp nat_cmp_total set.nat_cmp-IsAntisymmetric w.inventory.ports x.initiator k.0).0 k.1), h))
-
-  -- the paths from some ports
-  pub from_added : (ports : BTreeSet ℕ) (ps : List ℕ) (old new : Path → Type 0) → ps ≡ ports.keys → Adds (Before (PathFrom w) ps) old new → Adds (ReachesFromAny w ports) old new
-  from_added ports ps old new is = adds_as (Before (PathFrom w) ps) (ReachesFromAny w ports) old new
-      (λ x h. (reaches_from h.0 x h.2, subst (λ p. IsTrue (contains nat_cmp ports p)) (sym h.2.initiator) ((btree_set_contains_iff nat_cmp_total set.nat_cmp-IsAntisymmetric ports h.0).1 (subst (λ ys. Contains ys h.0) is h.1))))
-      (λ x h. (x.initiator, subst (λ ys. Contains ys x.initiator) (sym is) ((btree_set_contains_iff nat_cmp_total set.nat_cmp-IsAntisymmetric ports x.initiator).0 h.1), h.0))
 
   -- what the paths of one pair add
   pub pair_of : (p q : ℕ) (port : Port) (old new : Path → Type 0) → IsPort w q port → Adds (PathOf w p port.name) old new → Adds (PathOf w p q) old new

@@ -2,10 +2,11 @@ pub mod Adding
 pub mod Books
 pub mod Gathering
 pub mod Lawful
-pub mod Owning
 pub mod PathOrder
+pub mod Reached
 pub mod Same
 pub mod SameLists
 pub mod Scanning
 pub mod Services
 pub mod Sets
+pub mod Telling

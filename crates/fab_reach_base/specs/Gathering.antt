@@ -16,7 +16,6 @@ use Rattle.fab_reach_base.specs.Records.{Records, zoning_at}
 use Rattle.fab_reach_base.specs.Reach.{IsTarget, PathOf, Reaches}
 use Rattle.fab_reach_base.specs.Adding.{AddsOnly}
 use Rattle.fab_reach_base.specs.Orders.{path_cmp, Has}
-use Rattle.fab_reach_base.specs.Owning.{Owners, AreInitiators}
 use Rattle.fab_reach_base.specs.declared.path.Path.{Path}
 use Rattle.fab_reach_base.specs.declared.listing.PathsFault.{PathsFault}
 use Rattle.fab_reach_base.specs.declared.listing.PathsFault.TheVariants.{TooMany, Memory}
@@ -73,10 +72,3 @@ PathFrom w p x = PathOf w p x.target x
 abbrev pub StopsAt : ℕ → (Path → Type 0) → BTreeSet Path → BTreeSet Path → PathsFault → Type 0
 StopsAt most Q s t TooMany = AddsOnly Q (Has s) (Has t) × IsOrdered path_cmp t × (most < length t.keys)
 StopsAt most Q s t Memory = Unit {0}
-
--- ---- a plain book
-
--- the paths and the initiators are those of the world
-pub record IsBookOf (w : Records) (paths : BTreeSet Path) (owners : Owners) : Type 0 where
-  pub paths_are : (x : Path) → Has paths x ↔ Reaches w x
-  pub owners_are : AreInitiators w owners

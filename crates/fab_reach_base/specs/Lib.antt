@@ -2,7 +2,6 @@ pub mod Records
 pub mod Views
 pub mod Orders
 pub mod Reach
-pub mod Owning
 pub mod Serving
 pub mod Soundness
 pub mod Books

@@ -1,7 +1,5 @@
 -- Which paths there are: reachability, pair by pair.
-use Rattle.std.specs.Prelude.{ℕ, ◌≡◌, List, Some, true, IsTrue}
-use Rattle.std.specs.BTreeSet.{BTreeSet, contains}
-use Rattle.std.specs.Ordering.{nat_cmp}
+use Rattle.std.specs.Prelude.{ℕ, ◌≡◌, List, Some, true}
 use Rattle.std.specs.FinMap as map
 use Rattle.std.specs.FinSet as set
 use Rattle.fab_names.specs.declared.fabric.Fabric.{Fabric}
@@ -64,10 +62,6 @@ Reaches w x = PathOf w x.initiator x.target x
 -- the path is there, and the host holds its initiator
 abbrev pub ReachesFrom : Records → List ℕ → Path → Type 0
 ReachesFrom w host x = Reaches w x × IsInitiatorOf w x.initiator host
-
--- the path is there, and its initiator is one of these ports
-abbrev pub ReachesFromAny : Records → BTreeSet ℕ → Path → Type 0
-ReachesFromAny w ports x = Reaches w x × IsTrue (contains nat_cmp ports x.initiator)
 
 -- ---- what is true of each path
 

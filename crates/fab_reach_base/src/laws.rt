@@ -1,16 +1,14 @@
-//! Laws of paths, and of books over many worlds: a law is the contract of a function that does
-//! nothing.
-ghost use Rattle.std.specs.Prelude.{◌≡◌, ◌<◌, ◌∷◌, ℕ, List, length, All, slice_index_or, IsTrue, ◌↔◌, IfErr, OnOk};
+//! Laws of paths: a law is the contract of a function that does nothing.
+ghost use Rattle.std.specs.Prelude.{◌≡◌, ◌↔◌, ◌⊎◌, ℕ, List, All, IsTrue};
 ghost use Rattle.fab_reach_base.specs.Records.{Records};
 ghost use Rattle.fab_reach_base.specs.Orders.{path_cmp, path_order, IsListOf};
-ghost use Rattle.fab_reach_base.specs.Reach.{Reaches, AreJoined, IsOffered};
+ghost use Rattle.fab_reach_base.specs.Reach.{AreJoined, IsOffered, Reaches, ReachesFrom};
 ghost use Rattle.fab_reach_base.specs.declared.path.Path.{Path};
 ghost use Rattle.fab_reach_base.specs.Views.{seen};
 ghost use Rattle.fab_reach_base.specs.Serving.{IsServing};
 ghost use Rattle.fab_reach_base.specs.Soundness.{IsSoundBeside};
 
 use crate::View;
-use crate::book::PathBook;
 use std::alloc::Allocator;
 
 /// Paths are ordered by fabric, initiator, target, volume, unit.
@@ -50,28 +48,13 @@ pub fn are_serving<A: Allocator + Copy>(worlds: &[View<'_, A>]) -> bool
     true
 }
 
-/// Advances a book through worlds, from the first on.
-///
-/// # Errors
-/// Where there is no memory, how many worlds it has gone through: the book stands at the last of
-/// them.
-pub fn advance_all<A: Allocator + Copy, B: PathBook<A>>(
-    book: &mut B,
-    first: &View<'_, A>,
-    rest: &[View<'_, A>],
-) -> Result<(), usize>
-    requires stands { B.stands book.old (seen first.now) }
-    requires sound { All (λ world. IsServing (seen world)) rest.now }
-    ensures ok { OnOk result (B.stands book.new (seen (slice_index_or (first.now ∷ rest.now) (length rest.now) first.now))) }
-    ensures err { IfErr result (λ gone. B.stands book.new (seen (slice_index_or (first.now ∷ rest.now) gone first.now))) }
-    ensures fewer { IfErr result (λ gone. gone < length rest.now) }
-{
-    let mut before = *first;
-    for (i, after) in rest.iter().enumerate() {
-        if book.advance(&before, after).is_err() {
-            return Err(i);
-        }
-        before = *after;
-    }
-    Ok(())
-}
+/// A path is there in a world, or it is not: a search through the active rows, the storage groups and
+/// their host groups tells which.
+pub fn paths()
+    ensures { (w : Records) (x : Path) → Reaches w x ⊎ ¬ Reaches w x }
+{}
+
+/// The same of a path of a host.
+pub fn paths_of_hosts()
+    ensures { (w : Records) (host : List ℕ) (x : Path) → ReachesFrom w host x ⊎ ¬ ReachesFrom w host x }
+{}

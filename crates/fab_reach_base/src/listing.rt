@@ -5,7 +5,7 @@ ghost use Rattle.std.specs.FinSet as set;
 ghost use Rattle.std.specs.Ordering.{nat_cmp};
 ghost use Rattle.fab_reach_base.specs.Adding.{Adds, AddsOnly};
 ghost use Rattle.fab_reach_base.specs.Orders.{Has, IsListOf};
-ghost use Rattle.fab_reach_base.specs.Reach.{IsPort, IsInitiator, IsTarget, PathOf, Reaches, ReachesFromAny};
+ghost use Rattle.fab_reach_base.specs.Reach.{IsPort, IsInitiator, IsTarget, PathOf, Reaches};
 ghost use Rattle.fab_reach_base.specs.Gathering.{Lists, IsIndexOf, MayMeet, UnitPath, GroupPath, HasTarget, IsTargeted, PathFrom, StopsAt};
 ghost use Rattle.fab_reach_base.specs.Limits.{IsPathsFault};
 ghost use Rattle.fab_reach_base.specs.declared.listing.TheConstants.{MOST_PATHS};
@@ -272,23 +272,6 @@ fn add_all<A: Allocator + Copy>(
     Ok(())
 }
 
-/// Adds the paths from each of these ports that is known.
-fn add_from<A: Allocator + Copy>(
-    alloc: A,
-    paths: &mut BTreeSet<Path, A>,
-    view: &View<'_, A>,
-    served: &BTreeMap<Name, BTreeSet<Name, A>, A>,
-    ports: &BTreeSet<Wwn, A>,
-) -> Result<(), PathsFault>
-    requires { IsIndexOf (seen view.now).config.mapping served.now }
-    ensures { OnOk result (Adds (ReachesFromAny (seen view.now) ports.now) (Has paths.old) (Has paths.new)) }
-{
-    for name in ports {
-        add_known(alloc, paths, view, served, usize::MAX, name)?;
-    }
-    Ok(())
-}
-
 /// The paths of a set, in order.
 ///
 /// # Errors
@@ -357,25 +340,6 @@ pub fn all_paths<A: Allocator + Copy>(
 {
     match gather(alloc, view, usize::MAX) {
         Ok(paths) => Ok(paths),
-        Err(_) => Err(AllocError),
-    }
-}
-
-/// The set of the paths of a world from these ports. Those that no host holds have none.
-///
-/// # Errors
-/// `AllocError` where there is no memory.
-pub fn paths_from<A: Allocator + Copy>(
-    alloc: A,
-    view: &View<'_, A>,
-    ports: &BTreeSet<Wwn, A>,
-) -> Result<BTreeSet<Path, A>, AllocError>
-    ensures { IfOk result (λ paths. (x : Path) → Has paths x ↔ ReachesFromAny (seen view.now) ports.now x) }
-{
-    let served = served_hosts(alloc, view.config.mapping())?;
-    let mut paths = BTreeSet::new(alloc);
-    match add_from(alloc, &mut paths, view, &served, ports) {
-        Ok(()) => Ok(paths),
         Err(_) => Err(AllocError),
     }
 }

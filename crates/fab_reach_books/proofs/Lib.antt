@@ -1,4 +1,7 @@
 pub mod Staying
 pub mod Bounds
 pub mod SetLoops
-mod RowsTold
+pub mod RowsTold
+pub mod Numbers
+mod GivenRows
+mod Limits

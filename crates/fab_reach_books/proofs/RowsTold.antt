@@ -103,7 +103,7 @@ module _ (v : Records) where
 -- ---- the configuration
 
 -- a row that is kept says the same
-same_row : (c : ConfigRow) (r : Row) (w : Records) → row_in c ≡ Some r → (rows.Stands w.config c → Stands w r) × (Stands w r → rows.Stands w.config c)
+pub same_row : (c : ConfigRow) (r : Row) (w : Records) → row_in c ≡ Some r → (rows.Stands w.config c → Stands w r) × (Stands w r → rows.Stands w.config c)
 same_row (config.Setting (setting.ActiveSet f n)) r w e = let f : ◌≡◌ {A = Option Row} None (Some r) = e in absurd cc
 same_row (config.Setting (setting.DefaultZone f p)) r w e = let s : row.DefaultZone f p ≡ r = cc in ((λ h. subst (Stands w) s h), λ h. subst (Stands w) (sym s) h)
 same_row (config.Zoning z) r w e = let f : ◌≡◌ {A = Option Row} None (Some r) = e in absurd cc
@@ -128,7 +128,7 @@ row_pushed xs k = record {
 -- ---- all rows
 
 -- the row of the configuration, where there is one
-in_config : (r : Row) → ((c : ConfigRow) × (row_in c ≡ Some r)) ⊎ (((p : Port) × (r ≡ row.Port p)) ⊎ ((h : HolderRow) × (r ≡ row.Holder h)))
+pub in_config : (r : Row) → ((c : ConfigRow) × (row_in c ≡ Some r)) ⊎ (((p : Port) × (r ≡ row.Port p)) ⊎ ((h : HolderRow) × (r ≡ row.Holder h)))
 in_config (row.Port p) = inr (inl (p, refl))
 in_config (row.Holder h) = inr (inr (h, refl))
 in_config (row.Active a) = inl (config.Active a, refl)
@@ -138,12 +138,12 @@ in_config (row.Part p) = inl (config.Part p, refl)
 
 module _ (w v : Records) (cs : List ConfigRow) (only : IsListOf row_order (StandsOnlyIn w.config v.config) cs) where
   -- the rows of the configuration that stand in w alone
-  kept_sound : (r : Row) → AreIn cs r → Stands w r × ¬ Stands v r
+  pub kept_sound : (r : Row) → AreIn cs r → Stands w r × ¬ Stands v r
   kept_sound r h =
       let o = only.sound h.0 h.1 in
       ((same_row h.0 r w h.2).0 o.there, λ s. o.not_there ((same_row h.0 r v h.2).1 s))
 
-  kept_there : (r : Row) (c : ConfigRow) → row_in c ≡ Some r → Stands w r → Stands v r ⊎ AreIn cs r
+  pub kept_there : (r : Row) (c : ConfigRow) → row_in c ≡ Some r → Stands w r → Stands v r ⊎ AreIn cs r
   kept_there r c is s = elim (stands_decided v.config c) [
     | inl t ↦ inl ((same_row c r v is).0 t)
     | inr n ↦ inr (c, only.complete c (record { there = (same_row c r w is).1 s; not_there = n }), is)

@@ -3,6 +3,9 @@ pub mod Affected
 pub mod Pairs
 pub mod KeyLaws
 pub mod Counts
+pub mod Numbers
+pub mod Limiting
+pub mod Stocks
 pub mod CountLaws
 pub mod Sights
 pub mod Inner

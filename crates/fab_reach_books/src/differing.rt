@@ -141,7 +141,7 @@ fn push_kept<A: Allocator + Copy>(rows: &mut Vec<Row, A>, row: &ConfigRow) -> Re
 }
 
 /// Puts those of the rows that paths follow from at the end.
-fn add_kept<A: Allocator + Copy>(
+pub fn add_kept<A: Allocator + Copy>(
     rows: &mut Vec<Row, A>,
     these: &[ConfigRow],
 ) -> Result<(), AllocError>

@@ -5,12 +5,16 @@
 mod book;
 mod differing;
 pub mod laws;
+mod limited;
 mod meter;
 mod row;
 mod sight;
+mod told_rows;
 
 pub use book::PathBook;
 pub use differing::row_diff;
+pub use limited::Limited;
 pub use meter::Meter;
 pub use row::{Row, RowDiff};
 pub use sight::{Sight, ViewSight};
+pub use told_rows::{StockRows, config_diff, stock_diff};

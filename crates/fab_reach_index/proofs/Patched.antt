@@ -48,3 +48,15 @@ module _ {A : Type 0} (v : Records) (old new : Index A) (kept : HaveSame old new
     serving = leads_as name_cmp name_cmp (IsHostGroupOf v) patch.serving old.serving new.serving kept.serving to.serving;
     rows = leads_as pair_cmp path_cmp (IsRowOf v) patch.rows old.rows new.rows kept.rows to.rows;
   }
+
+-- two steps that tell no look-up
+pub same_both : {A : Type 0} (old mid new : Index A) → HaveSame old mid → HaveSame mid new → HaveSame old new
+same_both old mid new a b = record {
+  zones = λ q k. b.zones q k ∙ a.zones q k;
+  ports = λ q k. b.ports q k ∙ a.ports q k;
+  groups = λ q k. b.groups q k ∙ a.groups q k;
+  held = λ q k. b.held q k ∙ a.held q k;
+  targeted = λ q k. b.targeted q k ∙ a.targeted q k;
+  serving = λ q k. b.serving q k ∙ a.serving q k;
+  rows = λ q k. b.rows q k ∙ a.rows q k;
+}

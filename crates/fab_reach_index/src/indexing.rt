@@ -4,7 +4,9 @@ ghost use Rattle.std.specs.FinSet as set;
 ghost use Rattle.std.specs.Ordering.{nat_cmp};
 ghost use Rattle.fab_names.specs.Orders.{name_cmp};
 ghost use Rattle.fab_reach_base.specs.Adding.{Adds};
-ghost use Rattle.fab_reach_base.specs.Orders.{path_cmp};
+ghost use Rattle.fab_reach_base.specs.Books.{AreReached};
+ghost use Rattle.fab_reach_base.specs.Orders.{Has, path_cmp};
+ghost use Rattle.fab_reach_base.specs.Records.{Records};
 ghost use Rattle.fab_reach_base.specs.Views.{seen};
 ghost use Rattle.fab_reach_index.specs.Indexes.{IsTreeOf, IsHostServed, IsHeldBy, IsTargetOf, IsHostGroupOf, IsRowOf};
 ghost use Rattle.fab_reach_books.specs.Pairs.{pair_cmp};
@@ -15,7 +17,7 @@ use crate::key::Key;
 use fab_inventory::Known;
 use fab_mapping::StorageGroup;
 use fab_names::{Name, Wwn};
-use fab_reach_base::{Path, View, all_paths, served_hosts};
+use fab_reach_base::{Path, View, served_hosts};
 use std::alloc::{AllocError, Allocator};
 use std::collections::{BTreeMap, BTreeSet};
 
@@ -210,15 +212,14 @@ fn add_paths<A: Allocator + Copy>(
     Ok(())
 }
 
-/// The paths of each pair.
+/// The paths of each pair, of all paths of a world.
 pub fn rows_of<A: Allocator + Copy>(
     alloc: A,
-    view: &View<'_, A>,
+    paths: &BTreeSet<Path, A>,
 ) -> Result<BTreeMap<(Wwn, Wwn), BTreeSet<Path, A>, A>, AllocError>
-    ensures { IfOk result (IsTreeOf pair_cmp path_cmp (IsRowOf (seen view.now))) }
+    ensures { (w : Records) → AreReached w (Has paths.now) → IfOk result (IsTreeOf pair_cmp path_cmp (IsRowOf w)) }
 {
-    let paths = all_paths(alloc, view)?;
     let mut rows = BTreeMap::new(alloc);
-    add_paths(alloc, &mut rows, &paths)?;
+    add_paths(alloc, &mut rows, paths)?;
     Ok(rows)
 }

@@ -1,12 +1,16 @@
 //! Books of paths, from world to world.
 
+use crate::counted::assert_tried;
 use crate::steps::{Act, change, empty};
 use crate::stock::{DB1, DB2, DB9, G1, V1, name, stock};
 use crate::ways::{Ways, assert_ways};
 use fab_inventory::Inventory;
-use fab_reach::PortBook;
-use fab_reach_base::laws::{advance_all, are_serving};
-use fab_reach_base::{Config, Delta, PathBook, PlainBook, View};
+use fab_reach::IndexBook;
+use fab_reach_base::laws::are_serving;
+use fab_reach_base::{Config, Delta, View};
+use fab_reach_books::PathBook;
+use fab_reach_books::laws::advance_all;
+use fab_reach_plain::PlainBook;
 use std::alloc::Global;
 use std::process::Abort;
 
@@ -53,8 +57,8 @@ const TURNS: &[Turn] = &[
     ),
 ];
 
-/// The lists of a step are those of the turn.
-fn assert_delta(rt: &impl Abort, delta: &Delta<Global>, changed: (Ways, Ways)) {
+/// The lists of a step are these: what it gains, and what it loses.
+pub fn assert_delta(rt: &impl Abort, delta: &Delta<Global>, changed: (Ways, Ways)) {
     assert_ways(rt, &delta.gained, changed.0);
     assert_ways(rt, &delta.lost, changed.1);
 }
@@ -84,8 +88,7 @@ fn assert_led_between<B: PathBook<Global>>(
     assert!(rt; before.is_serving());
     assert!(rt; after.is_serving());
     let mut book = B::open(rt.alloc(), before).expect(rt, "a book");
-    let ready = book.prepare(before, after).expect(rt, "a step");
-    assert_delta(rt, book.delta(&ready), turn.1);
+    assert_tried(rt, &mut book, before, after, turn.1);
     assert_hosts(rt, &book, old);
     let delta = book.advance(before, after).expect(rt, "a step");
     assert_delta(rt, &delta, turn.1);
@@ -123,8 +126,8 @@ fn plain_book_is_led(rt: HostRuntime) {
 }
 
 #[test]
-fn port_book_is_led(rt: HostRuntime) {
-    assert_led::<PortBook<Global>>(&rt, TURNS);
+fn index_book_is_led(rt: HostRuntime) {
+    assert_led::<IndexBook<Global>>(&rt, TURNS);
 }
 
 /// The configuration after the first so many turns.
@@ -201,6 +204,6 @@ fn plain_book_is_led_through(rt: HostRuntime) {
 }
 
 #[test]
-fn port_book_is_led_through(rt: HostRuntime) {
-    assert_led_through::<PortBook<Global>>(&rt);
+fn index_book_is_led_through(rt: HostRuntime) {
+    assert_led_through::<IndexBook<Global>>(&rt);
 }

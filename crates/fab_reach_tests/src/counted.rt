@@ -3,35 +3,44 @@
 ghost use Rattle.fab_reach_base.specs.Serving.{IsServing};
 ghost use Rattle.fab_reach_base.specs.Views.{seen};
 
+use crate::books::assert_delta;
 use crate::steps::{Act, Item, change, empty};
 use crate::stock::{
-    DB1, DB2, DB9, DISK, FIRST_INITIATOR, FIRST_TARGET, G1, G3, HOSTS1, S1, S2, SECOND_TARGET, V2,
-    Z1, Z2, name, stock,
+    DISK, FIRST_INITIATOR, FIRST_TARGET, G1, G3, HOSTS1, S1, S2, SECOND_TARGET, V2, Z1, Z2, list,
+    stock,
 };
-use crate::ways::{Ways, assert_ways};
+use crate::ways::Ways;
 use fab_inventory::Inventory;
-use fab_names::Fabric;
-use fab_reach_base::{Config, Delta, View};
+use fab_reach::IndexBook;
+use fab_reach_base::{Config, View};
 use fab_reach_books::{PathBook, ViewSight, row_diff};
-use fab_reach_pairs::IndexBook;
 use std::alloc::Global;
 use std::process::Abort;
 
-/// What is before a step, its acts, how many pairs it asks about, and what it gains and loses.
+/// How many ports the port list of fabric A has.
+const ALL: usize = 5;
+
+/// What is before a step, its acts, how many ports are listed by it, how many pairs it asks about, how
+/// many it affects, and what it gains and loses.
 struct Case {
     before: &'static [Act],
     acts: &'static [Act],
     asked: u64,
+    affected: u64,
+    listed: usize,
     gained: Ways,
     lost: Ways,
 }
 
-/// The worked rows on zones, on default zones, and on storage groups.
+/// The worked rows on zones, on default zones and on storage groups; a port list that is a header alone,
+/// and one that is as the list before.
 const CASES: &[Case] = &[
     Case {
         before: &[],
         acts: &[Act::First],
         asked: 1,
+        affected: 4,
+        listed: ALL,
         gained: Ways::One,
         lost: Ways::None,
     },
@@ -39,6 +48,8 @@ const CASES: &[Case] = &[
         before: &[Act::First],
         acts: &[Act::Alias(DISK, SECOND_TARGET)],
         asked: 0,
+        affected: 0,
+        listed: ALL,
         gained: Ways::None,
         lost: Ways::None,
     },
@@ -46,6 +57,8 @@ const CASES: &[Case] = &[
         before: &[Act::First, Act::Alias(DISK, SECOND_TARGET)],
         acts: &[Act::Activate(S1)],
         asked: 1,
+        affected: 6,
+        listed: ALL,
         gained: Ways::None,
         lost: Ways::One,
     },
@@ -57,6 +70,8 @@ const CASES: &[Case] = &[
             Act::Activate(S1),
         ],
         asked: 1,
+        affected: 4,
+        listed: ALL,
         gained: Ways::None,
         lost: Ways::None,
     },
@@ -69,6 +84,8 @@ const CASES: &[Case] = &[
         ],
         acts: &[Act::Set(S2, Z2, Z2), Act::Activate(S2)],
         asked: 1,
+        affected: 4,
+        listed: ALL,
         gained: Ways::None,
         lost: Ways::None,
     },
@@ -76,6 +93,8 @@ const CASES: &[Case] = &[
         before: &[Act::First],
         acts: &[Act::Permit, Act::Target(G1, SECOND_TARGET)],
         asked: 1,
+        affected: 6,
+        listed: ALL,
         gained: Ways::None,
         lost: Ways::None,
     },
@@ -86,6 +105,8 @@ const CASES: &[Case] = &[
             Act::Activate(S1),
         ],
         asked: 2,
+        affected: 2,
+        listed: ALL,
         gained: Ways::OtherTarget,
         lost: Ways::One,
     },
@@ -93,6 +114,8 @@ const CASES: &[Case] = &[
         before: &[Act::First],
         acts: &[Act::Second],
         asked: 3,
+        affected: 5,
+        listed: ALL,
         gained: Ways::Second,
         lost: Ways::None,
     },
@@ -106,6 +129,8 @@ const CASES: &[Case] = &[
             Act::Unmap(G1, 0),
         ],
         asked: 1,
+        affected: 1,
+        listed: ALL,
         gained: Ways::OtherVolume,
         lost: Ways::One,
     },
@@ -113,8 +138,19 @@ const CASES: &[Case] = &[
         before: &[Act::First],
         acts: &[Act::Copied],
         asked: 0,
+        affected: 0,
+        listed: ALL,
         gained: Ways::None,
         lost: Ways::None,
+    },
+    Case {
+        before: &[Act::First],
+        acts: &[],
+        asked: 1,
+        affected: 6,
+        listed: 0,
+        gained: Ways::None,
+        lost: Ways::One,
     },
 ];
 
@@ -132,20 +168,24 @@ fn changed(
     config
 }
 
-/// The lists of a step are these.
-fn assert_delta(rt: &impl Abort, delta: &Delta<Global>, gained: Ways, lost: Ways) {
-    assert_ways(rt, &delta.gained, gained);
-    assert_ways(rt, &delta.lost, lost);
+/// The inventory after an import of the first so many ports into fabric A.
+fn imported(
+    rt: &(impl Abort + AllocGlobal),
+    inventory: &Inventory<Global>,
+    count: usize,
+) -> Inventory<Global> {
+    let mut after = inventory.copy().expect(rt, "a copy");
+    list(&mut after, rt, count);
+    after
 }
 
 /// A book that stands at the first world makes the step to the second ready, and drops it.
-fn assert_tried<B: PathBook<Global>>(
+pub fn assert_tried<B: PathBook<Global>>(
     rt: &(impl Abort + AllocGlobal),
     book: &mut B,
     before: &View<'_, Global>,
     after: &View<'_, Global>,
-    gained: Ways,
-    lost: Ways,
+    lists: (Ways, Ways),
 )
     requires stands { B.stands book.old (seen before.now) }
     requires sound { IsServing (seen after.now) }
@@ -154,7 +194,8 @@ fn assert_tried<B: PathBook<Global>>(
     let diff = row_diff(rt.alloc(), before, after).expect(rt, "a difference");
     let mut sight = ViewSight::new(rt.alloc(), *after);
     let ready = book.prepare(before, &diff, &mut sight).expect(rt, "a step");
-    assert_delta(rt, book.delta(&ready), gained, lost);
+    assert!(rt; book.has_few(&ready));
+    assert_delta(rt, book.delta(&ready), lists);
 }
 
 /// A book that is opened at the first world is led to the second: the step is tried first. Gives how
@@ -163,83 +204,56 @@ fn questions<B: PathBook<Global>>(
     rt: &(impl Abort + AllocGlobal),
     before: &View<'_, Global>,
     after: &View<'_, Global>,
-    gained: Ways,
-    lost: Ways,
+    lists: (Ways, Ways),
 ) -> (u64, u64) {
     assert!(rt; before.is_serving());
     assert!(rt; after.is_serving());
     let mut book = B::open(rt.alloc(), before).expect(rt, "a book");
     assert!(rt; book.asked() == 0);
-    assert_tried(rt, &mut book, before, after, gained, lost);
+    assert_tried(rt, &mut book, before, after, lists);
     let tried = book.asked();
     let delta = book.advance(before, after).expect(rt, "a step");
-    assert_delta(rt, &delta, gained, lost);
+    assert_delta(rt, &delta, lists);
     (tried, book.asked())
 }
 
-/// A step of the case asks about so many pairs, where it is tried and where it is taken.
-fn assert_case(rt: &(impl Abort + AllocGlobal), inventory: &Inventory<Global>, case: &Case) {
-    let before = changed(rt, inventory, &empty(rt.alloc()), case.before);
-    let after = changed(rt, inventory, &before, case.acts);
-    let worlds = (View::of(inventory, &before), View::of(inventory, &after));
-    let asked = questions::<IndexBook<Global>>(rt, &worlds.0, &worlds.1, case.gained, case.lost);
+/// The step from one world to the other asks about as many pairs as the case says, where it is tried and
+/// where it is taken.
+fn assert_asked(
+    rt: &(impl Abort + AllocGlobal),
+    before: &View<'_, Global>,
+    after: &View<'_, Global>,
+    case: &Case,
+) {
+    let lists = (case.gained, case.lost);
+    let asked = questions::<IndexBook<Global>>(rt, before, after, lists);
     assert!(rt; asked.0 == case.asked);
     assert!(rt; asked.1 == case.asked.saturating_add(case.asked));
+    assert!(rt; asked.0 <= case.affected);
+}
+
+/// The same of the step of the case, from one inventory to the other.
+fn assert_step(
+    rt: &(impl Abort + AllocGlobal),
+    old: &Inventory<Global>,
+    new: &Inventory<Global>,
+    case: &Case,
+) {
+    let before = changed(rt, old, &empty(rt.alloc()), case.before);
+    let after = changed(rt, old, &before, case.acts);
+    assert_asked(rt, &View::of(old, &before), &View::of(new, &after), case);
+}
+
+/// The same of the case.
+fn assert_case(rt: &(impl Abort + AllocGlobal), case: &Case) {
+    let old = stock(rt);
+    let new = imported(rt, &old, case.listed);
+    assert_step(rt, &old, &new, case);
 }
 
 #[test]
 fn meter_bounds(rt: HostRuntime) {
-    let inventory = stock(&rt);
     for case in CASES {
-        assert_case(&rt, &inventory, case);
+        assert_case(&rt, case);
     }
-}
-
-/// The inventory after an import of a header alone into fabric A: nobody is logged in there.
-fn logged_out(rt: &(impl Abort + AllocGlobal), inventory: &Inventory<Global>) -> Inventory<Global> {
-    let mut bare = inventory.copy().expect(rt, "a copy");
-    bare.import(Fabric::A, &[]).expect(rt, "an import");
-    bare
-}
-
-#[test]
-fn header_is_counted(rt: HostRuntime) {
-    let inventory = stock(&rt);
-    let bare = logged_out(&rt, &inventory);
-    let config = changed(&rt, &inventory, &empty(rt.alloc()), &[Act::First]);
-    let worlds = (View::of(&inventory, &config), View::of(&bare, &config));
-    let asked = questions::<IndexBook<Global>>(&rt, &worlds.0, &worlds.1, Ways::None, Ways::One);
-    assert!(&rt; asked == (1, 2));
-}
-
-/// A book has these paths of a host.
-fn assert_host<B: PathBook<Global>>(rt: &impl Abort, book: &B, host: usize, ways: Ways) {
-    let paths = book.of_host(&name(rt, host)).expect(rt, "paths");
-    assert_ways(rt, &paths, ways);
-}
-
-/// A book that is opened after the first steps, and led through the second ones, has the paths of both
-/// hosts.
-fn assert_hosts<B: PathBook<Global>>(
-    rt: &(impl Abort + AllocGlobal),
-    before: &View<'_, Global>,
-    after: &View<'_, Global>,
-) {
-    assert!(rt; before.is_serving());
-    assert!(rt; after.is_serving());
-    let mut book = B::open(rt.alloc(), before).expect(rt, "a book");
-    assert_host(rt, &book, DB2, Ways::None);
-    let _delta = book.advance(before, after).expect(rt, "a step");
-    assert_host(rt, &book, DB1, Ways::One);
-    assert_host(rt, &book, DB2, Ways::Second);
-    assert_host(rt, &book, DB9, Ways::None);
-}
-
-#[test]
-fn paths_of_hosts(rt: HostRuntime) {
-    let inventory = stock(&rt);
-    let before = changed(&rt, &inventory, &empty(rt.alloc()), &[Act::First]);
-    let after = changed(&rt, &inventory, &before, &[Act::Second]);
-    let worlds = (View::of(&inventory, &before), View::of(&inventory, &after));
-    assert_hosts::<IndexBook<Global>>(&rt, &worlds.0, &worlds.1);
 }

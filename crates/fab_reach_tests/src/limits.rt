@@ -5,8 +5,10 @@ use crate::stock::{named, place, wwn};
 use fab_inventory::{HolderKind, Inventory, PortRow};
 use fab_mapping::Mapping;
 use fab_names::{Fabric, Wwn};
-use fab_reach::offer_few_paths;
+use fab_reach::IndexBook;
 use fab_reach_base::{Config, PathsFault, View, few_paths, plain_paths};
+use fab_reach_books::{Limited, PathBook, ViewSight, row_diff};
+use fab_reach_plain::PlainBook;
 use fab_zoning::DefaultFlag;
 use std::alloc::Global;
 use std::process::Abort;
@@ -176,20 +178,6 @@ fn few(
     }
 }
 
-/// The listing under the limit has so many paths, or none where there are too many; and it is told
-/// as it is, without a listing, whether no more paths are offered than there may be.
-fn assert_few(
-    rt: &(impl Abort + AllocGlobal),
-    inventory: &Inventory<Global>,
-    config: &Config<Global>,
-    count: Option<usize>,
-    offered: bool,
-) {
-    assert_eq!(rt; few(rt, inventory, config), count);
-    let told = offer_few_paths(rt.alloc(), &View::of(inventory, config)).expect(rt, "memory");
-    assert!(rt; told == offered);
-}
-
 /// Initiators, volumes, how many paths there are then, and how many of them are listed under the
 /// limit.
 type Case = (u64, u16, usize, Option<usize>);
@@ -200,11 +188,62 @@ const CASES: &[Case] = &[
     (63, 33, 66_528, None),
 ];
 
-/// Both calls list so many paths, and the third tells whether there may be.
+/// A book that stands at a world without paths makes the step to the second ready, and tells whether
+/// there are few paths then.
+fn assert_step<B: PathBook<Global>>(
+    rt: &(impl Abort + AllocGlobal),
+    before: &View<'_, Global>,
+    after: &View<'_, Global>,
+    few: bool,
+) {
+    assert!(rt; before.is_serving());
+    assert!(rt; after.is_serving());
+    let mut book = B::open(rt.alloc(), before).expect(rt, "a book");
+    let diff = row_diff(rt.alloc(), before, after).expect(rt, "a difference");
+    let mut sight = ViewSight::new(rt.alloc(), *after);
+    let ready = book.prepare(before, &diff, &mut sight).expect(rt, "a step");
+    assert!(rt; book.has_few(&ready) == few);
+}
+
+/// Over a sight that stops past the limit the step is made ready just where there are few paths.
+fn assert_stop<B: PathBook<Global>>(
+    rt: &(impl Abort + AllocGlobal),
+    before: &View<'_, Global>,
+    after: &View<'_, Global>,
+    few: bool,
+) {
+    assert!(rt; before.is_serving());
+    assert!(rt; after.is_serving());
+    let mut book = B::open(rt.alloc(), before).expect(rt, "a book");
+    let diff = row_diff(rt.alloc(), before, after).expect(rt, "a difference");
+    let mut sight = Limited::new(rt.alloc(), ViewSight::new(rt.alloc(), *after));
+    let ready = book.prepare(before, &diff, &mut sight);
+    assert!(rt; ready.is_ok() == few);
+    assert!(rt; sight.is_over() != few);
+}
+
+/// It is told whether there are few paths after the step from the world of the host without a group to
+/// this one: by a sight that stops, and by the plain book.
+fn assert_told(
+    rt: &(impl Abort + AllocGlobal),
+    inventory: &Inventory<Global>,
+    config: &Config<Global>,
+    few: bool,
+) {
+    let bare = empty(rt.alloc());
+    let worlds = (View::of(inventory, &bare), View::of(inventory, config));
+    assert_stop::<IndexBook<Global>>(rt, &worlds.0, &worlds.1, few);
+    if !few {
+        assert_step::<PlainBook<Global>>(rt, &worlds.0, &worlds.1, few);
+    }
+}
+
+/// Both calls list so many paths, and the books tell whether there may be.
 fn assert_case(rt: &(impl Abort + AllocGlobal), case: Case) {
     let inventory = world(rt, case.0);
     let config = permitting(rt, &inventory, case.1);
-    assert_few(rt, &inventory, &config, case.3, case.3.is_some());
+    assert_eq!(rt; few(rt, &inventory, &config), case.3);
+    assert_told(rt, &inventory, &config, case.3.is_some());
     let paths = plain_paths(rt.alloc(), &inventory, &config).expect(rt, "paths");
     assert_eq!(rt; paths.len(), case.2);
 }
@@ -216,48 +255,56 @@ fn paths_limit(rt: HostRuntime) {
     }
 }
 
-/// What is done to a world that has too many paths, so that it has none.
-#[derive(Clone, Copy)]
-enum Turn {
-    /// The group is hidden.
-    Hide,
-    /// The targets go to fabric B, and the initiators stay in fabric A.
-    Part,
-    /// The default zone denies.
-    Deny,
+/// A book that stands at as many paths as there may be tells of the step that the turn makes whether
+/// there are few paths then.
+fn assert_full(rt: &(impl Abort + AllocGlobal), act: Turn, few: bool) {
+    let inventory = world(rt, 64);
+    let before = permitting(rt, &inventory, 32);
+    let mut after = before.copy().expect(rt, "a copy");
+    make_turn(&mut after, rt, &inventory, act);
+    let worlds = (View::of(&inventory, &before), View::of(&inventory, &after));
+    assert_step::<IndexBook<Global>>(rt, &worlds.0, &worlds.1, few);
 }
 
-/// Turns, each with whether few paths are offered then. Zones are not asked.
-const TURNS: &[(Turn, bool)] = &[(Turn::Hide, true), (Turn::Part, true), (Turn::Deny, false)];
+/// What is done to a world that has as many paths as there may be.
+#[derive(Clone, Copy)]
+enum Turn {
+    /// One volume more is mapped.
+    More,
+    /// One volume takes the place of another.
+    Swap,
+}
+
+/// Turns, each with whether there are few paths then.
+const TURNS: &[(Turn, bool)] = &[(Turn::More, false), (Turn::Swap, true)];
 
 /// Makes the turn.
 fn make_turn(
-    inventory: &mut Inventory<Global>,
     config: &mut Config<Global>,
-    rt: &(impl Abort + AllocGlobal),
+    rt: &impl Abort,
+    inventory: &Inventory<Global>,
     turn: Turn,
 ) {
+    let group = named(rt, "g");
+    let other = named(rt, "v32");
     match turn {
-        Turn::Hide => config
+        Turn::More => config
             .mapping
-            .hide(&named(rt, "g"))
-            .expect(rt, "a hidden group"),
-        Turn::Part => list(inventory, rt, Fabric::B, 65, 97),
-        Turn::Deny => config.a.set_default(DefaultFlag::Deny),
+            .map(&group, 32, &other, inventory)
+            .expect(rt, "a unit"),
+        Turn::Swap => {
+            config.mapping.unmap(&group, 0).expect(rt, "a unit");
+            config
+                .mapping
+                .map(&group, 0, &other, inventory)
+                .expect(rt, "a unit");
+        }
     }
 }
 
-/// After the turn there is no path, and it is told as it is whether few are offered.
-fn assert_bare(rt: &(impl Abort + AllocGlobal), turn: Turn, offered: bool) {
-    let mut inventory = world(rt, 63);
-    let mut config = permitting(rt, &inventory, 33);
-    make_turn(&mut inventory, &mut config, rt, turn);
-    assert_few(rt, &inventory, &config, Some(0), offered);
-}
-
 #[test]
-fn paths_offered(rt: HostRuntime) {
-    for &(turn, offered) in TURNS {
-        assert_bare(&rt, turn, offered);
+fn full_book_is_led(rt: HostRuntime) {
+    for &(turn, few) in TURNS {
+        assert_full(&rt, turn, few);
     }
 }

@@ -14,8 +14,8 @@ use Rattle.fab_lemmas.specs.MapsOfSets.{has}
 use Rattle.fab_mapping_base.specs.Groups.{HostGroupRows, StorageGroupRows}
 use Rattle.fab_mapping.specs.Mappings.{MappingRows}
 use Rattle.fab_reach_base.specs.Records.{ConfigRows, zoning_at}
-use Rattle.fab_reach.proofs.Reached.{path_of_told}
-use Rattle.fab_reach.proofs.Telling.{Told, both, all_three, either, negated, as_told, same_by, in_list, at_key}
+use Rattle.fab_reach_base.proofs.Reached.{path_of_told}
+use Rattle.fab_reach_base.proofs.Telling.{Told, both, all_three, either, negated, as_told, same_by, in_list, at_key}
 use Rattle.fab_store_rows.specs.PlanEntries.{PlanEntry}
 use Rattle.fab_store_rows.specs.Standing.{IsSetting, HasItem, IsHostHead, IsStorageHead, IsGroup, HasPart, IsPart, holder_of, volume_of}
 use Rattle.fab_store_rows.specs.declared.config_row.ConfigRow.{ConfigRow}

@@ -6,7 +6,7 @@ use Rattle.fab_store_columns.proofs.UniqueConfig.{one_meta, one_zoning, one_acti
 use Rattle.fab_store_columns.proofs.UniquePlan.{one_plan}
 use Rattle.fab_store_load.specs.declared.fault.Table.{Table}
 use Rattle.fab_store_load.specs.declared.fault.Table.TheVariants as table
-use Rattle.fab_reach.proofs.Telling.{Told}
+use Rattle.fab_reach_base.proofs.Telling.{Told}
 use Rattle.fab_store_rows.specs.declared.config_row.ConfigRow.TheVariants as config
 use Rattle.fab_store_base.proofs.Columns as columns
 use Rattle.fab_store_base.proofs.Columns.{IsToldByColumns}

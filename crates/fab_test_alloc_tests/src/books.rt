@@ -2,8 +2,10 @@
 //! exposed.
 use crate::worlds::{Heap, INITIATOR, TARGET, World, name};
 use fab_names::{Fabric, Wwn};
-use fab_reach::PortBook;
-use fab_reach_base::{Delta, Path, PathBook, PlainBook, View};
+use fab_reach::IndexBook;
+use fab_reach_base::{Delta, Path, View};
+use fab_reach_books::{PathBook, ViewSight, row_diff};
+use fab_reach_plain::PlainBook;
 use std::process::Abort;
 
 /// Whether it is the path of the host to its volume.
@@ -107,7 +109,11 @@ fn is_led<'a, B: PathBook<Heap<'a>>>(
     let Ok(mut book) = B::open(means.heap, &before) else {
         return false;
     };
-    match book.prepare(&before, &after) {
+    let Ok(diff) = row_diff(means.heap, &before, &after) else {
+        return false;
+    };
+    let mut sight = ViewSight::new(means.heap, after);
+    match book.prepare(&before, &diff, &mut sight) {
         Ok(ready) => takes(rt, means, &mut book, ready),
         Err(_) => {
             assert!(rt; has(rt, &book, false));
@@ -120,14 +126,14 @@ fn is_led<'a, B: PathBook<Heap<'a>>>(
 /// is no memory.
 pub fn opens<'a>(rt: &impl Abort, heap: Heap<'a>, world: &World<'a>) -> bool {
     let plain = is_opened::<PlainBook<Heap<'a>>>(rt, heap, world);
-    let by_ports = is_opened::<PortBook<Heap<'a>>>(rt, heap, world);
-    plain && by_ports
+    let by_pairs = is_opened::<IndexBook<Heap<'a>>>(rt, heap, world);
+    plain && by_pairs
 }
 
 /// Leads a new book of each kind from a world without a path to one that has the path of the host; not
 /// so where there is no memory.
 pub fn leads<'a>(rt: &impl Abort, means: Means<'a>, before: &World<'a>, after: &World<'a>) -> bool {
     let plain = is_led::<PlainBook<Heap<'a>>>(rt, means, before, after);
-    let by_ports = is_led::<PortBook<Heap<'a>>>(rt, means, before, after);
-    plain && by_ports
+    let by_pairs = is_led::<IndexBook<Heap<'a>>>(rt, means, before, after);
+    plain && by_pairs
 }

@@ -9,8 +9,9 @@ use crate::replies::tell;
 use fab_desk_base::Reply;
 use fab_desk_machine::answer;
 use fab_policy::Policy;
-use fab_reach::PortBook;
-use fab_reach_base::{PathBook, View};
+use fab_reach::IndexBook;
+use fab_reach_base::View;
+use fab_reach_books::PathBook;
 use fab_world::World;
 use std::alloc::{Allocator, Global};
 use std::test::Fail;
@@ -122,7 +123,7 @@ fn is_kept<B: PathBook<Global>>(
 pub fn holds(alloc: Global, stages: &[&[Turn]]) -> Result<bool, Fail> {
     let policy = policy(alloc)?;
     let mut world = World::new(alloc);
-    is_kept::<PortBook<Global>>(alloc, &policy, &mut world, stages)
+    is_kept::<IndexBook<Global>>(alloc, &policy, &mut world, stages)
 }
 
 /// Whether a desk with this world answers each turn of these lists as it says, one list after the
@@ -139,5 +140,5 @@ pub fn holds_in(
         return Err(Fail::from("world"));
     }
     let policy = policy(alloc)?;
-    is_kept::<PortBook<Global>>(alloc, &policy, world, stages)
+    is_kept::<IndexBook<Global>>(alloc, &policy, world, stages)
 }

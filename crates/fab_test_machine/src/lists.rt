@@ -8,8 +8,8 @@ use crate::policies::policy;
 use fab_desk_base::Reply;
 use fab_desk_machine::{Asked, answer_all};
 use fab_policy::Policy;
-use fab_reach::PortBook;
-use fab_reach_base::PathBook;
+use fab_reach::IndexBook;
+use fab_reach_books::PathBook;
 use fab_world::World;
 use std::alloc::Global;
 use std::test::Fail;
@@ -107,5 +107,5 @@ fn are_kept<B: PathBook<Global>>(
 pub fn holds_at_once(alloc: Global, stages: &[&[Turn]]) -> Result<bool, Fail> {
     let policy = policy(alloc)?;
     let mut world = World::new(alloc);
-    are_kept::<PortBook<Global>>(alloc, &policy, &mut world, stages)
+    are_kept::<IndexBook<Global>>(alloc, &policy, &mut world, stages)
 }

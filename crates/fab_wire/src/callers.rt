@@ -3,7 +3,7 @@
 ghost use Rattle.std.specs.Prelude.{◌≡◌};
 
 use fab_desk::Desk;
-use fab_reach_base::PathBook;
+use fab_reach_books::PathBook;
 use fab_store_base::Store;
 use fab_wire_base::callers::Callers;
 use std::alloc::Allocator;

@@ -11,7 +11,7 @@ use crate::outcome::Outcome;
 use crate::serving::serve_one;
 use fab_desk::Desk;
 use fab_desk_base::steps_are_done;
-use fab_reach_base::PathBook;
+use fab_reach_books::PathBook;
 use fab_store_base::Store;
 use fab_wire_base::routes::Routes;
 use fab_wire_streams::counted::Counted;

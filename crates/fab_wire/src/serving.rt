@@ -13,7 +13,7 @@ use crate::callers::KnownTo;
 use crate::outcome::Outcome;
 use fab_desk::Desk;
 use fab_desk_base::{Command, DeskFault, Reply};
-use fab_reach_base::PathBook;
+use fab_reach_books::PathBook;
 use fab_store_base::Store;
 use fab_wire_answers::answers::{Answer, Told, tell};
 use fab_wire_base::hear::{Asked, Heard, hear};

@@ -3,6 +3,7 @@
 
 use crate::desks::MemoryDesk;
 use crate::scenarios::Exchange;
+use fab_reach::PathBook;
 use fab_test_wire::streams::{Breaking, Slow};
 use fab_wire::laws::{Connection, Served};
 use fab_wire::{Outcome, serve_one};
@@ -140,10 +141,10 @@ pub fn connection_of(alloc: Global, exchange: &Exchange, reads: usize, end: End)
 }
 
 /// Serves a connection by a desk.
-pub fn serve(
+pub fn serve<B: PathBook<Global>>(
     alloc: Global,
     routes: &Routes,
-    desk: &mut MemoryDesk,
+    desk: &mut MemoryDesk<B>,
     connection: Waiting<'_>,
 ) -> Ending {
     let Connection {

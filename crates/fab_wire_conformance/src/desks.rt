@@ -3,7 +3,7 @@
 use crate::faults::Fault;
 use crate::scenarios::Scenario;
 use fab_policy_base::Policy;
-use fab_reach::PortBook;
+use fab_reach::PathBook;
 use fab_store::{RefusingStore, SqlStore};
 use fab_wire::Desk;
 use sqlite::{Connection, MemStore};
@@ -13,8 +13,8 @@ use std::str;
 /// Tables in memory, of which one call may be refused.
 type MemoryStore = RefusingStore<SqlStore<MemStore>>;
 
-/// A desk over them.
-pub type MemoryDesk = Desk<Global, MemoryStore, PortBook<Global>>;
+/// A desk over them, with this book of paths.
+pub type MemoryDesk<B> = Desk<Global, MemoryStore, B>;
 
 /// The policy that a text spells.
 fn policy_of(alloc: Global, text: &[u8]) -> Option<Policy> {
@@ -40,7 +40,11 @@ fn new_tables(alloc: Global, calls: Option<u64>) -> Option<MemoryStore> {
 }
 
 /// A desk over these tables.
-fn desk_over(alloc: Global, tables: MemoryStore, policy: Policy) -> Option<MemoryDesk> {
+fn desk_over<B: PathBook<Global>>(
+    alloc: Global,
+    tables: MemoryStore,
+    policy: Policy,
+) -> Option<MemoryDesk<B>> {
     match Desk::open(alloc, tables, policy) {
         Ok(desk) => Some(desk),
         Err(_) => None,
@@ -51,11 +55,11 @@ fn desk_over(alloc: Global, tables: MemoryStore, policy: Policy) -> Option<Memor
 ///
 /// # Errors
 /// `Policy` where the text spells none, and `Desk` where there is no desk.
-pub fn new_desk(
+pub fn new_desk<B: PathBook<Global>>(
     alloc: Global,
     scenario: &Scenario<'_>,
     policy: &[u8],
-) -> Result<MemoryDesk, Fault> {
+) -> Result<MemoryDesk<B>, Fault> {
     let Some(policy) = policy_of(alloc, policy) else {
         return Err(Fault::Policy(scenario.line));
     };

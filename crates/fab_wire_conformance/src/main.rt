@@ -10,9 +10,10 @@
 //!
 //! None is made by the desk itself. Nothing here is part of the product.
 //!
-//! Each scenario is played by a new desk in memory in each of six ways: each request is read whole; byte
+//! Each scenario is played by a new desk in memory in each of seven ways: each request is read whole; byte
 //! by byte; behind others of which a read fails, of which nothing comes; with an answer that breaks off,
-//! or that nobody takes, though the desk has acted; and all of them as one list. For each file a line
+//! or that nobody takes, though the desk has acted; all of them as one list; and by a desk whose book asks
+//! about every pair of ports, which has to answer as the other. For each file a line
 //! says how many answers are as recorded. The form of a file is told in
 //! `texts`; a line that is not of it ends the player, which tells the file and the line on standard
 //! error, with status 3. So does a policy that is none.

@@ -6,12 +6,17 @@ use crate::faults::Fault;
 use crate::scenarios::{Exchange, Scenario};
 use crate::telling::{Place, tell};
 use crate::ways::{WAYS, Way};
+use fab_reach::{IndexBook, PathBook};
+use fab_reach_plain::PlainBook;
 use fab_wire::laws::serve_all;
 use fab_wire_base::routes::Routes;
 use std::alloc::Global;
 
 /// How many times a request comes at most of which a read fails.
 const MOST_FAILURES: usize = 12;
+
+/// How many bytes a request of a scenario has at most that is played over the plain book.
+const MOST_BYTES: usize = 8192;
 
 /// How many answers are as recorded, and how many otherwise.
 #[derive(Clone, Copy)]
@@ -85,7 +90,7 @@ fn untaken(answer: &[u8]) -> End {
 fn cut_of(way: Way, exchange: &Exchange, number: usize) -> (usize, End) {
     let answer = exchange.answer.as_slice();
     match way {
-        Way::Whole | Way::List => (usize::MAX, End::Sent),
+        Way::Whole | Way::List | Way::EveryPair => (usize::MAX, End::Sent),
         Way::ByteByByte | Way::FailingReads => (1, End::Sent),
         Way::BrokenAnswers => (usize::MAX, break_of(answer, number)),
         Way::UntakenAnswers => (usize::MAX, untaken(answer)),
@@ -93,10 +98,10 @@ fn cut_of(way: Way, exchange: &Exchange, number: usize) -> (usize, End) {
 }
 
 /// Serves an exchange, and tells whether it ends as recorded.
-fn play_one(
+fn play_one<B: PathBook<Global>>(
     rt: &HostRuntime,
     routes: &Routes,
-    desk: &mut MemoryDesk,
+    desk: &mut MemoryDesk<B>,
     part: Part<'_>,
     number: usize,
     exchange: &Exchange,
@@ -109,10 +114,10 @@ fn play_one(
 
 /// Serves an exchange of which the read of one number fails, if it comes to that. What tells whether it
 /// ends as it has to, and whether no read failed: then the request was served.
-fn play_failing(
+fn play_failing<B: PathBook<Global>>(
     rt: &HostRuntime,
     routes: &Routes,
-    desk: &mut MemoryDesk,
+    desk: &mut MemoryDesk<B>,
     part: Part<'_>,
     number: usize,
     exchange: &Exchange,
@@ -132,10 +137,10 @@ fn play_failing(
 
 /// Serves an exchange several times, and another read fails each time, from the first to that of the
 /// end; and then as if nothing had been.
-fn play_through(
+fn play_through<B: PathBook<Global>>(
     rt: &HostRuntime,
     routes: &Routes,
-    desk: &mut MemoryDesk,
+    desk: &mut MemoryDesk<B>,
     part: Part<'_>,
     number: usize,
     exchange: &Exchange,
@@ -151,10 +156,10 @@ fn play_through(
 }
 
 /// Plays the exchanges of a scenario by a desk, one by one.
-fn play_each(
+fn play_each<B: PathBook<Global>>(
     rt: &HostRuntime,
     routes: &Routes,
-    desk: &mut MemoryDesk,
+    desk: &mut MemoryDesk<B>,
     part: Part<'_>,
     tally: &mut Tally,
 ) -> Result<(), Fault> {
@@ -179,10 +184,10 @@ fn connections_of(alloc: Global, exchanges: &[Exchange]) -> Result<Vec<Waiting<'
 }
 
 /// Plays the exchanges of a scenario by a desk, as one list.
-fn play_list(
+fn play_list<B: PathBook<Global>>(
     rt: &HostRuntime,
     routes: &Routes,
-    desk: &mut MemoryDesk,
+    desk: &mut MemoryDesk<B>,
     part: Part<'_>,
     tally: &mut Tally,
 ) -> Result<(), Fault> {
@@ -197,7 +202,31 @@ fn play_list(
     Ok(())
 }
 
-/// Plays a scenario in one way, by a new desk with this policy.
+/// Plays a scenario in one way, by a new desk with this policy and such a book of paths.
+fn play_by<B: PathBook<Global>>(
+    rt: &HostRuntime,
+    routes: &Routes,
+    policy: &[u8],
+    part: Part<'_>,
+    tally: &mut Tally,
+) -> Result<(), Fault> {
+    let mut desk = new_desk::<B>(rt.alloc(), part.scenario, policy)?;
+    match part.way {
+        Way::List => play_list(rt, routes, &mut desk, part, tally),
+        _ => play_each(rt, routes, &mut desk, part, tally),
+    }
+}
+
+/// Whether no request of a scenario is longer than this: then few ports are known in it.
+fn is_small(scenario: &Scenario<'_>) -> bool {
+    scenario
+        .exchanges
+        .iter()
+        .all(|exchange| exchange.request.len() <= MOST_BYTES)
+}
+
+/// Plays a scenario in one way, by a new desk with this policy. The book that asks about every pair of
+/// ports is left out where many ports may be known.
 fn play_scenario(
     rt: &HostRuntime,
     routes: &Routes,
@@ -205,10 +234,10 @@ fn play_scenario(
     part: Part<'_>,
     tally: &mut Tally,
 ) -> Result<(), Fault> {
-    let mut desk = new_desk(rt.alloc(), part.scenario, policy)?;
     match part.way {
-        Way::List => play_list(rt, routes, &mut desk, part, tally),
-        _ => play_each(rt, routes, &mut desk, part, tally),
+        Way::EveryPair if !is_small(part.scenario) => Ok(()),
+        Way::EveryPair => play_by::<PlainBook<Global>>(rt, routes, policy, part, tally),
+        _ => play_by::<IndexBook<Global>>(rt, routes, policy, part, tally),
     }
 }
 

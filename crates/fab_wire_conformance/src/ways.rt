@@ -17,6 +17,8 @@ pub enum Way {
     UntakenAnswers,
     /// All as one list.
     List,
+    /// One by one, by a desk whose book asks about every pair of ports.
+    EveryPair,
 }
 
 impl Way {
@@ -29,6 +31,7 @@ impl Way {
             Way::BrokenAnswers => "answered until a write fails",
             Way::UntakenAnswers => "answered to who takes no byte",
             Way::List => "served in a list",
+            Way::EveryPair => "asked about every pair",
         }
     }
 }
@@ -41,4 +44,5 @@ pub const WAYS: &[Way] = &[
     Way::BrokenAnswers,
     Way::UntakenAnswers,
     Way::List,
+    Way::EveryPair,
 ];

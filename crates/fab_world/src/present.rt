@@ -11,8 +11,7 @@ ghost use Rattle.fab_world.specs.Soundness.{IsSoundNow};
 
 use fab_inventory::Inventory;
 use fab_names::{Fabric, Wwn};
-use fab_reach::offer_few_paths;
-use fab_reach_base::{Config, PathsFault, View, few_paths};
+use fab_reach_base::{Config, PathsFault, few_paths};
 use std::alloc::{AllocError, Allocator};
 
 /// Whether the zoning of a fabric is its own, and sound.
@@ -51,9 +50,8 @@ fn is_sound_alone<A: Allocator + Copy>(config: &Config<A>) -> Result<bool, Alloc
     Ok(clash.is_none())
 }
 
-/// Whether there are no more paths than there may be. They are listed only where the exposed storage
-/// groups offer more than that. It takes memory for the paths that it lists, at most one pair's past
-/// the limit.
+/// Whether there are no more paths than there may be. They are listed, at most one pair's past the
+/// limit, and it takes memory for these.
 ///
 /// # Errors
 /// `AllocError` where there is no memory.
@@ -65,9 +63,6 @@ pub fn has_few_paths<A: Allocator + Copy>(
     ensures few { IfOk result (λ few. IsTrue few ↔ ¬ MoreThan MOST_PATHS (Reaches (record { inventory = inventory.now; config = config.now }))) }
     ensures many { IfOk result (λ few. few ≡ false → MoreThan MOST_PATHS (Reaches (record { inventory = inventory.now; config = config.now }))) }
 {
-    if offer_few_paths(alloc, &View::of(inventory, config))? {
-        return Ok(true);
-    }
     match few_paths(alloc, inventory, config) {
         Ok(_paths) => Ok(true),
         Err(PathsFault::TooMany) => Ok(false),

@@ -25,15 +25,14 @@ returns-in-Ok-drop_holder-clause-ok g c caller =
     (subst (λ (m : MappingRows). (g : List ℕ) → ¬ IsHolderUser m c.args.kind c.args.name.now g) mapped c.in_default.ensures.ok)
 
 pub returns-in-Ok-drop_holder-clause-sound : goal.returns-in-Ok-drop_holder-clause-sound
-returns-in-Ok-drop_holder-clause-sound g c before few lt =
+returns-in-Ok-drop_holder-clause-sound g c =
     let same : c.in-Ok.next ≡ c.args.world.now.inventory = c.in-Ok.ensures ∙ ap (λ (w : WorldRows). w.inventory) c.world.view_is in
     let mapped : c.mapping.result.now ≡ c.args.world.now.config.mapping = c.mapping.ensures ∙ ap (λ (w : WorldRows). w.config.mapping) c.world.view_is in
     let tried : HolderDropTried c.args.name.now c.in-Ok.next c.drop_holder.new.self = record { bare = c.in-Ok-drop_holder.ensures.unused; dropped = c.in-Ok-drop_holder.ensures.ok; sound = c.in-Ok-drop_holder.ensures.sound } in
-    sound_after c.args.world.now c.drop_holder.new.self c.in-Ok-drop_holder.ensures.sound
-    (holder_dropped_fits c.args.world.now c.args.kind c.args.name.now c.drop_holder.new.self c.requires.there
+    sound_after c.args.world.now (DropHolder c.args.kind c.args.name.now) c.drop_holder.new.self refl c.in-Ok-drop_holder.ensures.sound
+    (λ before. holder_dropped_fits c.args.world.now c.args.kind c.args.name.now c.drop_holder.new.self c.requires.there
     (subst (λ (v : InventoryRows). HolderDropTried c.args.name.now v c.drop_holder.new.self) same tried)
-    (subst (λ (m : MappingRows). (g : List ℕ) → ¬ IsHolderUser m c.args.kind c.args.name.now g) mapped c.in_default.ensures.ok) before.fits)
-    before few (lt refl)
+    (subst (λ (m : MappingRows). (g : List ℕ) → ¬ IsHolderUser m c.args.kind c.args.name.now g) mapped c.in_default.ensures.ok) before)
 
 pub returns-in-Err-drop_holder-clause-err : goal.returns-in-Err-drop_holder-clause-err
 returns-in-Err-drop_holder-clause-err g c caller =

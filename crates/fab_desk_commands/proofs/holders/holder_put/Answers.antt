@@ -30,15 +30,14 @@ returns-in-None-clause-ok g c caller =
     (found_beside c.args.world.now _ c.mapping.result.now c.args.kind c.args.name.now c.as_slice-2.result.now c.args.ports.now.items c.in-Ok-kept_target.kept c.world.view_is c.mapping.ensures c.as_slice-2.ensures.value c.in-Ok-kept_target.ensures))
 
 pub returns-in-None-clause-sound : goal.returns-in-None-clause-sound
-returns-in-None-clause-sound g c before few lt =
+returns-in-None-clause-sound g c =
     let same : c.in-Ok.next ≡ c.args.world.now.inventory = c.in-Ok.ensures ∙ ap (λ (w : WorldRows). w.inventory) c.world.view_is in
     let tried : HolderPutTried c.args.kind c.args.name.now c.args.tenant.now c.as_slice.result.now c.in-Ok.next c.put_holder.new.self = record { can = c.in-Ok-put_holder.ensures.can; put = c.in-Ok-put_holder.ensures.ok; sound = c.in-Ok-put_holder.ensures.sound } in
-    sound_after c.args.world.now c.put_holder.new.self c.in-Ok-put_holder.ensures.sound
-    (holder_put_fits c.args.world.now c.args.kind c.args.name.now c.args.tenant.now c.args.ports.now.items c.put_holder.new.self
+    sound_after c.args.world.now (PutHolder c.args.kind c.args.name.now c.args.tenant.now c.args.ports.now) c.put_holder.new.self refl c.in-Ok-put_holder.ensures.sound
+    (λ before. holder_put_fits c.args.world.now c.args.kind c.args.name.now c.args.tenant.now c.args.ports.now.items c.put_holder.new.self
     (said_of (λ (listed : List ℕ) (v : InventoryRows). HolderPutTried c.args.kind c.args.name.now c.args.tenant.now listed v c.put_holder.new.self) c.as_slice.ensures.value same tried)
     (subst (FindsKept c.args.kind c.args.name.now c.args.ports.now.items c.args.world.now.inventory c.args.world.now.config.mapping) c.in-None.is
-    (found_beside c.args.world.now _ c.mapping.result.now c.args.kind c.args.name.now c.as_slice-2.result.now c.args.ports.now.items c.in-Ok-kept_target.kept c.world.view_is c.mapping.ensures c.as_slice-2.ensures.value c.in-Ok-kept_target.ensures)) before.fits)
-    before few (lt refl)
+    (found_beside c.args.world.now _ c.mapping.result.now c.args.kind c.args.name.now c.as_slice-2.result.now c.args.ports.now.items c.in-Ok-kept_target.kept c.world.view_is c.mapping.ensures c.as_slice-2.ensures.value c.in-Ok-kept_target.ensures)) before)
 
 pub returns-in-Some-clause-err : goal.returns-in-Some-clause-err
 returns-in-Some-clause-err g c caller =

@@ -19,12 +19,12 @@ returns-in-Ok-import-clause-ok g c caller =
     (said_of (λ (rows : List PortRow) (v : InventoryRows). ImportTried c.args.fabric rows v c.import.new.self) c.as_slice.ensures.value same tried)
 
 pub returns-in-Ok-import-clause-sound : goal.returns-in-Ok-import-clause-sound
-returns-in-Ok-import-clause-sound g c before few lt =
+returns-in-Ok-import-clause-sound g c =
     let same : c.in-Ok.next ≡ c.args.world.now.inventory = c.in-Ok.ensures ∙ ap (λ (w : WorldRows). w.inventory) c.world.view_is in
-    let fits : Fits c.import.new.self c.args.world.now.config.mapping =
+    let fits : Fits c.args.world.now.inventory c.args.world.now.config.mapping → Fits c.import.new.self c.args.world.now.config.mapping = λ before.
     subst (λ (v : InventoryRows). Fits v c.args.world.now.config.mapping) (sym c.in-Ok-import.ensures.rest)
-    (fits_import c.args.fabric c.as_slice.result.now c.args.world.now.config.mapping c.in-Ok.next c.import.new.self.ports c.in-Ok-import.ensures.ok (subst (λ (v : InventoryRows). Fits v c.args.world.now.config.mapping) (sym same) before.fits)) in
-    sound_after c.args.world.now c.import.new.self c.in-Ok-import.ensures.sound fits before few (lt refl)
+    (fits_import c.args.fabric c.as_slice.result.now c.args.world.now.config.mapping c.in-Ok.next c.import.new.self.ports c.in-Ok-import.ensures.ok (subst (λ (v : InventoryRows). Fits v c.args.world.now.config.mapping) (sym same) before)) in
+    sound_after c.args.world.now (Import c.args.fabric c.args.rows.now) c.import.new.self refl c.in-Ok-import.ensures.sound fits
 
 pub returns-in-Err-clause-err : goal.returns-in-Err-clause-err
 returns-in-Err-clause-err g c caller =

@@ -1,8 +1,9 @@
 use Rattle.std.proofs.Common.{sym, subst}
 use Rattle.fab_store_rows.specs.declared.record_row.PlanState.TheVariants as state
 use Rattle.fab_desk_base.specs.declared.command.Command.TheVariants.{Rollback}
-use Rattle.fab_desk_base.specs.Trying.{IsMade, StaysSound}
-use Rattle.fab_desk_commands.proofs.Rollbacks.{has_earlier, some_in_force, restore_refused, rollback_made, rollback_sound, rollback_suits, rolled_world}
+use Rattle.fab_desk_base.specs.Trying.{IsMade}
+use Rattle.fab_desk_commands.specs.Trials.{IsSoundAfter}
+use Rattle.fab_desk_commands.proofs.Rollbacks.{has_earlier, some_in_force, restore_refused, rollback_made, rollback_sound, rollback_suits, rollback_tells, rolled_world}
 use Rattle.fab_desk_commands.proofs.PlanChecks.{rollback_refused, other_last_refused}
 use Rattle.fab_desk_commands.proofs.PlanTurns.{in_state}
 use Rattle.fab_desk_commands.proofs.rollback.rolled_back.Goals as goal
@@ -34,8 +35,11 @@ pub returns-in-Ok-parts_before-clause-suits : goal.returns-in-Ok-parts_before-cl
 returns-in-Ok-parts_before-clause-suits g c =
     rollback_suits c.args.world.now c.args.plan.now c.in-Ok.kept.now c.in-Ok.ensures.ok.0 c.in-Ok.ensures.ok.1 c.in-Ok-restored.config c.in-Ok-plans_before.rest.now c.in-Ok-parts_before.next c.in-Ok-parts_before.ensures
 
+pub returns-in-Ok-parts_before-clause-tells : goal.returns-in-Ok-parts_before-clause-tells
+returns-in-Ok-parts_before-clause-tells g c = rollback_tells c.args.world.now c.args.plan.now c.in-Ok-restored.config c.in-Ok-plans_before.rest.now c.in-Ok-parts_before.next c.in-Ok-parts_before.ensures
+
 pub returns-in-Ok-parts_before-clause-sound : goal.returns-in-Ok-parts_before-clause-sound
 returns-in-Ok-parts_before-clause-sound g c =
-    subst (StaysSound {A = g.row.A.Denot} c.args.world.now (Rollback c.args.plan.now))
+    subst (IsSoundAfter {A = g.row.A.Denot} c.args.world.now (Rollback c.args.plan.now))
     (sym (rolled_world c.args.world.now c.args.plan.now c.in-Ok-restored.config c.in-Ok-plans_before.rest.now c.in-Ok-parts_before.next c.in-Ok-parts_before.ensures c.in-Ok.kept.now c.in-Ok.ensures.ok.0))
     (rollback_sound c.args.world.now c.args.plan.now c.in-Ok.kept.now c.in-Ok.ensures.ok.0 c.in-Ok.ensures.ok.1 c.requires.sound c.in-Ok-plans_before.rest.now c.in-Ok-plans_before.ensures.ok c.in-Ok-restored.config c.in-Ok-restored.ensures.ok.0 c.in-Ok-restored.ensures.ok.1 g.row.A.Denot)

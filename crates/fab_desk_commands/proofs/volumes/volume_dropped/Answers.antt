@@ -4,6 +4,7 @@ use Rattle.fab_inventory.specs.Inventories.{InventoryRows}
 use Rattle.fab_mapping.specs.Mappings.{MappingRows}
 use Rattle.fab_world.specs.Worlds.{WorldRows}
 use Rattle.fab_desk_base.specs.Users.{IsVolumeUser}
+use Rattle.fab_desk_base.specs.declared.command.Command.TheVariants.{DropVolume}
 use Rattle.fab_desk_commands.specs.Keeping.{IsMappedBy}
 use Rattle.fab_desk_commands.proofs.SoundAfter.{sound_after}
 use Rattle.fab_desk_commands.proofs.TriedVolumes.{volume_dropped_used, volume_dropped_made, volume_dropped_fits}
@@ -23,11 +24,10 @@ returns-in-Ok-drop_volume-clause-ok g c caller =
     (subst (λ (m : MappingRows). (g : List ℕ) → ¬ IsVolumeUser m c.args.name.now g) mapped c.in_default.ensures.ok)
 
 pub returns-in-Ok-drop_volume-clause-sound : goal.returns-in-Ok-drop_volume-clause-sound
-returns-in-Ok-drop_volume-clause-sound g c before few lt =
+returns-in-Ok-drop_volume-clause-sound g c =
     let same : c.in-Ok.next ≡ c.args.world.now.inventory = c.in-Ok.ensures ∙ ap (λ (w : WorldRows). w.inventory) c.world.view_is in
     let mapped : c.mapping.result.now ≡ c.args.world.now.config.mapping = c.mapping.ensures ∙ ap (λ (w : WorldRows). w.config.mapping) c.world.view_is in
-    sound_after c.args.world.now c.drop_volume.new.self c.in-Ok-drop_volume.ensures.sound
-    (volume_dropped_fits c.args.world.now c.args.name.now c.drop_volume.new.self
+    sound_after c.args.world.now (DropVolume c.args.name.now) c.drop_volume.new.self refl c.in-Ok-drop_volume.ensures.sound
+    (λ before. volume_dropped_fits c.args.world.now c.args.name.now c.drop_volume.new.self
     (c.in-Ok-drop_volume.ensures.ok ∙ ap (λ (v : InventoryRows). record v { volumes = map.remove v.volumes c.args.name.now }) same)
-    (subst (λ (m : MappingRows). (g : List ℕ) → ¬ IsVolumeUser m c.args.name.now g) mapped c.in_default.ensures.ok) before.fits)
-    before few (lt refl)
+    (subst (λ (m : MappingRows). (g : List ℕ) → ¬ IsVolumeUser m c.args.name.now g) mapped c.in_default.ensures.ok) before)

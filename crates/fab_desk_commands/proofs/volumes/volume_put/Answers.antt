@@ -24,14 +24,13 @@ returns-in-None-clause-ok g c caller =
     (said_beside c.world.view_is c.mapping.ensures (λ v m. (user : List ℕ) → ¬ IsMovedUser v m c.args.name.now c.args.volume.now.array user) c.in-None.ensures)
 
 pub returns-in-None-clause-sound : goal.returns-in-None-clause-sound
-returns-in-None-clause-sound g c before few lt =
+returns-in-None-clause-sound g c =
     let same : c.in-Ok.next ≡ c.args.world.now.inventory = c.in-Ok.ensures ∙ ap (λ (w : WorldRows). w.inventory) c.world.view_is in
     let tried : VolumePutTried c.args.name.now c.args.volume.now c.in-Ok.next c.put_volume.new.self = record { can = c.in-Ok-put_volume.ensures.can; put = c.in-Ok-put_volume.ensures.ok; sound = c.in-Ok-put_volume.ensures.sound } in
-    sound_after c.args.world.now c.put_volume.new.self c.in-Ok-put_volume.ensures.sound
-    (volume_put_fits c.args.world.now c.args.name.now c.args.volume.now c.put_volume.new.self
+    sound_after c.args.world.now (PutVolume c.args.name.now c.args.volume.now) c.put_volume.new.self refl c.in-Ok-put_volume.ensures.sound
+    (λ before. volume_put_fits c.args.world.now c.args.name.now c.args.volume.now c.put_volume.new.self
     (subst (λ (v : InventoryRows). VolumePutTried c.args.name.now c.args.volume.now v c.put_volume.new.self) same tried)
-    (said_beside c.world.view_is c.mapping.ensures (λ v m. (user : List ℕ) → ¬ IsMovedUser v m c.args.name.now c.args.volume.now.array user) c.in-None.ensures) before.fits)
-    before few (lt refl)
+    (said_beside c.world.view_is c.mapping.ensures (λ v m. (user : List ℕ) → ¬ IsMovedUser v m c.args.name.now c.args.volume.now.array user) c.in-None.ensures) before)
 
 pub returns-in-Some-clause-err : goal.returns-in-Some-clause-err
 returns-in-Some-clause-err g c caller =

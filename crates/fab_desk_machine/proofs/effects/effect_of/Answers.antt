@@ -3,7 +3,7 @@ use Rattle.fab_desk_base.specs.Commands.{tried}
 use Rattle.fab_desk_base.specs.Trying.{IsTryFault}
 use Rattle.fab_desk_base.specs.declared.command.Command.TheVariants as command
 use Rattle.fab_desk_machine.specs.Trials.{IsTried}
-use Rattle.fab_desk_machine.proofs.TriedEffects.{no_policy, there, stock_ok, stock_err, plan_ok, plan_err}
+use Rattle.fab_desk_machine.proofs.TriedEffects.{no_policy, there, staging_ok, stock_ok, stock_err, plan_ok, plan_err, turn_tells}
 use Rattle.fab_world.proofs.WholeWorld.{ok_as}
 use Rattle.fab_desk_machine.proofs.effects.effect_of.Goals as goal
 
@@ -58,32 +58,35 @@ returns-in-DropVolume-clause-ok g c = stock_ok c.args.world.now c.args.caller.no
 pub returns-in-DropVolume-clause-err : goal.returns-in-DropVolume-clause-err
 returns-in-DropVolume-clause-err g c = stock_err c.args.world.now c.args.caller.now c.args.command.now (command.DropVolume c.in-DropVolume.name) (ap tried (sym c.in-DropVolume.is)) c.volume_dropped.result c.of_stock-in-DropVolume.result (c.volume_dropped.ensures.err c.args.caller.now) c.of_stock-in-DropVolume.ensures.err
 
+pub returns-in-Stage-clause-ok : goal.returns-in-Stage-clause-ok
+returns-in-Stage-clause-ok g c = subst (λ x. IfOk x (IsTried c.args.world.now c.args.caller.now c.args.command.now)) (sym c.of_staging.ensures) (staging_ok c.args.world.now c.args.caller.now c.in-Stage.plan c.in-Stage.steps c.args.command.now c.in-Stage.is c.is_staged_already.result c.is_staged_already.ensures.same c.is_staged_already.ensures.new c.is_staged_already.ensures.sound)
+
 pub returns-in-Withdraw-clause-ok : goal.returns-in-Withdraw-clause-ok
-returns-in-Withdraw-clause-ok g c = subst (λ x. IfOk x (IsTried c.args.world.now c.args.caller.now c.args.command.now)) (sym c.of_plan.ensures) (plan_ok c.args.world.now c.args.caller.now c.args.command.now (command.Withdraw c.in-Withdraw.plan) (ap tried (sym c.in-Withdraw.is)) c.withdrawn.result (c.withdrawn.ensures.ok c.args.caller.now) (ok_as c.withdrawn.result (λ n s _. s) c.withdrawn.ensures.suits) c.withdrawn.ensures.sound)
+returns-in-Withdraw-clause-ok g c = subst (λ x. IfOk x (IsTried c.args.world.now c.args.caller.now c.args.command.now)) (sym c.of_plan.ensures) (plan_ok c.args.world.now c.args.caller.now c.args.command.now (command.Withdraw c.in-Withdraw.plan) (ap tried (sym c.in-Withdraw.is)) c.withdrawn.result (c.withdrawn.ensures.ok c.args.caller.now) (ok_as c.withdrawn.result (λ n s _. s) c.withdrawn.ensures.suits) (ok_as c.withdrawn.result (turn_tells c.args.world.now c.in-Withdraw.plan) c.withdrawn.ensures.kind) c.withdrawn.ensures.sound)
 
 pub returns-in-Withdraw-clause-err : goal.returns-in-Withdraw-clause-err
 returns-in-Withdraw-clause-err g c = subst (λ x. IfErr x (IsTryFault c.args.world.now c.args.caller.now (tried c.args.command.now))) (sym c.of_plan.ensures) (plan_err c.args.world.now c.args.caller.now c.args.command.now (command.Withdraw c.in-Withdraw.plan) (ap tried (sym c.in-Withdraw.is)) c.withdrawn.result (c.withdrawn.ensures.err c.args.caller.now))
 
 pub returns-in-Approve-clause-ok : goal.returns-in-Approve-clause-ok
-returns-in-Approve-clause-ok g c = subst (λ x. IfOk x (IsTried c.args.world.now c.args.caller.now c.args.command.now)) (sym c.of_plan-in-Approve.ensures) (plan_ok c.args.world.now c.args.caller.now c.args.command.now (command.Approve c.in-Approve.plan) (ap tried (sym c.in-Approve.is)) c.approved.result c.approved.ensures.ok (ok_as c.approved.result (λ n s _. s) c.approved.ensures.suits) c.approved.ensures.sound)
+returns-in-Approve-clause-ok g c = subst (λ x. IfOk x (IsTried c.args.world.now c.args.caller.now c.args.command.now)) (sym c.of_plan-in-Approve.ensures) (plan_ok c.args.world.now c.args.caller.now c.args.command.now (command.Approve c.in-Approve.plan) (ap tried (sym c.in-Approve.is)) c.approved.result c.approved.ensures.ok (ok_as c.approved.result (λ n s _. s) c.approved.ensures.suits) (ok_as c.approved.result (turn_tells c.args.world.now c.in-Approve.plan) c.approved.ensures.kind) c.approved.ensures.sound)
 
 pub returns-in-Approve-clause-err : goal.returns-in-Approve-clause-err
 returns-in-Approve-clause-err g c = subst (λ x. IfErr x (IsTryFault c.args.world.now c.args.caller.now (tried c.args.command.now))) (sym c.of_plan-in-Approve.ensures) (plan_err c.args.world.now c.args.caller.now c.args.command.now (command.Approve c.in-Approve.plan) (ap tried (sym c.in-Approve.is)) c.approved.result c.approved.ensures.err)
 
 pub returns-in-DryRun-clause-ok : goal.returns-in-DryRun-clause-ok
-returns-in-DryRun-clause-ok g c = subst (λ x. IfOk x (IsTried c.args.world.now c.args.caller.now c.args.command.now)) (sym c.of_plan-in-DryRun.ensures) (plan_ok c.args.world.now c.args.caller.now c.args.command.now (command.Activate c.in-DryRun.plan) (ap tried (sym c.in-DryRun.is)) c.activated.result (c.activated.ensures.ok c.args.caller.now) (ok_as c.activated.result (λ n s may. s (may refl)) c.activated.ensures.suits) c.activated.ensures.sound)
+returns-in-DryRun-clause-ok g c = subst (λ x. IfOk x (IsTried c.args.world.now c.args.caller.now c.args.command.now)) (sym c.of_plan-in-DryRun.ensures) (plan_ok c.args.world.now c.args.caller.now c.args.command.now (command.Activate c.in-DryRun.plan) (ap tried (sym c.in-DryRun.is)) c.activated.result (c.activated.ensures.ok c.args.caller.now) (ok_as c.activated.result (λ n s may. s (may refl)) c.activated.ensures.suits) c.activated.ensures.tells c.activated.ensures.sound)
 
 pub returns-in-DryRun-clause-err : goal.returns-in-DryRun-clause-err
 returns-in-DryRun-clause-err g c = subst (λ x. IfErr x (IsTryFault c.args.world.now c.args.caller.now (tried c.args.command.now))) (sym c.of_plan-in-DryRun.ensures) (plan_err c.args.world.now c.args.caller.now c.args.command.now (command.Activate c.in-DryRun.plan) (ap tried (sym c.in-DryRun.is)) c.activated.result (c.activated.ensures.err c.args.caller.now))
 
 pub returns-in-Activate-clause-ok : goal.returns-in-Activate-clause-ok
-returns-in-Activate-clause-ok g c = subst (λ x. IfOk x (IsTried c.args.world.now c.args.caller.now c.args.command.now)) (sym c.of_plan-in-Activate.ensures) (plan_ok c.args.world.now c.args.caller.now c.args.command.now (command.Activate c.in-Activate.plan) (ap tried (sym c.in-Activate.is)) c.activated-in-Activate.result (c.activated-in-Activate.ensures.ok c.args.caller.now) (ok_as c.activated-in-Activate.result (λ n s may. s (may refl)) c.activated-in-Activate.ensures.suits) c.activated-in-Activate.ensures.sound)
+returns-in-Activate-clause-ok g c = subst (λ x. IfOk x (IsTried c.args.world.now c.args.caller.now c.args.command.now)) (sym c.of_plan-in-Activate.ensures) (plan_ok c.args.world.now c.args.caller.now c.args.command.now (command.Activate c.in-Activate.plan) (ap tried (sym c.in-Activate.is)) c.activated-in-Activate.result (c.activated-in-Activate.ensures.ok c.args.caller.now) (ok_as c.activated-in-Activate.result (λ n s may. s (may refl)) c.activated-in-Activate.ensures.suits) c.activated-in-Activate.ensures.tells c.activated-in-Activate.ensures.sound)
 
 pub returns-in-Activate-clause-err : goal.returns-in-Activate-clause-err
 returns-in-Activate-clause-err g c = subst (λ x. IfErr x (IsTryFault c.args.world.now c.args.caller.now (tried c.args.command.now))) (sym c.of_plan-in-Activate.ensures) (plan_err c.args.world.now c.args.caller.now c.args.command.now (command.Activate c.in-Activate.plan) (ap tried (sym c.in-Activate.is)) c.activated-in-Activate.result (c.activated-in-Activate.ensures.err c.args.caller.now))
 
 pub returns-in-Rollback-clause-ok : goal.returns-in-Rollback-clause-ok
-returns-in-Rollback-clause-ok g c = subst (λ x. IfOk x (IsTried c.args.world.now c.args.caller.now c.args.command.now)) (sym c.of_plan-in-Rollback.ensures) (plan_ok c.args.world.now c.args.caller.now c.args.command.now (command.Rollback c.in-Rollback.plan) (ap tried (sym c.in-Rollback.is)) c.rolled_back.result (c.rolled_back.ensures.ok c.args.caller.now) (ok_as c.rolled_back.result (λ n s may. s (may refl)) c.rolled_back.ensures.suits) c.rolled_back.ensures.sound)
+returns-in-Rollback-clause-ok g c = subst (λ x. IfOk x (IsTried c.args.world.now c.args.caller.now c.args.command.now)) (sym c.of_plan-in-Rollback.ensures) (plan_ok c.args.world.now c.args.caller.now c.args.command.now (command.Rollback c.in-Rollback.plan) (ap tried (sym c.in-Rollback.is)) c.rolled_back.result (c.rolled_back.ensures.ok c.args.caller.now) (ok_as c.rolled_back.result (λ n s may. s (may refl)) c.rolled_back.ensures.suits) c.rolled_back.ensures.tells c.rolled_back.ensures.sound)
 
 pub returns-in-Rollback-clause-err : goal.returns-in-Rollback-clause-err
 returns-in-Rollback-clause-err g c = subst (λ x. IfErr x (IsTryFault c.args.world.now c.args.caller.now (tried c.args.command.now))) (sym c.of_plan-in-Rollback.ensures) (plan_err c.args.world.now c.args.caller.now c.args.command.now (command.Rollback c.in-Rollback.plan) (ap tried (sym c.in-Rollback.is)) c.rolled_back.result (c.rolled_back.ensures.err c.args.caller.now))

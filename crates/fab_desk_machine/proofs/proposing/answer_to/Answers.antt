@@ -9,4 +9,4 @@ returns-in-Some-clause-proposes g c =
     let s = c.args.sender.now in
     let w = c.args.world.now in
     let r = c.read.result in
-    subst (λ k. IsMemory r ⊎ IsAnswerTo c.args.policy.now w s.id s.name s.moment k r w) (sym (is_read c.args.command c.in-Some.query (sym c.query_of.ensures ∙ c.in-Some.is))) c.read.ensures
+    subst (λ k. IsMemory r ⊎ IsAnswerTo c.args.policy.now w s.id s.name s.moment k r w) (sym (is_read c.args.command c.in-Some.query (sym c.query_of.ensures ∙ c.in-Some.is))) c.read.ensures.answers

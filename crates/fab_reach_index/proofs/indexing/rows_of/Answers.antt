@@ -1,10 +1,9 @@
 use Rattle.fab_reach_books.specs.Pairs.{pair_cmp}
 use Rattle.fab_reach_base.specs.Orders.{path_cmp}
-use Rattle.fab_reach_base.specs.Views.{seen}
 use Rattle.fab_reach_index.specs.Indexes.{IsRowOf}
 use Rattle.fab_reach_index.specs.Inner.Placing.{IsIn}
 use Rattle.fab_reach_index.proofs.Placed.{tree_is, rows_all}
 use Rattle.fab_reach_index.proofs.indexing.rows_of.Goals as goal
 
 pub returns : goal.returns
-returns g c = tree_is pair_cmp path_cmp (IsRowOf (seen c.args.view.now)) c.new-rows.result c.add_paths.new.rows c.new-rows.ensures.empty (rows_all (seen c.args.view.now) c.in_ok-paths.paths (IsIn pair_cmp path_cmp c.new-rows.result) (IsIn pair_cmp path_cmp c.add_paths.new.rows) c.in_ok-paths.ensures c.in_ok-add_paths.ensures)
+returns g c w all = tree_is pair_cmp path_cmp (IsRowOf w) c.new-rows.result c.add_paths.new.rows c.new-rows.ensures.empty (rows_all w c.args.paths.now (IsIn pair_cmp path_cmp c.new-rows.result) (IsIn pair_cmp path_cmp c.add_paths.new.rows) all c.in_ok-add_paths.ensures)

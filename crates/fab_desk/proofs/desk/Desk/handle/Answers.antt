@@ -11,7 +11,7 @@ returns-then-served-clause-served g c s some =
     let served = c.serve-served in
     let same : c.in-Some.store ≡ s = same_Some _ _ (sym c.in-Some.is ∙ some) in
     let shut = served.ensures.shut c.if-served.true in
-    subst (λ u. IsServed g.S.Store was.policy was.ledger (request_of c.args.token.now c.args.moment c.args.asked) served.result.reply u c.take.new.self c.take.result served.new.ledger) same
+    subst (λ u. IsServed g.S.Store was.policy was.ledger.world (request_of c.args.token.now c.args.moment c.args.asked) served.result.reply u c.take.new.self c.take.result served.new.ledger.world) same
     (record {
       after = served.new.store;
       kept = inr (c.take.ensures.after, c.take.ensures.value, shut.0);
@@ -30,7 +30,7 @@ returns-else-served-clause-served g c s some =
     let was = c.args.self.now in
     let served = c.serve-served in
     let same : c.in-Some.store ≡ s = same_Some _ _ (sym c.in-Some.is ∙ some) in
-    subst (λ u. IsServed g.S.Store was.policy was.ledger (request_of c.args.token.now c.args.moment c.args.asked) served.result.reply u (Some served.new.store) was.aside served.new.ledger) same
+    subst (λ u. IsServed g.S.Store was.policy was.ledger.world (request_of c.args.token.now c.args.moment c.args.asked) served.result.reply u (Some served.new.store) was.aside served.new.ledger.world) same
     (record {
       after = served.new.store;
       kept = inl refl;

@@ -9,5 +9,5 @@ returns g c = record {
   held = c.in_ok-held_of.ensures;
   targeted = c.in_ok-targeted_of.ensures;
   serving = c.in_ok-serving_of.ensures;
-  rows = c.in_ok-rows_of.ensures;
+  rows = c.in_ok-rows_of.ensures (seen c.args.view.now) c.requires.paths;
 }

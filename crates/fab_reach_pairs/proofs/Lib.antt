@@ -1,9 +1,0 @@
-mod OfferLoops
-mod LooseLoops
-mod OfInitiators
-mod Regroups
-mod FoundMoves
-mod FoundPairs
-mod AskedPairs
-mod OwnRows
-mod AtMost
