@@ -314,6 +314,48 @@ impl<A: Allocator + Copy> Mapping<A> {
         Ok(())
     }
 
+    /// Takes a host group out, whole, if it is there. Nothing is tested: `restore_host_group` puts it
+    /// back. It takes no memory.
+    pub fn take_host_group(&mut self, name: &Name) -> Option<HostGroup<A>>
+        ensures was { result ≡ map.get self.old.host_groups name.now }
+        ensures ok { self.new ≡ record self.old { host_groups = map.remove self.old.host_groups name.now } }
+    {
+        self.host_groups.remove(name)
+    }
+
+    /// Puts a host group under a name, as it is. Nothing is tested.
+    ///
+    /// # Errors
+    /// `AllocError` where there is no memory. Nothing is then changed.
+    pub fn restore_host_group(&mut self, name: Name, own: HostGroup<A>) -> Result<(), AllocError>
+        ensures ok { OnOk result (self.new ≡ record self.old { host_groups = map.insert self.old.host_groups name own }) }
+        ensures err { OnErr result (self.new ≡ self.old) }
+    {
+        self.host_groups.insert(name, own)?;
+        Ok(())
+    }
+
+    /// Takes a storage group out, whole, if it is there. Nothing is tested: `restore_group` puts it
+    /// back. It takes no memory.
+    pub fn take_group(&mut self, name: &Name) -> Option<StorageGroup<A>>
+        ensures was { result ≡ map.get self.old.groups name.now }
+        ensures ok { self.new ≡ record self.old { groups = map.remove self.old.groups name.now } }
+    {
+        self.groups.remove(name)
+    }
+
+    /// Puts a storage group under a name, as it is. Nothing is tested.
+    ///
+    /// # Errors
+    /// `AllocError` where there is no memory. Nothing is then changed.
+    pub fn restore_group(&mut self, name: Name, own: StorageGroup<A>) -> Result<(), AllocError>
+        ensures ok { OnOk result (self.new ≡ record self.old { groups = map.insert self.old.groups name own }) }
+        ensures err { OnErr result (self.new ≡ self.old) }
+    {
+        self.groups.insert(name, own)?;
+        Ok(())
+    }
+
     /// Adds a host group to a storage group. One that it has already is accepted and alters
     /// nothing.
     ///

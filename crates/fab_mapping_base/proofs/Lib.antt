@@ -8,3 +8,4 @@ pub mod Sounding
 pub mod Lacking
 pub mod SortedLists
 pub mod SameKeys
+mod Bares

@@ -23,6 +23,12 @@ HostClaims hosts g c = (set.contains hosts.hosts c.0.host ≡ true) × (set.cont
 abbrev pub GroupClaims : HostGroups → StorageGroupRows → Claim → Type 0
 GroupClaims host_groups g c = (k : List ℕ) × (hosts : HostGroupRows) × (set.contains g.host_groups k ≡ true) × (host_groups k ≡ Some hosts) × HostClaims hosts g c
 
+-- some target is one of both storage groups, and at some unit both map a volume, and not the same one: a
+-- host that both serve meets two volumes there
+pub record AreAtOdds (a b : StorageGroupRows) : Type 0 where
+  pub target : (q : ℕ) × (set.contains a.targets q ≡ true) × (set.contains b.targets q ≡ true)
+  pub unit : (u : ℕ) × (v : List ℕ) × (map.get a.units u ≡ Some v) × (w : List ℕ) × (map.get b.units u ≡ Some w) × (v ≢ w)
+
 -- the storage group is one of those that are exposed
 abbrev pub IsExposed : StorageGroups → StorageGroupRows → Type 0
 IsExposed groups g = (n : List ℕ) × (groups n ≡ Some g) × (g.exposed ≡ true)

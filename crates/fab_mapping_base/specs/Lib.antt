@@ -4,3 +4,4 @@ pub mod Clashes
 pub mod Soundness
 pub mod Fitting
 pub mod ClashSearch
+pub mod Bare

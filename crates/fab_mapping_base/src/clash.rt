@@ -10,7 +10,7 @@ ghost use Rattle.fab_lemmas.specs.Firsts.{IsFirstWith, lesser};
 ghost use Rattle.fab_lemmas.specs.Adding.{Among};
 ghost use Rattle.fab_names.specs.Orders.{name_cmp};
 ghost use Rattle.fab_mapping_base.specs.Nexuses.{nexus_cmp};
-ghost use Rattle.fab_mapping_base.specs.Clashes.{Maps, IsLeastClashIn, HasNoClashIn};
+ghost use Rattle.fab_mapping_base.specs.Clashes.{AreAtOdds, Maps, IsLeastClashIn, HasNoClashIn};
 ghost use Rattle.fab_mapping_base.specs.ClashSearch.{IsShared, IsUnlike, MeetsTwo, IsLeastOf, MeetsAt, AreFine, MeetsIn};
 
 use crate::known_pairs::KnownPairs;
@@ -42,6 +42,20 @@ fn unlike_unit<A: Allocator + Copy>(a: &StorageGroup<A>, b: &StorageGroup<A>) ->
         }
     }
     None
+}
+
+/// Whether a host that both storage groups serve would meet two volumes at one target port under one
+/// logical unit number. It takes no memory.
+pub fn are_at_odds<A: Allocator + Copy>(a: &StorageGroup<A>, b: &StorageGroup<A>) -> bool
+    ensures { IsTrue result ↔ AreAtOdds a.now b.now }
+{
+    if let None = shared_target(a, b) {
+        return false;
+    }
+    match unlike_unit(a, b) {
+        Some(_unit) => true,
+        None => false,
+    }
 }
 
 /// The least nexus at which the host meets two volumes, if both storage groups serve it.

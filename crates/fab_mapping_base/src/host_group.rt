@@ -1,5 +1,5 @@
 //! Host groups.
-ghost use Rattle.std.specs.Prelude.{◌≡◌, IfOk, IsTrue, ◌↔◌};
+ghost use Rattle.std.specs.Prelude.{◌≡◌, ℕ, List, false, IfOk, OnOk, OnErr, IsTrue, ◌↔◌};
 ghost use Rattle.std.specs.FinSet as set;
 ghost use Rattle.std.specs.List.Sorted.{IsStrictlySortedBy};
 ghost use Rattle.fab_names.specs.Orders.{name_cmp};
@@ -86,6 +86,39 @@ impl<A: Allocator + Copy> HostGroup<A> {
         ensures ordered { IsStrictlySortedBy name_cmp result }
     {
         self.hosts.iter()
+    }
+
+    /// Whether there is no host.
+    pub fn is_bare(&self) -> bool
+        ensures { IsTrue result ↔ ((host : List ℕ) → set.contains self.now.hosts host ≡ false) }
+    {
+        self.hosts.is_empty()
+    }
+
+    /// Sets whose it is.
+    pub fn set_tenant(&mut self, tenant: Name)
+        ensures { self.new ≡ record self.old { tenant = tenant } }
+    {
+        self.tenant = tenant;
+    }
+
+    /// Puts a host in, if it is not there. Nothing is tested.
+    ///
+    /// # Errors
+    /// `AllocError` where there is no memory. It is then as it was.
+    pub fn put_host(&mut self, host: Name) -> Result<(), AllocError>
+        ensures ok { OnOk result (self.new ≡ record self.old { hosts = set.insert self.old.hosts host }) }
+        ensures err { OnErr result (self.new ≡ self.old) }
+    {
+        self.hosts.insert(host)?;
+        Ok(())
+    }
+
+    /// Takes a host out, if it is there. It may be the last one.
+    pub fn take_host(&mut self, host: &Name)
+        ensures { self.new ≡ record self.old { hosts = set.remove self.old.hosts host.now } }
+    {
+        self.hosts.remove(host);
     }
 
     /// Whether there is a host, and there are no more than there may be.

@@ -17,7 +17,7 @@ mod served;
 mod sound;
 mod storage_group;
 
-pub use clash::least_clash;
+pub use clash::{are_at_odds, least_clash};
 pub use fault::{MappingFault, MappingLimit};
 pub use gone::{Gone, gone_array, gone_host, gone_target, gone_volume};
 pub use host_group::HostGroup;

@@ -7,6 +7,7 @@ ghost use Rattle.fab_names.specs.Orders.{name_cmp};
 ghost use Rattle.std.specs.FinMap as map;
 ghost use Rattle.fab_mapping_base.specs.ClashSearch.{MapsOther};
 ghost use Rattle.fab_mapping_base.specs.Soundness.{HasFewParts, HasUnitNumbers};
+ghost use Rattle.fab_mapping_base.specs.Bare.{HasNoPart};
 ghost use Rattle.fab_mapping_base.specs.Groups.{MapsVolume, new_storage_group, with_hosts, without_hosts, with_target, without_target, with_unit, without_unit, exposed_as, HasRoomForHosts, HasRoomForTarget, HasRoomForUnit, HasFreeUnit, HaveSameHead, AddHostsLimit, AddTargetLimit, MapRefusal};
 
 use crate::limits::{LAST_UNIT, MOST_GROUPS_SERVED, MOST_TARGETS, MOST_UNITS};
@@ -327,6 +328,64 @@ impl<A: Allocator + Copy> StorageGroup<A> {
         ensures { self.new ≡ without_unit unit self.old }
     {
         self.units.remove(&unit);
+    }
+
+    /// Puts a host group in, if it is not there, however many there are.
+    ///
+    /// # Errors
+    /// `AllocError` where there is no memory. It is then as it was.
+    pub fn put_hosts(&mut self, group: Name) -> Result<(), AllocError>
+        ensures ok { OnOk result (self.new ≡ with_hosts group self.old) }
+        ensures err { OnErr result (self.new ≡ self.old) }
+    {
+        self.host_groups.insert(group)?;
+        Ok(())
+    }
+
+    /// Puts a target port in, if it is not there, however many there are.
+    ///
+    /// # Errors
+    /// `AllocError` where there is no memory. It is then as it was.
+    pub fn put_target(&mut self, port: Wwn) -> Result<(), AllocError>
+        ensures ok { OnOk result (self.new ≡ with_target port self.old) }
+        ensures err { OnErr result (self.new ≡ self.old) }
+    {
+        self.targets.insert(port)?;
+        Ok(())
+    }
+
+    /// Puts a volume at a logical unit number, in place of the one there, however many there are.
+    ///
+    /// # Errors
+    /// `AllocError` where there is no memory. It is then as it was.
+    pub fn put_unit(&mut self, number: u16, volume: Name) -> Result<(), AllocError>
+        ensures ok { OnOk result (self.new ≡ with_unit number volume self.old) }
+        ensures err { OnErr result (self.new ≡ self.old) }
+    {
+        self.units.insert(number, volume)?;
+        Ok(())
+    }
+
+    /// Sets whose it is, the array that it is on, and whether it is exposed. Its parts stay.
+    pub fn set_head(&mut self, tenant: Name, array: Name, is_exposed: bool)
+        ensures { self.new ≡ record self.old { tenant = tenant; array = array; exposed = is_exposed } }
+    {
+        self.tenant = tenant;
+        self.array = array;
+        self.exposed = is_exposed;
+    }
+
+    /// Whether there is no host group, no target and no unit.
+    pub fn is_bare(&self) -> bool
+        ensures { IsTrue result ↔ HasNoPart self.now }
+    {
+        if !self.host_groups.is_empty() {
+            return false;
+        }
+        if !self.targets.is_empty() {
+            return false;
+        }
+        self.units.is_empty()
     }
 
     /// Exposes it, or hides it.

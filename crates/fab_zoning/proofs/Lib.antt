@@ -7,3 +7,7 @@ pub mod PortZoneLemmas
 pub mod Reasons
 pub mod Sounding
 pub mod Keeping
+pub mod Putting
+pub mod Taking
+pub mod SeenItems
+pub mod RowsTaken

@@ -9,3 +9,4 @@ pub mod Resolved
 pub mod Steps
 pub mod Soundness
 pub mod Inner
+pub mod Edits

@@ -5,6 +5,8 @@
 mod by_zone;
 mod fault;
 mod flag;
+mod items;
+mod key;
 pub mod laws;
 mod named;
 mod port_zones;
@@ -16,6 +18,8 @@ mod zoning;
 
 pub use fault::{ZoningFault, ZoningLimit};
 pub use flag::DefaultFlag;
+pub use items::{put_in_tree, take_from};
+pub use key::Key;
 pub use port_zones::PortZones;
 pub use why::Why;
 pub use zoning::{

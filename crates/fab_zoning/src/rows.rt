@@ -1,5 +1,5 @@
 //! The rows of the active set, kept by member.
-ghost use Rattle.std.specs.Prelude.{◌≡◌, ℕ, ◌≤◌, ◌+◌, ◌↔◌, List, true, min, OnOk, OnErr, IfOk, IsTrue, not};
+ghost use Rattle.std.specs.Prelude.{◌≡◌, ℕ, ◌≤◌, ◌+◌, ◌↔◌, List, true, min, cond, OnOk, OnErr, IfOk, IsTrue, not};
 ghost use Rattle.std.specs.FinSet as set;
 ghost use Rattle.std.specs.Map.{keys_of};
 ghost use Rattle.std.specs.List.Sorted.{IsStrictlySortedBy};
@@ -75,6 +75,34 @@ fn add_zone<A: Allocator + Copy>(
             zones_by_member.insert(member, zones)?;
             Ok(true)
         }
+    }
+}
+
+/// Takes the zone out of those of the member, and says whether it was there.
+fn remove_zone<A: Allocator + Copy>(
+    zones_by_member: &mut BTreeMap<Member, BTreeSet<Name, A>, A>,
+    member: &Member,
+    zone: &Name,
+) -> bool
+    ensures was { result ≡ set.contains (seen_rows zones_by_member.old.entries) (zone.now, member.now) }
+    ensures removed { seen_rows zones_by_member.new.entries ≡ set.remove (seen_rows zones_by_member.old.entries) (zone.now, member.now) }
+    ensures ordered { IsOrdered member_cmp zones_by_member.new }
+{
+    match zones_by_member.get_mut(member) {
+        Some(zones) => zones.remove(zone),
+        None => false,
+    }
+}
+
+/// One more, counted no further than one past the limit, if there is one more.
+fn one_more(count: usize, is_new: bool) -> usize
+    requires { count ≤ most_rows + 1 }
+    ensures { result ≡ min (cond is_new (count + 1) count) (most_rows + 1) }
+{
+    if is_new && count <= MOST_ROWS {
+        count + 1
+    } else {
+        count
     }
 }
 
@@ -195,6 +223,33 @@ impl<A: Allocator + Copy> ActiveRows<A> {
             self.count += 1;
         }
         Ok(())
+    }
+
+    /// Adds a row, if it is not there, however many there are.
+    ///
+    /// # Errors
+    /// `AllocError` where there is no memory. The rows are then as they were.
+    pub fn put(&mut self, zone: Name, member: Member) -> Result<(), AllocError>
+        ensures ok { OnOk result (self.new ≡ set.insert self.old (zone, member)) }
+        ensures err { OnErr result (self.new ≡ self.old) }
+    {
+        let is_new = add_zone(self.alloc, &mut self.zones_by_member, member, zone)?;
+        self.count = one_more(self.count, is_new);
+        Ok(())
+    }
+
+    /// Takes a row out, if it is there. It takes no memory. Where there are more rows than there may
+    /// be, they are counted anew.
+    pub fn take(&mut self, zone: &Name, member: &Member)
+        ensures { self.new ≡ set.remove self.old (zone.now, member.now) }
+    {
+        if remove_zone(&mut self.zones_by_member, member, zone) {
+            if self.count <= MOST_ROWS {
+                self.count -= 1;
+            } else {
+                self.count = count_rows(&self.zones_by_member);
+            }
+        }
     }
 
     /// Whether the row is there.

@@ -1,5 +1,5 @@
 //! The zoning of one fabric.
-ghost use Rattle.std.specs.Prelude.{◌≡◌, ℕ, List, ◌<◌, ◌≤◌, ◌↔◌, Some, None, true, length, All, MatchOption, IsTrue, IsSome, IfSome, IfOk, OnOk, IfErr, OnErr};
+ghost use Rattle.std.specs.Prelude.{◌≡◌, ℕ, List, ◌<◌, ◌≤◌, ◌+◌, min, ◌↔◌, Some, None, true, length, All, MatchOption, IsTrue, IsSome, IfSome, IfOk, OnOk, IfErr, OnErr};
 ghost use Rattle.std.specs.FinMap as map;
 ghost use Rattle.std.specs.FinSet as set;
 ghost use Rattle.std.specs.Option.{option_map, option_copied};
@@ -13,6 +13,7 @@ ghost use Rattle.fab_lemmas.specs.Lists.{IsListOf};
 ghost use Rattle.fab_zoning.specs.Rows.{row_cmp, IsRowOf, IsPlain};
 ghost use Rattle.fab_zoning.specs.Soundness.{AreSoundDefinitions, IsSoundActive, IsSound};
 ghost use Rattle.fab_zoning.specs.Zonings.{new_zoning};
+ghost use Rattle.fab_zoning.specs.Edits.{Puts, Takes, IsItem, HasSome};
 ghost use Rattle.fab_zoning.specs.Parts.{zoning_of};
 ghost use Rattle.fab_zoning.specs.PortZones.{in_zones};
 ghost use Rattle.fab_zoning.specs.Views.{seen_rows};
@@ -20,6 +21,7 @@ ghost use Rattle.fab_zoning.specs.Joins.{IsLoggedInAt, Holds, Joined, Explains};
 ghost use Rattle.fab_zoning.specs.Resolved.{AreResolved};
 ghost use Rattle.fab_zoning.specs.Steps.{IsListing, IsListingFault, CanPutAlias, IsPutAliasFault, CanPutZone, IsPutZoneFault, CanPutSet, IsPutSetFault, CanDropAlias, IsDropAliasFault, CanDropZone, IsDropZoneFault, IsDropSetFault, IsActivateFault};
 
+use crate::items::{put_item, take_item};
 use crate::named::{
     first_unknown, first_unknown_alias, first_user, is_full, knows, members_of, names_of, put,
     take_out,
@@ -418,6 +420,100 @@ impl<A: Allocator + Copy> Zoning<A> {
         Ok(())
     }
 
+    /// Puts a member of an alias, and makes it where there is none of this name. Nothing is tested.
+    ///
+    /// # Errors
+    /// `AllocError` where there is no memory. The zoning is then as it was.
+    pub fn add_to_alias(&mut self, name: Name, member: Member) -> Result<(), AllocError>
+        ensures puts { OnOk result (Puts (name, member) (IsItem self.old.aliases) (IsItem self.new.aliases)) }
+        ensures rest { OnOk result (self.new ≡ record self.old { aliases = self.new.aliases }) }
+        ensures some { OnOk result (HasSome self.old.aliases → HasSome self.new.aliases) }
+        ensures err { OnErr result (self.new ≡ self.old) }
+    {
+        put_item(self.alloc, &mut self.aliases, name, member)
+    }
+
+    /// Takes out a member of an alias, if it is there, and the whole where nothing is left. Nothing is
+    /// tested. It takes no memory.
+    pub fn take_from_alias(&mut self, name: &Name, member: &Member)
+        ensures takes { Takes (name.now, member.now) (IsItem self.old.aliases) (IsItem self.new.aliases) }
+        ensures rest { self.new ≡ record self.old { aliases = self.new.aliases } }
+        ensures some { HasSome self.old.aliases → HasSome self.new.aliases }
+    {
+        take_item(&mut self.aliases, name, member);
+    }
+
+    /// Puts a member of a zone, and makes it where there is none of this name. Nothing is tested.
+    ///
+    /// # Errors
+    /// `AllocError` where there is no memory. The zoning is then as it was.
+    pub fn add_to_zone(&mut self, name: Name, member: Member) -> Result<(), AllocError>
+        ensures puts { OnOk result (Puts (name, member) (IsItem self.old.zones) (IsItem self.new.zones)) }
+        ensures rest { OnOk result (self.new ≡ record self.old { zones = self.new.zones }) }
+        ensures some { OnOk result (HasSome self.old.zones → HasSome self.new.zones) }
+        ensures err { OnErr result (self.new ≡ self.old) }
+    {
+        put_item(self.alloc, &mut self.zones, name, member)
+    }
+
+    /// Takes out a member of a zone, if it is there, and the whole where nothing is left. Nothing is
+    /// tested. It takes no memory.
+    pub fn take_from_zone(&mut self, name: &Name, member: &Member)
+        ensures takes { Takes (name.now, member.now) (IsItem self.old.zones) (IsItem self.new.zones) }
+        ensures rest { self.new ≡ record self.old { zones = self.new.zones } }
+        ensures some { HasSome self.old.zones → HasSome self.new.zones }
+    {
+        take_item(&mut self.zones, name, member);
+    }
+
+    /// Puts a zone of a zone set, and makes it where there is none of this name. Nothing is tested.
+    ///
+    /// # Errors
+    /// `AllocError` where there is no memory. The zoning is then as it was.
+    pub fn add_to_set(&mut self, name: Name, zone: Name) -> Result<(), AllocError>
+        ensures puts { OnOk result (Puts (name, zone) (IsItem self.old.sets) (IsItem self.new.sets)) }
+        ensures rest { OnOk result (self.new ≡ record self.old { sets = self.new.sets }) }
+        ensures some { OnOk result (HasSome self.old.sets → HasSome self.new.sets) }
+        ensures err { OnErr result (self.new ≡ self.old) }
+    {
+        put_item(self.alloc, &mut self.sets, name, zone)
+    }
+
+    /// Takes out a zone of a zone set, if it is there, and the whole where nothing is left. Nothing is
+    /// tested. It takes no memory.
+    pub fn take_from_set(&mut self, name: &Name, zone: &Name)
+        ensures takes { Takes (name.now, zone.now) (IsItem self.old.sets) (IsItem self.new.sets) }
+        ensures rest { self.new ≡ record self.old { sets = self.new.sets } }
+        ensures some { HasSome self.old.sets → HasSome self.new.sets }
+    {
+        take_item(&mut self.sets, name, zone);
+    }
+
+    /// Puts an active row. Nothing is tested.
+    ///
+    /// # Errors
+    /// `AllocError` where there is no memory. The zoning is then as it was.
+    pub fn add_active(&mut self, zone: Name, member: Member) -> Result<(), AllocError>
+        ensures ok { OnOk result (self.new ≡ record self.old { rows = set.insert self.old.rows (zone, member) }) }
+        ensures err { OnErr result (self.new ≡ self.old) }
+    {
+        self.rows.put(zone, member)
+    }
+
+    /// Takes out an active row, if it is there. Nothing is tested. It takes no memory.
+    pub fn take_active(&mut self, zone: &Name, member: &Member)
+        ensures { self.new ≡ record self.old { rows = set.remove self.old.rows (zone.now, member.now) } }
+    {
+        self.rows.take(zone, member);
+    }
+
+    /// Sets the name of the active set, or none. Nothing is tested, and the rows stay.
+    pub fn set_active_name(&mut self, name: Option<Name>)
+        ensures { self.new ≡ record self.old { active = name } }
+    {
+        self.active = name;
+    }
+
     /// Why two ports may communicate, where they may. It takes no memory.
     ///
     /// They may where they are two ports, both logged in at this fabric, and some zone of the
@@ -542,6 +638,13 @@ impl<A: Allocator + Copy> Zoning<A> {
         ensures ordered { IsStrictlySortedBy member_cmp (keys_of result) }
     {
         self.rows.zones_by_member()
+    }
+
+    /// How many rows are active, counted no further than one past the limit. It takes no memory.
+    pub fn active_count(&self) -> usize
+        ensures { result ≡ min (set.len self.now.rows) (most_rows + 1) }
+    {
+        self.rows.count()
     }
 
     /// The active rows, by zone and then by member. The time grows in step with the rows and the

@@ -1,0 +1,9 @@
+use Rattle.std.proofs.Common.{ap, ◌∙◌}
+use Rattle.std.specs.FinMap as map
+use Rattle.fab_lemmas.proofs.SeenMaps.{seen_insert}
+use Rattle.fab_names.proofs.OrderLaws.{name_total, name_exact}
+use Rattle.fab_mapping.specs.Mappings.{MappingRows}
+use Rattle.fab_mapping.proofs.mapping.Mapping.restore_host_group.Goals as goal
+
+pub returns-clause-ok : goal.returns-clause-ok
+returns-clause-ok g c = (λ i. record { host_groups = seen_insert name_total name_exact c.self.inside.host_groups c.insert.new.self c.args.name c.args.own c.in_ok-insert.ensures.updates.0 i; groups = map.from_entries c.self.inside.groups.entries }) ∙ ap (λ (v : MappingRows). record v { host_groups = map.insert v.host_groups c.args.name c.args.own }) c.self.view_is
