@@ -4,14 +4,14 @@ ghost use Rattle.fab_reach_base.specs.Records.{Records};
 ghost use Rattle.fab_reach_base.specs.Orders.{Has, IsListOf, path_cmp};
 ghost use Rattle.fab_reach_base.specs.Reach.{PathOf};
 ghost use Rattle.fab_reach_base.specs.Adding.{Adds};
-ghost use Rattle.fab_reach.specs.Inner.Asking.{in_rows, IsLater, IsEarlier};
+ghost use Rattle.fab_reach.specs.Inner.Asking.{in_rows, AreToldIn, IsLater, IsEarlier};
 ghost use Rattle.fab_reach_base.specs.Books.{IsDelta};
 ghost use Rattle.fab_reach_books.specs.Pairs.{AreChanged, pair_cmp};
 ghost use Rattle.fab_reach_index.specs.Indexes.{IsTreeOf, IsRowOf};
 
 use fab_names::Wwn;
 use fab_reach_base::{Delta, Path, listed};
-use fab_reach_books::Sight;
+use fab_reach_books::{RenewedGroups, Sight};
 use std::alloc::{AllocError, Allocator};
 use std::collections::{BTreeMap, BTreeSet};
 
@@ -67,27 +67,36 @@ fn add_gone<A: Allocator + Copy>(
     Ok(())
 }
 
-/// The paths of a pair, by one question.
+/// The paths of a pair, by one question, which tells the storage groups of the hosts where they are
+/// known.
 fn ask<A: Allocator + Copy, S: Sight<A>>(
     sight: &mut S,
     p: &Wwn,
     q: &Wwn,
+    groups: Option<RenewedGroups<'_, A>>,
 ) -> Result<Vec<Path, A>, AllocError>
+    requires { AreToldIn (S.world sight.old) groups }
     ensures same { S.world sight.new ≡ S.world sight.old }
     ensures counted { S.count sight.new ≡ min (S.count sight.old + 1) 18446744073709551615 }
     ensures paths { IfOk result (λ paths. IsListOf (PathOf (S.world sight.old) p.now q.now) paths.items) }
 {
-    sight.pair(p, q)
+    match groups {
+        Some(groups) => sight.pair_by(p, q, &groups),
+        None => sight.pair(p, q),
+    }
 }
 
 /// What a step gains and loses, by the paths of these pairs before it and in the world that is
-/// seen. It asks about each pair once.
+/// seen. It asks about each pair once. The storage groups of the hosts in the world that is seen are
+/// told where they are known.
 pub fn delta_by<A: Allocator + Copy, S: Sight<A>>(
     alloc: A,
     rows: &BTreeMap<(Wwn, Wwn), BTreeSet<Path, A>, A>,
     pairs: &[(Wwn, Wwn)],
+    groups: Option<RenewedGroups<'_, A>>,
     sight: &mut S,
 ) -> Result<Delta<A>, AllocError>
+    requires { AreToldIn (S.world sight.old) groups }
     ensures delta { (w : Records) → IsTreeOf pair_cmp path_cmp (IsRowOf w) rows.now → AreChanged w (S.world sight.old) pairs.now → IfOk result (λ delta. IsDelta w (S.world sight.old) delta.gained.items delta.lost.items) }
     ensures most { S.count sight.new ≤ S.count sight.old + length pairs.now }
     ensures least { OnOk result (S.count sight.new < 18446744073709551615 → S.count sight.old + length pairs.now ≤ S.count sight.new) }
@@ -96,7 +105,7 @@ pub fn delta_by<A: Allocator + Copy, S: Sight<A>>(
     let mut gained = BTreeSet::new(alloc);
     let mut lost = BTreeSet::new(alloc);
     for (p, q) in pairs {
-        let now = ask(sight, p, q)?;
+        let now = ask(sight, p, q, groups)?;
         let before = rows.get(&(*p, *q));
         add_new(&mut gained, now.as_slice(), before)?;
         add_gone(&mut lost, before, now.as_slice())?;

@@ -1,5 +1,5 @@
 //! A book that asks about affected pairs alone.
-ghost use Rattle.std.specs.Prelude.{◌≡◌, ◌↔◌, ℕ, List, true, false, IsTrue, IfOk, OnOk, ◌≤◌, ◌+◌, ◌<◌, length};
+ghost use Rattle.std.specs.Prelude.{◌≡◌, ◌↔◌, ℕ, List, None, true, false, IsTrue, IfOk, OnOk, ◌≤◌, ◌+◌, ◌<◌, length};
 ghost use Rattle.fab_reach_base.specs.Adding.{Adds};
 ghost use Rattle.fab_reach_base.specs.Books.{IsDelta};
 ghost use Rattle.fab_reach_base.specs.Orders.{Has, IsListOf, path_cmp};
@@ -11,8 +11,9 @@ ghost use Rattle.fab_reach_books.specs.Counts.{most_asked, IsAtMost};
 ghost use Rattle.fab_reach_books.specs.Numbers.{IsNumberOf};
 ghost use Rattle.fab_reach_books.specs.Pairs.{AreChanged};
 ghost use Rattle.fab_reach_books.specs.Rows.{IsRowDiff};
-ghost use Rattle.fab_reach_index.specs.Indexes.{IsIndexOf};
-ghost use Rattle.fab_reach_index.specs.Patches.{HasRoom, HaveSame, IsPatchTo};
+ghost use Rattle.fab_names.specs.Orders.{name_cmp};
+ghost use Rattle.fab_reach_index.specs.Indexes.{IsHostServed, IsIndexOf};
+ghost use Rattle.fab_reach_index.specs.Patches.{HasRoom, HaveSame, IsPatchTo, LeadsTo};
 ghost use Rattle.fab_reach_moves.specs.Inner.Moved.{IsMovedBy};
 ghost use Rattle.fab_reach_moves.specs.Inner.Telling.{IsTold};
 ghost use Rattle.fab_reach.specs.Inner.Asked.{IsAsked};
@@ -22,11 +23,12 @@ use crate::finding::told_pairs;
 use crate::own_rows::own_rows;
 use fab_names::{Name, Wwn};
 use fab_reach_base::{Delta, MOST_PATHS, Path, View, all_paths};
-use fab_reach_books::{Meter, PathBook, RowDiff, Sight};
+use fab_reach_books::{Meter, PathBook, RenewedGroups, RowDiff, Sight};
 use fab_reach_index::Index;
 use fab_reach_moves::{Moved, Told, told_moved};
-use fab_reach_patches::patch_of;
+use fab_reach_patches::{group_patch, patch_of};
 use std::alloc::{AllocError, Allocator};
+use std::collections::{BTreeMap, BTreeSet};
 
 /// A book that keeps the paths of each pair, and what tells which pairs a change may touch.
 #[derive(Drop)]
@@ -66,6 +68,14 @@ fn is_few(count: usize) -> bool
     ensures many { result ≡ false → MOST_PATHS < count }
 {
     count <= MOST_PATHS
+}
+
+/// No groups, where none are told: they would live as long as the index.
+fn untold<'a, A: Allocator + Copy>(index: &'a Index<A>) -> Option<RenewedGroups<'a, A>>
+    ensures { result ≡ None }
+{
+    let _index = index;
+    None
 }
 
 impl<A: Allocator + Copy> IndexBook<A> {
@@ -111,21 +121,25 @@ impl<A: Allocator + Copy> IndexBook<A> {
         ensures least { OnOk result (S.count sight.new < most_asked → S.count sight.old + length pairs.now ≤ S.count sight.new) }
         ensures same { S.world sight.new ≡ S.world sight.old }
     {
-        delta_by(self.alloc, &self.index.rows, pairs, sight)
+        let groups = untold(&self.index);
+        delta_by(self.alloc, &self.index.rows, pairs, groups, sight)
     }
 
-    /// What a step gains and loses, by what its difference moves.
+    /// What a step gains and loses, by what its difference moves, where the new sets of hosts' storage
+    /// groups are known.
     fn lists<S: Sight<A>>(
         &self,
         before: &View<'_, A>,
         told: &Told<A>,
         moved: &Moved<A>,
+        groups: &BTreeMap<Name, BTreeSet<Name, A>, A>,
         sight: &mut S,
     ) -> Result<Delta<A>, AllocError>
         requires stands { IsServing (seen before.now) × IsIndexOf (seen before.now) self.now.index }
         requires sound { IsServing (S.world sight.old) }
         requires told { IsTold (seen before.now) (S.world sight.old) told.now }
         requires moved { IsMovedBy (seen before.now) (S.world sight.old) moved.now }
+        requires groups { LeadsTo name_cmp name_cmp (IsHostServed (S.world sight.old)) groups.now self.now.index.groups }
         ensures delta { IfOk result (λ delta. IsDelta (seen before.now) (S.world sight.old) delta.gained.items delta.lost.items) }
         ensures asked { OnOk result (IsAsked (seen before.now) (S.world sight.old) (S.count sight.old) (S.count sight.new)) }
         ensures limits { IsAtMost (seen before.now) (S.world sight.old) (S.count sight.old) (S.count sight.new) }
@@ -133,7 +147,17 @@ impl<A: Allocator + Copy> IndexBook<A> {
     {
         let pairs = told_pairs(self.alloc, &self.index, before, told, moved)?;
         let _count = pairs.len();
-        let delta = self.prepare_by(pairs.as_slice(), sight)?;
+        let known = RenewedGroups {
+            new: groups,
+            old: &self.index.groups,
+        };
+        let delta = delta_by(
+            self.alloc,
+            &self.index.rows,
+            pairs.as_slice(),
+            Some(known),
+            sight,
+        )?;
         Ok(delta)
     }
 
@@ -171,8 +195,17 @@ impl<A: Allocator + Copy> IndexBook<A> {
     {
         let told = Told::of(self.alloc, diff)?;
         let moved = told_moved(self.alloc, &self.index, before, diff)?;
-        let delta = self.lists(before, &told, &moved, sight)?;
-        let patch = patch_of(self.alloc, &self.index, before, &told, &moved, &delta)?;
+        let groups = group_patch(self.alloc, &self.index, before, &told, &moved.groups)?;
+        let delta = self.lists(before, &told, &moved, &groups, sight)?;
+        let patch = patch_of(
+            self.alloc,
+            &self.index,
+            before,
+            &told,
+            &moved,
+            groups,
+            &delta,
+        )?;
         let paths = paths_after(self.paths, &delta)?;
         Ok(IndexStep {
             delta,

@@ -24,7 +24,7 @@ use Rattle.fab_reach_base.specs.Adding.{Adds, AddsOnly}
 use Rattle.fab_reach_base.specs.Records.{Records}
 use Rattle.fab_reach_base.specs.Orders.{path_cmp, Has, IsListOf}
 use Rattle.fab_reach_base.specs.Reach.{IsPort, IsInitiator, IsTarget, PathOf, Reaches}
-use Rattle.fab_reach_base.specs.Gathering.{Index, Lists, IsIndexOf, MayMeet, UnitPath, GroupPath, HasTarget, IsTargeted, PathFrom, StopsAt}
+use Rattle.fab_reach_base.specs.Gathering.{Index, Lists, IsIndexOf, AreGroupsOf, MayMeet, UnitPath, GroupPath, HasTarget, IsTargeted, PathFrom, StopsAt}
 use Rattle.fab_reach_base.specs.Limits.{MoreThan, IsPathsFault}
 use Rattle.fab_reach_base.proofs.PathOrder.{path_total, path_exact}
 use Rattle.fab_reach_base.proofs.Adding.{Before, adds_as, adds_none, from_none, only_as, before_stop}
@@ -69,7 +69,7 @@ module _ (m : MappingRows) (f : Fabric) (p q : ℕ) (n : List ℕ) where
   no_group old none = adds_none (GroupPath m f p q n) old (λ x w. let e : ◌≡◌ {A = Option StorageGroupRows} None (Some w.0) = sym none ∙ w.1 in absurd cc)
 
 -- a pair of ports of which one is a host's
-module _ (w : Records) (t : Index) (index : IsIndexOf w.config.mapping t) (host : List ℕ) (p q : Port) (p_is : IsPort w p.name p) (q_is : IsPort w q.name q) (initiator : IsInitiator w p host) where
+module _ (w : Records) (o : Option (BTreeSet (List ℕ))) (host : List ℕ) (are : AreGroupsOf w.config.mapping host o) (p q : Port) (p_is : IsPort w p.name p) (q_is : IsPort w q.name q) (initiator : IsInitiator w p host) where
   -- what a path of the pair says
   meets_in : (x : Path) → PathOf w p.name q.name x → MayMeet w p q x.fabric
   meets_in x h =
@@ -77,18 +77,18 @@ module _ (w : Records) (t : Index) (index : IsIndexOf w.config.mapping t) (host 
       let to : h.to ≡ q = same_some h.to_is q_is in
       subst (λ y. MayMeet w y q x.fabric) from (subst (λ y. MayMeet w h.from y x.fabric) to (h.meets.to, h.meets.here, h.meets.joined))
 
-  served_by : (x : Path) (h : PathOf w p.name q.name x) → Lists t (host, h.mapped.0) × GroupPath w.config.mapping x.fabric p.name q.name h.mapped.0 x
+  served_by : (x : Path) (h : PathOf w p.name q.name x) → (in_tree name_cmp o h.mapped.0 ≡ true) × GroupPath w.config.mapping x.fabric p.name q.name h.mapped.0 x
   served_by x h =
       let m = h.mapped in
       let c = m.4 in
       let same : h.host ≡ host = same_some h.meets.from.held (ap (λ (y : Port). y.holder) (same_some h.from_is p_is) ∙ initiator.held) in (
-        (index (host, m.0)).1 (m.1, m.2, m.3, (c.0, c.2, (c.1, c.3, subst (λ y. set.contains c.1.hosts y ≡ true) same c.4.0))),
+        (are m.0).1 (m.1, m.2, m.3, (c.0, c.2, (c.1, c.3, subst (λ y. set.contains c.1.hosts y ≡ true) same c.4.0))),
         (m.1, m.2, subst (λ y. set.contains m.1.targets y ≡ true) h.target c.4.1, (refl, h.initiator, h.target, c.4.2)),
       )
 
-  made : (f : Fabric) (n : List ℕ) (x : Path) → MayMeet w p q f → Lists t (host, n) → GroupPath w.config.mapping f p.name q.name n x → PathOf w p.name q.name x
+  made : (f : Fabric) (n : List ℕ) (x : Path) → MayMeet w p q f → in_tree name_cmp o n ≡ true → GroupPath w.config.mapping f p.name q.name n x → PathOf w p.name q.name x
   made f n x meets listed h =
-      let s = (index (host, n)).0 listed in
+      let s = (are n).0 listed in
       let u = h.3 in
       let same : s.0 ≡ h.0 = same_some s.1 h.1 in record {
         initiator = u.1;
@@ -105,11 +105,11 @@ module _ (w : Records) (t : Index) (index : IsIndexOf w.config.mapping t) (host 
   pub no_meeting : (old : Path → Type 0) → ((f : Fabric) → ¬ MayMeet w p q f) → Adds (PathOf w p.name q.name) old old
   no_meeting old none = adds_none (PathOf w p.name q.name) old (λ x h. none x.fabric (meets_in x h))
 
-  pub not_served : (old : Path → Type 0) → tree.get name_cmp t host ≡ None → Adds (PathOf w p.name q.name) old old
-  not_served old none = adds_none (PathOf w p.name q.name) old (λ x h. true≢false (sym (served_by x h).0 ∙ ap (λ o. in_tree name_cmp o h.mapped.0) none))
+  pub not_served : (old : Path → Type 0) → o ≡ None → Adds (PathOf w p.name q.name) old old
+  not_served old none = adds_none (PathOf w p.name q.name) old (λ x h. true≢false (sym (served_by x h).0 ∙ ap (λ g. in_tree name_cmp g h.mapped.0) none))
 
   -- the paths by each group of the host
-  pub pair_added : (f : Fabric) (groups : BTreeSet (List ℕ)) (ns : List (List ℕ)) (old new : Path → Type 0) → MayMeet w p q f → tree.get name_cmp t host ≡ Some groups → ns ≡ groups.keys
+  pub pair_added : (f : Fabric) (groups : BTreeSet (List ℕ)) (ns : List (List ℕ)) (old new : Path → Type 0) → MayMeet w p q f → o ≡ Some groups → ns ≡ groups.keys
       → Adds (Before (GroupPath w.config.mapping f p.name q.name) ns) old new → Adds (PathOf w p.name q.name) old new
   pair_added f groups ns old new meets at is = adds_as (Before (GroupPath w.config.mapping f p.name q.name) ns) (PathOf w p.name q.name) old new
       (λ x h. made f h.0 x meets (listed h.0 h.1) h.2)
@@ -121,11 +121,11 @@ module _ (w : Records) (t : Index) (index : IsIndexOf w.config.mapping t) (host 
       iff : (n : List ℕ) → (IsTrue (contains name_cmp groups n) → Contains groups.keys n) × (Contains groups.keys n → IsTrue (contains name_cmp groups n))
       iff n = btree_set_contains_iff name_total name_exact groups n
 
-      listed : (n : List ℕ) → Contains ns n → Lists t (host, n)
-      listed n h = ap (λ o. in_tree name_cmp o n) at ∙ (iff n).1 (subst (λ ys. Contains ys n) is h)
+      listed : (n : List ℕ) → Contains ns n → in_tree name_cmp o n ≡ true
+      listed n h = ap (λ g. in_tree name_cmp g n) at ∙ (iff n).1 (subst (λ ys. Contains ys n) is h)
 
-      among : (n : List ℕ) → Lists t (host, n) → Contains ns n
-      among n h = subst (λ ys. Contains ys n) (sym is) ((iff n).0 (sym (ap (λ o. in_tree name_cmp o n) at) ∙ h))
+      among : (n : List ℕ) → in_tree name_cmp o n ≡ true → Contains ns n
+      among n h = subst (λ ys. Contains ys n) (sym is) ((iff n).0 (sym (ap (λ g. in_tree name_cmp g n) at) ∙ h))
 
 -- ---- targets
 
@@ -203,7 +203,7 @@ module _ (w : Records) where
       (λ x h. from_pair p.name h.0 x h.2)
       (λ x h.
       let own : PathOf w p.name h.to.name x = subst (λ q. PathOf w p.name q x) (sym (name_of x.target h.to h.to_is)) h in
-      let b = served_by w t index host p h.to p_is (is_own x.target h.to h.to_is) initiator x own in
+      let b = served_by w (tree.get name_cmp t host) host (λ n. index (host, n)) p h.to p_is (is_own x.target h.to h.to_is) initiator x own in
       let g = b.1 in
       let to : IsTargeted w.config.mapping groups x.target = (own.mapped.0, sym (ap (λ o. in_tree name_cmp o own.mapped.0) at) ∙ b.0, (g.0, g.1, ap (set.contains g.0.targets) (sym (name_of x.target h.to h.to_is)) ∙ g.2)) in
       (x.target, subst (λ ys. Contains ys x.target) (sym is) ((btree_set_contains_iff nat_cmp_total set.nat_cmp-IsAntisymmetric s x.target).0 ((offered x.target).1 to)), h))
@@ -212,7 +212,7 @@ module _ (w : Records) where
   pub not_served_from : (t : Index) (host : List ℕ) (p : Port) (old : Path → Type 0) → IsIndexOf w.config.mapping t → IsPort w p.name p → IsInitiator w p host → tree.get name_cmp t host ≡ None → Adds (PathFrom w p.name) old old
   not_served_from t host p old index p_is initiator none = adds_none (PathFrom w p.name) old (λ x h.
       let own : PathOf w p.name h.to.name x = subst (λ q. PathOf w p.name q x) (sym (name_of x.target h.to h.to_is)) h in
-      let b = served_by w t index host p h.to p_is (is_own x.target h.to h.to_is) initiator x own in
+      let b = served_by w (tree.get name_cmp t host) host (λ n. index (host, n)) p h.to p_is (is_own x.target h.to h.to_is) initiator x own in
       true≢false (sym b.0 ∙ ap (λ o. in_tree name_cmp o own.mapped.0) none))
 
   -- what is known of a port

@@ -1,6 +1,6 @@
 -- How paths are found, by the exposed storage groups of a host: what the private loops say of
 -- themselves. No public contract names anything of this file.
-use Rattle.std.specs.Prelude.{ℕ, ◌≡◌, ◌↔◌, ◌<◌, List, length, Some, true, IsTrue}
+use Rattle.std.specs.Prelude.{ℕ, ◌≡◌, ◌↔◌, ◌<◌, List, length, Option, Some, true, IsTrue}
 use Rattle.std.specs.BTreeMap.{BTreeMap}
 use Rattle.std.specs.BTreeSet.{BTreeSet, IsOrdered, contains}
 use Rattle.std.specs.FinMap as map
@@ -9,7 +9,7 @@ use Rattle.fab_names.specs.Orders.{name_cmp}
 use Rattle.fab_names.specs.declared.fabric.Fabric.{Fabric}
 use Rattle.fab_inventory.specs.declared.port.Port.{Port}
 use Rattle.fab_zoning.specs.Joins.{IsLoggedInAt, Joined}
-use Rattle.fab_lemmas.specs.MapsOfSets.{tree_has}
+use Rattle.fab_lemmas.specs.MapsOfSets.{in_tree, tree_has}
 use Rattle.fab_mapping_base.specs.Groups.{HostGroupRows, StorageGroupRows}
 use Rattle.fab_mapping.specs.Mappings.{MappingRows}
 use Rattle.fab_reach_base.specs.Records.{Records, zoning_at}
@@ -43,6 +43,10 @@ IsServed m e = (g : StorageGroupRows) × (map.get m.groups e.1 ≡ Some g) × (g
 -- the index has just the exposed storage groups that serve each host
 abbrev pub IsIndexOf : MappingRows → Index → Type 0
 IsIndexOf m t = (e : List ℕ × List ℕ) → Lists t e ↔ IsServed m e
+
+-- the set, if there is one, has just the exposed storage groups that serve the host
+abbrev pub AreGroupsOf : MappingRows → List ℕ → Option (BTreeSet (List ℕ)) → Type 0
+AreGroupsOf m host groups = (n : List ℕ) → (in_tree name_cmp groups n ≡ true) ↔ IsServed m (host, n)
 
 -- the initiator port and the target port may communicate in the fabric
 abbrev pub MayMeet : Records → Port → Port → Fabric → Type 0

@@ -13,8 +13,8 @@ mod view;
 pub use book::Delta;
 pub use config::Config;
 pub use listing::{
-    MOST_PATHS, PathsFault, add_pair, all_paths, few_paths, host_of, listed, plain_paths,
-    targets_of,
+    MOST_PATHS, PathsFault, add_pair, add_pair_of, all_paths, few_paths, host_of, listed,
+    plain_paths, targets_of,
 };
 pub use path::Path;
 pub use served::served_hosts;

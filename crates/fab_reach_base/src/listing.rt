@@ -1,12 +1,13 @@
 //! The paths of a world, pair by pair.
 ghost use Rattle.std.specs.Prelude.{◌≡◌, ◌≤◌, ℕ, List, length, Some, true, IsTrue, ◌↔◌, OnOk, IfOk, IfErr, MatchOption};
+ghost use Rattle.std.specs.Option.{option_copied};
 ghost use Rattle.std.specs.BTreeSet.{contains};
 ghost use Rattle.std.specs.FinSet as set;
 ghost use Rattle.std.specs.Ordering.{nat_cmp};
 ghost use Rattle.fab_reach_base.specs.Adding.{Adds, AddsOnly};
 ghost use Rattle.fab_reach_base.specs.Orders.{Has, IsListOf};
 ghost use Rattle.fab_reach_base.specs.Reach.{IsPort, IsInitiator, IsTarget, PathOf, Reaches};
-ghost use Rattle.fab_reach_base.specs.Gathering.{Lists, IsIndexOf, MayMeet, UnitPath, GroupPath, HasTarget, IsTargeted, PathFrom, StopsAt};
+ghost use Rattle.fab_reach_base.specs.Gathering.{Lists, IsIndexOf, AreGroupsOf, MayMeet, UnitPath, GroupPath, HasTarget, IsTargeted, PathFrom, StopsAt};
 ghost use Rattle.fab_reach_base.specs.Limits.{IsPathsFault};
 ghost use Rattle.fab_reach_base.specs.declared.listing.TheConstants.{MOST_PATHS};
 ghost use Rattle.fab_reach_base.specs.Views.{seen};
@@ -137,8 +138,40 @@ fn add_group<A: Allocator + Copy>(
     Ok(())
 }
 
-/// Adds the paths of a pair of ports: those of the exposed storage groups that serve the host of `p`
-/// and have `q` as a target, where the two ports are logged in at one fabric that joins them.
+/// Adds the paths of a pair of ports: those of the exposed storage groups that serve the host of `p`,
+/// which are given, and have `q` as a target, where the two ports are logged in at one fabric that joins
+/// them.
+///
+/// # Errors
+/// `AllocError` where there is no memory; some of the paths may have been added.
+pub fn add_pair_of<A: Allocator + Copy>(
+    paths: &mut BTreeSet<Path, A>,
+    view: &View<'_, A>,
+    groups: Option<&BTreeSet<Name, A>>,
+    host: &Name,
+    p: &Port,
+    q: &Port,
+) -> Result<(), AllocError>
+    requires groups { AreGroupsOf (seen view.now).config.mapping host.now (option_copied groups) }
+    requires p { IsPort (seen view.now) p.now.name p.now }
+    requires q { IsPort (seen view.now) q.now.name q.now }
+    requires host { IsInitiator (seen view.now) p.now host.now }
+    ensures { OnOk result (Adds (PathOf (seen view.now) p.now.name q.now.name) (Has paths.old) (Has paths.new)) }
+{
+    let _host = host;
+    let Some(fabric) = meeting(view, p, q) else {
+        return Ok(());
+    };
+    let Some(groups) = groups else {
+        return Ok(());
+    };
+    for name in groups {
+        add_group(paths, view.config.mapping(), fabric, p.name, q.name, name)?;
+    }
+    Ok(())
+}
+
+/// Adds the paths of a pair of ports, where the groups of each host are known.
 ///
 /// # Errors
 /// `AllocError` where there is no memory; some of the paths may have been added.
@@ -156,16 +189,7 @@ pub fn add_pair<A: Allocator + Copy>(
     requires host { IsInitiator (seen view.now) p.now host.now }
     ensures { OnOk result (Adds (PathOf (seen view.now) p.now.name q.now.name) (Has paths.old) (Has paths.new)) }
 {
-    let Some(fabric) = meeting(view, p, q) else {
-        return Ok(());
-    };
-    let Some(groups) = served.get(host) else {
-        return Ok(());
-    };
-    for name in groups {
-        add_group(paths, view.config.mapping(), fabric, p.name, q.name, name)?;
-    }
-    Ok(())
+    add_pair_of(paths, view, served.get(host), host, p, q)
 }
 
 /// Adds the targets of a storage group.

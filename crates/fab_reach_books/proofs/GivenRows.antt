@@ -1,5 +1,5 @@
 -- Rows of differences that are told already.
-use Rattle.std.proofs.Common.{ℕ, ◌≡◌, ◌⊎◌, ◌∷◌, ◌++◌, List, [], Contains, Option, Some, inl, inr, refl, sym, ap, subst, arith}
+use Rattle.std.proofs.Common.{ℕ, ◌≡◌, List, [], Contains, Some, inl, inr, refl, sym, subst, arith}
 use Rattle.std.specs.Coded.{Coded, code_by, coded×, coded_ℕ, coded_option}
 use Rattle.std.specs.FinMap as map
 use Rattle.fab_inventory.specs.Codes.{known_code, holder_code}

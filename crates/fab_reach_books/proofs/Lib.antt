@@ -5,3 +5,4 @@ pub mod RowsTold
 pub mod Numbers
 mod GivenRows
 mod Limits
+mod Renewing

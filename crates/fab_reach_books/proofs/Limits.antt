@@ -1,5 +1,5 @@
 -- Sights that stop past the limit on paths.
-use Rattle.std.proofs.Common.{◌≡◌, ◌<◌, ℕ, List, [], true, cond, length, get_or, Contains, inl, inr, sym, subst}
+use Rattle.std.proofs.Common.{◌≡◌, ◌<◌, ◌⊎◌, ℕ, Bool, List, true, cond, length, get_or, Contains, inl, inr, sym, subst}
 use Rattle.std.specs.BTreeMap.{is_at}
 use Rattle.std.specs.BTreeSet.{BTreeSet, IsOrdered, contains}
 use Rattle.std.proofs.lemmas.List.Elements.{Contains-get_or}
@@ -10,6 +10,8 @@ use Rattle.fab_reach_base.specs.Orders.{Has, IsListOf, path_cmp}
 use Rattle.fab_reach_base.specs.Reach.{PathOf, Reaches}
 use Rattle.fab_reach_base.specs.Records.{Records}
 use Rattle.fab_reach_base.specs.declared.path.Path.{Path}
+use Rattle.fab_reach_base.specs.declared.listing.TheConstants.{MOST_PATHS}
+use Rattle.fab_reach_books.specs.Limiting.{ShowsPaths}
 use Rattle.fab_reach_base.proofs.Gathering.{adds_path, reaches}
 use Rattle.fab_reach_base.proofs.PathOrder.{path_total, path_exact}
 
@@ -32,3 +34,12 @@ shown_many w most t ordered sound many = record {
   sound = λ x among. sound x ((btree_set_contains_iff path_total path_exact t x).1 among);
   many = many;
 }
+
+-- what was shown stays paths of the world, and what is noted is so
+pub few_shown : (w : Records) (p q : ℕ) (ks xs : List Path) (s t : BTreeSet Path) (was is : Bool) → ShowsPaths w s was → IsListOf (PathOf w p q) xs → ks ≡ xs → AddsOnly (Contains ks) (Has s) (Has t)
+    → (is ≡ true → (was ≡ true) ⊎ (IsOrdered path_cmp t × (MOST_PATHS < length t.keys))) → ShowsPaths w t is
+few_shown w p q ks xs s t was is before l same a over =
+    let paths : (x : Path) → Has t x → Reaches w x = shows_more w p q ks xs s t before.paths l same a in record {
+      paths = paths;
+      many = λ e. elim (over e) [ inl o ↦ before.many o | inr h ↦ shown_many w MOST_PATHS t h.0 paths h.1 ];
+    }

@@ -1,5 +1,5 @@
 -- How many paths there are, before a step and after it.
-use Rattle.std.proofs.Common.{ℕ, ◌≡◌, ◌⊎◌, ◌<◌, ◌≤◌, ◌+◌, ◌&&◌, ◌||◌, ◌++◌, ◌∷◌, Bool, true, false, not, cond, Option, None, Some, is_some, List, [], length, Contains, IsTrue, leb, leb-false, leb-true, inl, inr, refl, sym, ap, ◌∙◌, subst, arith, rules}
+use Rattle.std.proofs.Common.{ℕ, ◌≡◌, ◌<◌, ◌≤◌, ◌+◌, ◌&&◌, ◌||◌, ◌++◌, ◌∷◌, Bool, true, false, not, cond, Some, is_some, List, [], length, Contains, IsTrue, leb, leb-false, leb-true, inl, inr, refl, sym, ap, ◌∙◌, subst, arith, rules}
 use mathlib.Core.Bool.{true≢false}
 use Rattle.std.specs.FinMap as map
 use Rattle.std.specs.List.{IsDistinct, filter}

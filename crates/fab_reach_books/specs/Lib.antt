@@ -8,4 +8,5 @@ pub mod Limiting
 pub mod Stocks
 pub mod CountLaws
 pub mod Sights
+pub mod Renewed
 pub mod Inner

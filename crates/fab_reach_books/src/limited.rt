@@ -1,11 +1,13 @@
 //! A sight that stops past the limit on paths.
-ghost use Rattle.std.specs.Prelude.{◌≡◌, ◌++◌, true, Contains, IsTrue, ◌<◌, length};
+ghost use Rattle.std.specs.Prelude.{◌≡◌, ◌⊎◌, true, Contains, IsTrue, ◌<◌, length};
+ghost use Rattle.std.specs.BTreeSet.{IsOrdered};
 ghost use Rattle.fab_reach_base.specs.Adding.{AddsOnly};
 ghost use Rattle.fab_reach_base.specs.Limits.{MoreThan};
-ghost use Rattle.fab_reach_base.specs.Orders.{Has};
+ghost use Rattle.fab_reach_base.specs.Orders.{Has, path_cmp};
 ghost use Rattle.fab_reach_base.specs.Reach.{Reaches};
 ghost use Rattle.fab_reach_base.specs.declared.listing.TheConstants.{MOST_PATHS};
 
+use crate::renewed::RenewedGroups;
 use crate::sight::Sight;
 use fab_names::Wwn;
 use fab_reach_base::{MOST_PATHS, Path};
@@ -47,6 +49,23 @@ fn show<A: Allocator + Copy>(
     Ok(())
 }
 
+/// Adds the listed paths, and notes where there are more than there may be.
+fn show_few<A: Allocator + Copy>(
+    shown: &mut BTreeSet<Path, A>,
+    over: &mut bool,
+    paths: &[Path],
+) -> Result<(), AllocError>
+    ensures shown { AddsOnly (Contains paths.now) (Has shown.old) (Has shown.new) }
+    ensures over { over.new ≡ true → (over.old ≡ true) ⊎ (IsOrdered path_cmp shown.new × (MOST_PATHS < length shown.new.keys)) }
+{
+    show(shown, paths)?;
+    if shown.len() > MOST_PATHS {
+        *over = true;
+        return Err(AllocError);
+    }
+    Ok(())
+}
+
 impl<A: Allocator + Copy, S: Sight<A> + Drop> Limited<A, S> {
     /// The same sight, which stops past the limit. It takes no memory.
     pub fn new(alloc: A, sight: S) -> Self
@@ -75,11 +94,18 @@ impl<A: Allocator + Copy, S: Sight<A> + Drop> Sight<A> for Limited<A, S> {
 
     fn pair(&mut self, p: &Wwn, q: &Wwn) -> Result<Vec<Path, A>, AllocError> {
         let paths = self.sight.pair(p, q)?;
-        show(&mut self.shown, paths.as_slice())?;
-        if self.shown.len() > MOST_PATHS {
-            self.over = true;
-            return Err(AllocError);
-        }
+        show_few(&mut self.shown, &mut self.over, paths.as_slice())?;
+        Ok(paths)
+    }
+
+    fn pair_by(
+        &mut self,
+        p: &Wwn,
+        q: &Wwn,
+        groups: &RenewedGroups<'_, A>,
+    ) -> Result<Vec<Path, A>, AllocError> {
+        let paths = self.sight.pair_by(p, q, groups)?;
+        show_few(&mut self.shown, &mut self.over, paths.as_slice())?;
         Ok(paths)
     }
 

@@ -6,9 +6,11 @@ ghost use Rattle.fab_reach_base.specs.Orders.{Has, IsListOf};
 ghost use Rattle.fab_reach_base.specs.Adding.{Adds};
 ghost use Rattle.fab_reach_base.specs.Gathering.{IsIndexOf};
 ghost use Rattle.fab_reach_base.specs.Reach.{PathOf};
+ghost use Rattle.fab_reach_books.specs.Renewed.{IsRenewedIndex};
 
+use crate::renewed::RenewedGroups;
 use fab_names::{Name, Wwn};
-use fab_reach_base::{Path, View, add_pair, host_of, listed, served_hosts};
+use fab_reach_base::{Path, View, add_pair_of, host_of, listed, served_hosts};
 use std::alloc::{AllocError, Allocator};
 use std::collections::{BTreeMap, BTreeSet};
 use std::marker::Model;
@@ -30,13 +32,28 @@ pub trait Sight<A: Allocator + Copy> {
         ensures counted { count self.new ≡ min (count self.old + 1) 18446744073709551615 }
         ensures paths { IfOk result (λ paths. IsListOf (PathOf (world self.old) p.now q.now) paths.items) };
 
+    /// The same, where it is told which exposed storage groups serve each host in the world that is seen.
+    ///
+    /// # Errors
+    /// `AllocError` where there is no memory.
+    fn pair_by(
+        &mut self,
+        p: &Wwn,
+        q: &Wwn,
+        groups: &RenewedGroups<'_, A>,
+    ) -> Result<Vec<Path, A>, AllocError>
+        requires groups { IsRenewedIndex (world self.old).config.mapping groups.now.new.now groups.now.old.now }
+        ensures same { world self.new ≡ world self.old }
+        ensures counted { count self.new ≡ min (count self.old + 1) 18446744073709551615 }
+        ensures paths { IfOk result (λ paths. IsListOf (PathOf (world self.old) p.now q.now) paths.items) };
+
     /// How many questions were asked. At its greatest value the count stays.
     fn asked(&self) -> u64
         ensures { result ≡ count self.now };
 }
 
 /// The sight of a world that is lent. The exposed storage groups of each host are found at the first
-/// question.
+/// question that does not tell them.
 #[derive(Drop)]
 pub struct ViewSight<'a, A: Allocator + Copy> {
     alloc: A,
@@ -62,11 +79,11 @@ impl<'a, A: Allocator + Copy> Model for ViewSight<'a, A> {
 fn add_known_pair<A: Allocator + Copy>(
     paths: &mut BTreeSet<Path, A>,
     view: &View<'_, A>,
-    served: &BTreeMap<Name, BTreeSet<Name, A>, A>,
+    groups: &RenewedGroups<'_, A>,
     p: &Wwn,
     q: &Wwn,
 ) -> Result<(), AllocError>
-    requires { IsIndexOf (seen view.now).config.mapping served.now }
+    requires { IsRenewedIndex (seen view.now).config.mapping groups.now.new.now groups.now.old.now }
     ensures { OnOk result (Adds (PathOf (seen view.now) p.now q.now) (Has paths.old) (Has paths.new)) }
 {
     let Some(from) = view.inventory.port(p) else {
@@ -78,11 +95,29 @@ fn add_known_pair<A: Allocator + Copy>(
     let Some(host) = host_of(view, &from) else {
         return Ok(());
     };
-    add_pair(paths, view, served, &host, &from, &to)
+    add_pair_of(paths, view, groups.of(&host), &host, &from, &to)
 }
 
 /// The paths of a pair, in order.
 fn pair_paths<A: Allocator + Copy>(
+    alloc: A,
+    view: &View<'_, A>,
+    groups: &RenewedGroups<'_, A>,
+    p: &Wwn,
+    q: &Wwn,
+) -> Result<Vec<Path, A>, AllocError>
+    requires { IsRenewedIndex (seen view.now).config.mapping groups.now.new.now groups.now.old.now }
+    ensures { IfOk result (λ paths. IsListOf (PathOf (seen view.now) p.now q.now) paths.items) }
+{
+    let mut paths = BTreeSet::new(alloc);
+    add_known_pair(&mut paths, view, groups, p, q)?;
+    let _count = paths.len();
+    let items = listed(alloc, &paths)?;
+    Ok(items)
+}
+
+/// The paths of a pair, in order, by the index of a world.
+fn indexed_paths<A: Allocator + Copy>(
     alloc: A,
     view: &View<'_, A>,
     served: &BTreeMap<Name, BTreeSet<Name, A>, A>,
@@ -92,11 +127,12 @@ fn pair_paths<A: Allocator + Copy>(
     requires { IsIndexOf (seen view.now).config.mapping served.now }
     ensures { IfOk result (λ paths. IsListOf (PathOf (seen view.now) p.now q.now) paths.items) }
 {
-    let mut paths = BTreeSet::new(alloc);
-    add_known_pair(&mut paths, view, served, p, q)?;
-    let _count = paths.len();
-    let items = listed(alloc, &paths)?;
-    Ok(items)
+    let none = BTreeMap::new(alloc);
+    let groups = RenewedGroups {
+        new: &none,
+        old: served,
+    };
+    pair_paths(alloc, view, &groups, p, q)
 }
 
 /// The exposed storage groups of each host in a world that is lent.
@@ -132,12 +168,22 @@ impl<'a, A: Allocator + Copy> Sight<A> for ViewSight<'a, A> {
     fn pair(&mut self, p: &Wwn, q: &Wwn) -> Result<Vec<Path, A>, AllocError> {
         self.asked = self.asked.saturating_add(1);
         if let Some(served) = &self.served {
-            return pair_paths(self.alloc, &self.view, served, p, q);
+            return indexed_paths(self.alloc, &self.view, served, p, q);
         }
         let served = index_of(self.alloc, &self.view)?;
-        let paths = pair_paths(self.alloc, &self.view, &served, p, q)?;
+        let paths = indexed_paths(self.alloc, &self.view, &served, p, q)?;
         self.served = Some(served);
         Ok(paths)
+    }
+
+    fn pair_by(
+        &mut self,
+        p: &Wwn,
+        q: &Wwn,
+        groups: &RenewedGroups<'_, A>,
+    ) -> Result<Vec<Path, A>, AllocError> {
+        self.asked = self.asked.saturating_add(1);
+        pair_paths(self.alloc, &self.view, groups, p, q)
     }
 
     fn asked(&self) -> u64 {

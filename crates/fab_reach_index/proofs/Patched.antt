@@ -10,7 +10,8 @@ use Rattle.fab_reach_base.specs.Orders.{path_cmp}
 use Rattle.fab_reach_base.specs.Records.{Records}
 use Rattle.fab_reach_index.specs.Indexes.{IsTreeOf, IsIndexOf, zone_cmp, PortInZone, ZoneHasPort, IsHostServed, IsHeldBy, IsTargetOf, IsHostGroupOf, IsRowOf}
 use Rattle.fab_reach_books.specs.Pairs.{pair_cmp}
-use Rattle.fab_reach_index.specs.Patches.{set_or, patched, LeadsTo, Keeps, HaveSame, IsPatchTo}
+use Rattle.fab_reach_books.specs.Renewed.{set_or, patched}
+use Rattle.fab_reach_index.specs.Patches.{LeadsTo, Keeps, HaveSame, IsPatchTo}
 use Rattle.fab_reach_index.specs.declared.index.Index.{Index}
 
 module _ {Q K : Type 0} (O : Q → Q → Ordering) (R : K → K → Ordering) (P : Q → K → Type 0) where

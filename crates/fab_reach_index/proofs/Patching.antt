@@ -11,7 +11,7 @@ use Rattle.std.specs.BTreeSet.{BTreeSet}
 use Rattle.std.proofs.lemmas.Map.Views.{btree_map_get_iff}
 use Rattle.std.proofs.lemmas.List.Elements.{Contains-push_cases, Contains-append_left, Contains-append_right, Contains-push}
 use Rattle.fab_lemmas.specs.MapsOfSets.{in_tree, tree_has}
-use Rattle.fab_reach_index.specs.Patches.{set_or, patched}
+use Rattle.fab_reach_books.specs.Renewed.{set_or, patched}
 
 tied : {Q : Type 0} {O : Q → Q → Ordering} → set.IsAntisymmetric O → (x y : Q) → is_at (O x) y ≡ true → x ≡ y
 tied {O} exact x y e = exact x y ((Equal-is (O x y)).0 e)

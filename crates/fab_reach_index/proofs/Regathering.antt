@@ -14,7 +14,8 @@ use Rattle.fab_reach_base.specs.Adding.{Adds}
 use Rattle.fab_reach_base.proofs.Adding.{Before, adds_as, adds_none}
 use Rattle.fab_reach_base.proofs.Sets.{none_in}
 use Rattle.fab_reach_index.specs.Inner.Regathering.{HasIn, IsLeftAt, IsLeft, AreLeft}
-use Rattle.fab_reach_index.specs.Patches.{set_or, patched, HasRoomFor}
+use Rattle.fab_reach_books.specs.Renewed.{set_or, patched}
+use Rattle.fab_reach_index.specs.Patches.{HasRoomFor}
 
 module _ {K : Type 0} (R : K → K → Ordering) (gone : K → Bool) where
   -- the item, unless it is gone

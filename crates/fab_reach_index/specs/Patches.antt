@@ -1,8 +1,8 @@
 -- How a map of sets goes from one world to the next: some keys get new sets, for which there is room.
-use Rattle.std.specs.Prelude.{◌≡◌, ◌↔◌, Option, None, Some, Bool, true, IsSome}
+use Rattle.std.specs.Prelude.{◌≡◌, ◌↔◌, true, IsSome}
 use Rattle.std.specs.declared.cmp.Ordering.{Ordering}
 use Rattle.std.specs.BTreeMap.{BTreeMap, get}
-use Rattle.std.specs.BTreeSet.{BTreeSet, contains}
+use Rattle.std.specs.BTreeSet.{BTreeSet}
 use Rattle.std.specs.Ordering.{nat_cmp}
 use Rattle.fab_names.specs.Orders.{name_cmp}
 use Rattle.fab_lemmas.specs.MapsOfSets.{tree_has}
@@ -10,16 +10,8 @@ use Rattle.fab_reach_base.specs.Orders.{path_cmp}
 use Rattle.fab_reach_base.specs.Records.{Records}
 use Rattle.fab_reach_index.specs.Indexes.{zone_cmp, PortInZone, ZoneHasPort, IsHostServed, IsHeldBy, IsTargetOf, IsHostGroupOf, IsRowOf}
 use Rattle.fab_reach_books.specs.Pairs.{pair_cmp}
+use Rattle.fab_reach_books.specs.Renewed.{patched}
 use Rattle.fab_reach_index.specs.declared.index.Index.{Index}
-
--- the new set, if there is one, and else the old one
-abbrev pub set_or : {K : Type 0} → (K → K → Ordering) → Option (BTreeSet K) → Bool → K → Bool
-set_or R None old k = old
-set_or R (Some s) old k = contains R s k
-
--- whether the map has k at q, once it has the new sets
-abbrev pub patched : {Q K : Type 0} → (Q → Q → Ordering) → (K → K → Ordering) → BTreeMap Q (BTreeSet K) → BTreeMap Q (BTreeSet K) → Q → K → Bool
-patched O R new old q k = set_or R (get O new q) (tree_has O R old q k) k
 
 -- with the new sets the map is what the relation says
 abbrev pub LeadsTo : {Q K : Type 0} → (Q → Q → Ordering) → (K → K → Ordering) → (Q → K → Type 0) → BTreeMap Q (BTreeSet K) → BTreeMap Q (BTreeSet K) → Type 0

@@ -2,7 +2,8 @@
 ghost use Rattle.std.specs.Prelude.{◌≡◌, false, IsTrue, OnOk, IsSome, Some, cond};
 ghost use Rattle.std.specs.BTreeMap.{get, is_at};
 ghost use Rattle.fab_lemmas.specs.MapsOfSets.{tree_has};
-ghost use Rattle.fab_reach_index.specs.Patches.{Keeps, HasRoomFor, patched};
+ghost use Rattle.fab_reach_books.specs.Renewed.{patched};
+ghost use Rattle.fab_reach_index.specs.Patches.{Keeps, HasRoomFor};
 
 use crate::key::Key;
 use std::alloc::{AllocError, Allocator};

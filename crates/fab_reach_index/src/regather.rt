@@ -7,7 +7,8 @@ ghost use Rattle.std.specs.Option.{option_copied};
 ghost use Rattle.fab_lemmas.specs.MapsOfSets.{in_tree};
 ghost use Rattle.fab_reach_base.specs.Adding.{Adds};
 ghost use Rattle.fab_reach_index.specs.Inner.Regathering.{HasIn, IsLeftAt, IsLeft, AreLeft};
-ghost use Rattle.fab_reach_index.specs.Patches.{HasRoomFor, patched};
+ghost use Rattle.fab_reach_books.specs.Renewed.{patched};
+ghost use Rattle.fab_reach_index.specs.Patches.{HasRoomFor};
 
 use crate::key::Key;
 use std::alloc::{AllocError, Allocator};

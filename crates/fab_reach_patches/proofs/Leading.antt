@@ -7,7 +7,8 @@ use Rattle.std.specs.BTreeSet.{BTreeSet}
 use Rattle.fab_lemmas.specs.MapsOfSets.{tree_has}
 use Rattle.fab_reach_index.specs.Indexes.{IsTreeOf}
 use Rattle.fab_reach_index.specs.Inner.Regathering.{IsLeftAt}
-use Rattle.fab_reach_index.specs.Patches.{patched, LeadsTo}
+use Rattle.fab_reach_books.specs.Renewed.{patched}
+use Rattle.fab_reach_index.specs.Patches.{LeadsTo}
 use Rattle.fab_reach_patches.specs.Inner.Rows.{Goes}
 
 off : (b : Bool) → ¬ (b ≡ true) → b ≡ false

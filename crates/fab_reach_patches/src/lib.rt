@@ -6,4 +6,4 @@ mod group_maps;
 mod patching;
 mod zone_maps;
 
-pub use patching::{held_patch, patch_of};
+pub use patching::{group_patch, held_patch, patch_of};

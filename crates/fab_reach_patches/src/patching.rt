@@ -69,7 +69,10 @@ fn turned_patch<A: Allocator + Copy>(
 }
 
 /// The new sets of the exposed storage groups of hosts.
-fn group_patch<A: Allocator + Copy>(
+///
+/// # Errors
+/// `AllocError` where there is no memory.
+pub fn group_patch<A: Allocator + Copy>(
     alloc: A,
     index: &Index<A>,
     before: &View<'_, A>,
@@ -176,7 +179,8 @@ fn row_patch<A: Allocator + Copy>(
     Ok(rows)
 }
 
-/// The new sets of those keys of an index whose sets a step changes.
+/// The new sets of those keys of an index whose sets a step changes, those of hosts' storage groups
+/// being known.
 ///
 /// # Errors
 /// `AllocError` where there is no memory.
@@ -186,14 +190,15 @@ pub fn patch_of<A: Allocator + Copy>(
     before: &View<'_, A>,
     told: &Told<A>,
     moved: &Moved<A>,
+    groups: BTreeMap<Name, BTreeSet<Name, A>, A>,
     delta: &Delta<A>,
 ) -> Result<Index<A>, AllocError>
     requires { IsIndexOf (seen before.now) index.now }
     ensures { (v : Records) → IsServing v → IsTold (seen before.now) v told.now → AreMoved (seen before.now) v moved.now.ports → AreTouched (seen before.now) v moved.now.groups
+        → LeadsTo name_cmp name_cmp (IsHostServed v) groups index.now.groups
         → IsDelta (seen before.now) v delta.now.gained.items delta.now.lost.items → IfOk result (λ patch. IsPatchTo v patch index.now) }
 {
     let zoned = zone_patch(alloc, index, before, told, &moved.ports)?;
-    let groups = group_patch(alloc, index, before, told, &moved.groups)?;
     let targeted = target_patch(alloc, index, before, told, &moved.groups)?;
     let held = held_patch(alloc, &index.held, told)?;
     let serving = serving_patch(alloc, index, told)?;

@@ -10,6 +10,8 @@ mod limits;
 #[cfg(test)]
 mod links;
 #[cfg(test)]
+mod places;
+#[cfg(test)]
 mod reachers;
 #[cfg(test)]
 mod rows;

@@ -1,4 +1,3 @@
-use Rattle.std.proofs.Common.{List, ◌⊎◌, inl, inr, sym, subst}
 use Rattle.fab_reach_books.proofs.Limits.{shown_more}
 use Rattle.fab_reach_books.proofs.limited.show.Goals as goal
 

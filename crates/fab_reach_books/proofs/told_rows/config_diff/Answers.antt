@@ -1,4 +1,4 @@
-use Rattle.std.proofs.Common.{sym, subst}
+use Rattle.std.proofs.Common.{sym}
 use Rattle.fab_reach_books.proofs.GivenRows.{config_only, kept_from}
 use Rattle.fab_reach_books.proofs.told_rows.config_diff.Goals as goal
 
