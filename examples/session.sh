@@ -349,6 +349,90 @@ checks 'a record with a domain that there is not' 1 "record 3: it is no port's, 
 says 'there is no such file' 3 '' $'sandesk: file\n' check --plan "$work/none.plan"
 says 'one file at a time' 2 '' $'sandesk: words\n' check --plan "$here/first-host.plan" --ports "$here/fabric-a.csv"
 
+part 'a policy that is explained'
+
+# explains TITLE STATUS TEXT WORD..: what `explain` writes of the policy.
+explains() {
+    local title=$1 wanted=$2 text=$3
+    shift 3
+    says "$title" "$wanted" "$text"$'\n' '' explain --policy "$policy" "$@"
+}
+
+explains 'fabric B, without two fresh approvals, in a freeze' 1 'rule 1 `ops` holds
+  role `operator`: met
+rule 3 `two-eyes` fails
+  approvals 1 of 2: not met
+rule 4 `quiet` fails
+  window `early`: not met, opens at 351000
+rule 5 `own` holds
+  scope `own`: met
+denied: rule 3 `two-eyes`, need approvals' --caller ada --action activate --fabric B --tenants green \
+    --approved bob@6,dan@5 --revision 6 --now 350500
+explains 'the same with both, on a Monday at 01:00' 0 'rule 1 `ops` holds
+  role `operator`: met
+rule 3 `two-eyes` holds
+  approvals 2 of 2: met
+rule 4 `quiet` holds
+  window `early`: met
+rule 5 `own` holds
+  scope `own`: met
+allowed' --caller ada --action activate --fabric A,B --approved bob@6,dan@6 --revision 6 --now 349200
+explains "another tenant's things, and a caller without the role" 1 'rule 1 `ops` fails
+  role `operator`: not met
+rule 5 `own` fails
+  scope `own`: not met
+denied: rule 1 `ops`, need role' --caller eve --action inventory --tenants green,blue
+explains 'a rule without a need' 0 'rule 2 `signers` holds
+allowed' --caller eve --action approve
+explains 'after Monday 02:00 the window opens a week later' 1 'rule 1 `ops` holds
+  role `operator`: met
+rule 3 `two-eyes` fails
+  approvals 0 of 2: not met
+rule 4 `quiet` fails
+  window `early`: not met, opens at 954000
+rule 5 `own` holds
+  scope `own`: met
+denied: rule 3 `two-eyes`, need approvals' --caller cyd --action activate --fabric B --now 352800
+explains 'nobody has this name' 1 'no caller `zed`' --caller zed --action stage
+printf '%s\n' '[[callers]]' 'name = "ada"' 'token = "t-ada"' 'roles = []' 'tenants = ["blue", "green"]' \
+    '[[windows]]' 'name = "never"' 'weekly = []' \
+    '[[rules]]' 'name = "quiet"' 'actions = ["stage"]' 'window = "never"' 'approvals = 1' 'fresh = true' > "$work/small.toml"
+says 'a policy without its tokens' 0 '[[callers]]
+name = "ada"
+roles = [
+]
+tenants = [
+  "blue",
+  "green",
+]
+[[windows]]
+name = "never"
+weekly = [
+]
+freeze = [
+]
+[[rules]]
+name = "quiet"
+actions = [
+  "stage",
+]
+window = "never"
+approvals = 1
+fresh = true
+' '' explain --policy "$work/small.toml" --rules
+says 'a window that never opens' 1 'rule 1 `quiet` fails
+  window `never`: not met, never opens
+  approvals 0 of 1: not met
+denied: rule 1 `quiet`, need window
+' '' explain --policy "$work/small.toml" --caller ada --action stage --now 0
+says 'no rule is about it' 1 'denied: rule 0 `no-rule`, need rule
+' '' explain --policy "$work/small.toml" --caller ada --action rollback --now 0
+says 'the rules or a command' 2 '' $'sandesk: words\n' explain --policy "$policy" --rules --caller ada --action stage
+says 'a command without a caller' 2 '' $'sandesk: words\n' explain --policy "$policy" --action stage
+says 'no approval has this text' 2 '' $'sandesk: words\n' \
+    explain --policy "$policy" --caller ada --action activate --approved bob@6,dan
+says 'no action has this word' 2 '' $'sandesk: words\n' explain --policy "$policy" --caller ada --action format
+
 part 'a desk in a file'
 
 says 'there is no database yet' 3 '' $'sandesk: file\n' \
@@ -512,6 +596,8 @@ looks 'the zones of both fabrics' 0 "$(row FABRIC NAME MEMBERS; row A z1 2)" t-e
 looks 'nobody has this token' 1 '{"code":1,"error":"no-caller"}' t-zed list hosts
 says 'there is no such kind' 2 '' $'sandesk: words\n' \
     list --db "$db" --policy "$policy" --token t-ada switches
+says 'only plans are in a state' 2 '' $'sandesk: words\n' \
+    list --db "$db" --policy "$policy" --token t-ada hosts --state staged
 says 'a list of nothing' 2 '' '*' list --db "$db" --policy "$policy" --token t-ada
 
 part 'a plan on fabric B: two fresh approvals, in a window'

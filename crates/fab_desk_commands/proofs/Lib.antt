@@ -16,4 +16,5 @@ mod PlanTurns
 mod Orders
 mod Activations
 mod Rollbacks
+mod EditedBack
 mod Stagings

@@ -27,6 +27,7 @@ use std::alloc::{AllocError, Allocator};
 /// `Plan` with the number and the refusal of the first step that is refused, or 0 and the least
 /// clash; `Memory`.
 fn outcome<A: Allocator + Copy>(
+    alloc: A,
     world: &World<A>,
     kept: &KeptPlan<A>,
 ) -> Result<Config<A>, DeskFault>
@@ -35,7 +36,10 @@ fn outcome<A: Allocator + Copy>(
     ensures err { IfErr result (IsOutcomeFault world.now kept.now.steps) }
 {
     let plan = kept.plan();
-    match trial(&world.config, &world.inventory, plan.steps.as_slice()) {
+    let Ok(steps) = plan.text.steps(alloc) else {
+        return Err(DeskFault::Memory);
+    };
+    match trial(&world.config, &world.inventory, steps.as_slice()) {
         Ok(after) => Ok(after),
         Err(TrialFault::Refused { step, refusal }) => Err(DeskFault::Plan { step, refusal }),
         Err(TrialFault::Memory) => Err(DeskFault::Memory),
@@ -99,7 +103,7 @@ pub fn activated<A: Allocator + Copy>(
         Ok(kept) => kept,
         Err(fault) => return Err(fault),
     };
-    let config = match outcome(world, kept) {
+    let config = match outcome(alloc, world, kept) {
         Ok(config) => config,
         Err(fault) => return Err(fault),
     };

@@ -23,8 +23,10 @@ use fab_desk_base::DeskFault;
 use fab_mapping::Gone;
 use fab_names::Name;
 use fab_reach_base::Config;
+use fab_store_edits::lead;
+use fab_store_gone::gone_there;
 use fab_store_rows::RowDifference;
-use fab_world::{KeptPlan, World, earlier};
+use fab_world::{KeptPlan, World};
 use std::alloc::{AllocError, Allocator};
 
 /// The plans in force before this one, where it is the last of them; some plan is.
@@ -49,29 +51,50 @@ fn plans_before<'a, A: Allocator + Copy>(
     Ok(rest)
 }
 
-/// The configuration from before the activation of the plan, which is there.
+/// The configuration from before the activation of the plan, which is there: the rows that it took
+/// come back, and those that it added go. The world is sound, so this one needs no test.
+///
+/// # Errors
+/// `AllocError` where there is no memory.
 fn config_before<A: Allocator + Copy>(
     alloc: A,
     world: &World<A>,
     kept: &KeptPlan<A>,
 ) -> Result<Config<A>, AllocError>
-    requires { HasEarlier world.now kept.now }
+    requires sound { IsSound world.now }
+    requires earlier { HasEarlier world.now kept.now }
     ensures { IfOk result (IsBeforePlan world.now kept.now) }
 {
     let Some(undo) = kept.undo() else {
         unreachable!();
     };
-    match earlier(alloc, &world.config, undo)? {
-        Some(before) => Ok(before),
-        None => unreachable!(),
+    let mut config = world.config.copy()?;
+    if !lead(
+        alloc,
+        &mut config,
+        undo.added.as_slice(),
+        undo.taken.as_slice(),
+    )? {
+        unreachable!();
     }
+    Ok(config)
 }
 
-/// The first that the configuration names and the inventory has not, if there is any.
-fn gone_of<A: Allocator + Copy>(world: &World<A>, config: &Config<A>) -> Option<Gone>
+/// The first that the configuration from before the activation of the plan names and the inventory
+/// has not, if there is any. Only what the activation took can be gone.
+fn gone_before<A: Allocator + Copy>(
+    world: &World<A>,
+    kept: &KeptPlan<A>,
+    config: &Config<A>,
+) -> Option<Gone>
+    requires sound { IsSound world.now }
+    requires before { IsBeforePlan world.now kept.now config.now }
     ensures { MatchOption result (Fits world.now.inventory config.now.mapping) (IsFirstGone world.now.inventory config.now.mapping) }
 {
-    config.mapping().first_gone(&world.inventory)
+    let Some(undo) = kept.undo() else {
+        unreachable!();
+    };
+    gone_there(config, &world.inventory, undo.taken.as_slice())
 }
 
 /// The configuration from before the activation of the plan, where all is there that it names.
@@ -83,14 +106,15 @@ fn restored<A: Allocator + Copy>(
     world: &World<A>,
     kept: &KeptPlan<A>,
 ) -> Result<Config<A>, DeskFault>
-    requires { HasEarlier world.now kept.now }
+    requires sound { IsSound world.now }
+    requires earlier { HasEarlier world.now kept.now }
     ensures ok { IfOk result (λ before. IsBeforePlan world.now kept.now before × Fits world.now.inventory before.mapping) }
     ensures err { IfErr result (IsRestoreFault world.now kept.now) }
 {
     let Ok(before) = config_before(alloc, world, kept) else {
         return Err(DeskFault::Memory);
     };
-    match gone_of(world, &before) {
+    match gone_before(world, kept, &before) {
         Some(gone) => Err(DeskFault::Gone(gone)),
         None => Ok(before),
     }

@@ -6,7 +6,7 @@ ghost use Rattle.fab_names.specs.Orders.{name_cmp};
 ghost use Rattle.fab_desk_commands.specs.Nexts.{blank_plan};
 
 use fab_names::Name;
-use fab_plans::Staged;
+use fab_plans::{PlanText, Staged};
 use fab_world::{AnyPlan, KeptPlan};
 use std::alloc::{AllocError, Allocator};
 use std::collections::BTreeMap;
@@ -16,7 +16,7 @@ pub fn blank<A: Allocator + Copy>(alloc: A, author: Name) -> KeptPlan<A>
     ensures { result ≡ blank_plan author }
 {
     KeptPlan {
-        inner: AnyPlan::Staged(Staged::new(alloc, author, Vec::new(alloc))),
+        inner: AnyPlan::Staged(Staged::new(alloc, author, PlanText::blank(alloc))),
     }
 }
 

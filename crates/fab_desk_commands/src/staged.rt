@@ -4,6 +4,7 @@ ghost use Rattle.std.specs.Bool.{OnTrue, OnFalse};
 ghost use Rattle.std.specs.FinMap as map;
 ghost use Rattle.fab_lemmas.specs.Room.{IsFull, HasRoom};
 ghost use Rattle.fab_world.specs.declared.limits.TheConstants.{MOST_PLANS};
+ghost use Rattle.fab_plans_base.specs.Plans.{IsWithinLimits};
 ghost use Rattle.fab_desk_base.specs.Commands.{IsGiven};
 ghost use Rattle.fab_desk_base.specs.Effects.{with_plan, staged_plan};
 ghost use Rattle.fab_desk_base.specs.Trying.{IsMade, IsTryFault};
@@ -14,26 +15,45 @@ use crate::found::is_author;
 use fab_desk_base::{DeskFault, DeskLimit};
 use fab_lemmas::is_full;
 use fab_names::Name;
-use fab_plans_base::{Step, are_same};
+use fab_plans::PlanText;
+use fab_plans_base::Step;
 use fab_world::{KeptPlan, MOST_PLANS, World};
-use std::alloc::Allocator;
+use std::alloc::{AllocError, Allocator};
 
-/// Whether the plan has these steps.
-fn has_steps<A: Allocator + Copy>(kept: &KeptPlan<A>, steps: &[Step<A>]) -> bool
-    ensures { IsTrue result ↔ (kept.now.steps ≡ steps.now) }
+/// Whether the plan has these steps: whether their printed form is the text that is kept.
+///
+/// # Errors
+/// `AllocError` where there is no memory.
+fn has_steps<A: Allocator + Copy>(
+    alloc: A,
+    kept: &KeptPlan<A>,
+    steps: &[Step<A>],
+) -> Result<bool, AllocError>
+    requires { IsWithinLimits steps.now }
+    ensures { IfOk result (λ same. IsTrue same ↔ (kept.now.steps ≡ steps.now)) }
 {
     let plan = kept.plan();
-    are_same(plan.steps.as_slice(), steps)
+    let text = PlanText::of(alloc, steps)?;
+    Ok(plan.text.is_same(&text))
 }
 
 /// Whether this caller staged the plan, with these steps.
-fn is_same_plan<A: Allocator + Copy>(kept: &KeptPlan<A>, caller: &Name, steps: &[Step<A>]) -> bool
-    ensures { IsTrue result ↔ (caller.now ≡ kept.now.author) × (kept.now.steps ≡ steps.now) }
+///
+/// # Errors
+/// `AllocError` where there is no memory.
+fn is_same_plan<A: Allocator + Copy>(
+    alloc: A,
+    kept: &KeptPlan<A>,
+    caller: &Name,
+    steps: &[Step<A>],
+) -> Result<bool, AllocError>
+    requires { IsWithinLimits steps.now }
+    ensures { IfOk result (λ same. IsTrue same ↔ (caller.now ≡ kept.now.author) × (kept.now.steps ≡ steps.now)) }
 {
     if !is_author(kept, caller) {
-        return false;
+        return Ok(false);
     }
-    has_steps(kept, steps)
+    has_steps(alloc, kept, steps)
 }
 
 /// Whether the name is new, and there are as many plans as there may be.
@@ -45,12 +65,13 @@ fn has_no_room<A: Allocator + Copy>(world: &World<A>, name: &Name) -> bool
 }
 
 /// Whether the caller staged just this plan before, and nothing is to do. Else the name is free, and
-/// there is room for one plan more. It takes no memory.
+/// there is room for one plan more.
 ///
 /// # Errors
 /// `Exists` with the name, where it is another plan's, of another author or with other steps;
-/// `Limit` where there are 100000 plans. The world stays as it is.
+/// `Limit` where there are 100000 plans; `Memory`. The world stays as it is.
 pub fn is_staged_already<A: Allocator + Copy>(
+    alloc: A,
     world: &World<A>,
     caller: &Name,
     plan: &Name,
@@ -63,7 +84,10 @@ pub fn is_staged_already<A: Allocator + Copy>(
     ensures err { IfErr result (IsTryFault world.now caller.now (Stage plan.now steps.now)) }
 {
     if let Some(kept) = world.plans.get(plan) {
-        if is_same_plan(kept, caller, steps.as_slice()) {
+        let Ok(same) = is_same_plan(alloc, kept, caller, steps.as_slice()) else {
+            return Err(DeskFault::Memory);
+        };
+        if same {
             return Ok(true);
         }
         return Err(DeskFault::Exists(*plan));

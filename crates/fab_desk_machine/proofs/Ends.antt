@@ -1,7 +1,14 @@
 -- What a command comes to.
-use Rattle.std.proofs.Common.{ℕ, ◌≡◌, ◌⊎◌, inl, inr, List, slice_get, Option, None, Some, IsSome, MatchOption, refl, sym, ap, ◌∙◌, subst}
+use Rattle.std.proofs.Common.{ℕ, ◌≡◌, ◌⊎◌, inl, inr, List, cond, slice_get, Option, None, Some, IsSome, MatchOption, refl, sym, ap, ◌∙◌, subst}
 use mathlib.Core.Bool.{true≢false}
 use Rattle.std.proofs.lemmas.Option.{same_Some, none-some}
+use Rattle.std.specs.Cmp.{tied_itself}
+use Rattle.std.specs.FinMap as map
+use Rattle.std.specs.Ordering.{is_eq}
+use Rattle.fab_names.proofs.OrderLaws.{name_total}
+use Rattle.fab_plans_base.specs.Plans.{IsWithinLimits}
+use Rattle.fab_plans_base.specs.Steps.{PlanStep}
+use Rattle.fab_desk_base.specs.Effects.{with_plan, staged_plan}
 use Rattle.fab_policy.specs.declared.act.Verdict.TheVariants.{Allowed}
 use Rattle.fab_policy_base.specs.Policies.{CallerRow, PolicyRows}
 use Rattle.fab_reach_base.specs.Records.{Records}
@@ -73,6 +80,11 @@ staging_of w (DryRun n) h = absurd h
 staging_of w (Activate n) h = absurd h
 staging_of w (Rollback n) h = absurd h
 staging_of w (Show q) h = absurd h
+
+-- a plan that may be staged is within the limits
+pub staged_within : (w : WorldRows) (caller n : List ℕ) (xs : List PlanStep) → IsSound (with_plan n (staged_plan caller xs) w) → IsWithinLimits xs
+staged_within w caller n xs sound =
+    (sound.plans n (staged_plan caller xs) (map.get-insert name_total w.plans n (staged_plan caller xs) n ∙ ap (λ b. cond b (Some (staged_plan caller xs)) (map.get w.plans n)) (ap is_eq (tied_itself name_total n)))).steps
 
 -- what is no dry run leaves its effect
 pub leaves : {A : Type 0} (w : WorldRows) (c : Command A) (effect new : WorldRows) → dry_run_plan_of c ≡ None → new ≡ effect → IsLeft w c effect new

@@ -107,7 +107,9 @@ pub fn effect_of<A: Allocator + Copy>(
             holder_dropped(world, *kind, name),
         ),
         Command::DropVolume { name } => of_stock(alloc, world, volume_dropped(world, name)),
-        Command::Stage { plan, steps } => of_staging(is_staged_already(world, caller, plan, steps)),
+        Command::Stage { plan, steps } => of_staging(is_staged_already(
+            alloc, world, caller, plan, steps,
+        )),
         Command::Withdraw { plan } => of_plan(withdrawn(world, plan)),
         Command::Approve { plan } => of_plan(approved(alloc, world, caller, plan)),
         Command::DryRun { plan } => of_plan(activated(alloc, world, plan)),

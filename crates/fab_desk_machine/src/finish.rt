@@ -24,6 +24,7 @@ use crate::verdicts::{Sender, denial, moved_by};
 use fab_desk_base::{Command, DeskFault, Reply};
 use fab_desk_commands::{Next, staged_next};
 use fab_names::Name;
+use fab_plans::PlanText;
 use fab_policy_base::Policy;
 use fab_reach_books::PathBook;
 use fab_world::World;
@@ -53,35 +54,44 @@ pub fn turn_down<A: Allocator + Copy>(
     }
 }
 
-/// The parts of the world with the plan that a command stages.
+/// The parts of the world with the plan that a command stages, which is kept as its printed form.
+///
+/// # Errors
+/// `AllocError` where there is no memory.
 fn planned_next<A: Allocator + Copy>(
     alloc: A,
     world: &World<A>,
     caller: Name,
     command: Command<A>,
-) -> Next<A>
-    requires { IsNewPlan world.now command }
-    ensures world { next_world world.now result ≡ planned world.now caller command }
-    ensures suits { Suits world.now result }
+) -> Result<Next<A>, AllocError>
+    requires new { IsNewPlan world.now command }
+    requires sound { IsSound (planned world.now caller command) }
+    ensures world { IfOk result (λ next. next_world world.now next ≡ planned world.now caller command) }
+    ensures suits { IfOk result (Suits world.now) }
 {
     let (plan, steps) = command.into_staged();
-    staged_next(alloc, world, caller, plan, steps)
+    let text = PlanText::of(alloc, steps.as_slice())?;
+    Ok(staged_next(alloc, world, caller, plan, text))
 }
 
 /// The parts of the world after an effect.
+///
+/// # Errors
+/// `AllocError` where there is no memory.
 fn next_of<A: Allocator + Copy>(
     alloc: A,
     world: &World<A>,
     caller: Name,
     command: Command<A>,
     effect: Effect<A>,
-) -> Next<A>
-    requires { EffectSuits world.now command effect }
-    ensures world { next_world world.now result ≡ effect_world world.now caller command effect }
-    ensures suits { Suits world.now result }
+) -> Result<Next<A>, AllocError>
+    requires suits { EffectSuits world.now command effect }
+    requires sound { IsSound (effect_world world.now caller command effect) }
+    ensures world { IfOk result (λ next. next_world world.now next ≡ effect_world world.now caller command effect) }
+    ensures suits { IfOk result (Suits world.now) }
 {
     match effect {
-        Effect::Parts(next) => next,
+        Effect::Parts(next) => Ok(next),
         Effect::NewPlan => planned_next(alloc, world, caller, command),
     }
 }
@@ -129,12 +139,11 @@ fn ready<A: Allocator + Copy, B: PathBook<A>>(
 {
     let _book = book;
     let report = report_of(world, &sender.name, &command);
-    let next = next_of(alloc, world, sender.name, command, prepared.effect);
-    Proposal::Ready(Change {
-        next,
-        step: prepared.step,
-        report,
-    })
+    let Prepared { effect, step } = prepared;
+    match next_of(alloc, world, sender.name, command, effect) {
+        Ok(next) => Proposal::Ready(Change { next, step, report }),
+        Err(_) => Proposal::Answer(Reply::Refused(DeskFault::Memory)),
+    }
 }
 
 /// What an allowed command comes to: what its dry run is answered, or its change.

@@ -2,7 +2,7 @@
 
 use fab_inventory::{HolderKind, Inventory, PortRow};
 use fab_names::{Fabric, Name, Place, Wwn};
-use fab_plans::Staged;
+use fab_plans::{PlanText, Staged};
 use fab_plans_text::read_plan;
 use fab_world::{AnyPlan, KeptPlan, World};
 use std::alloc::Global;
@@ -76,7 +76,8 @@ fn put_volumes(rt: &(impl Abort + AllocGlobal), inventory: &mut Inventory<Global
 /// A plan of one step.
 fn plan(rt: &(impl Abort + AllocGlobal), author: Name) -> KeptPlan<Global> {
     let steps = read_plan(rt.alloc(), "deactivate A").expect(rt, "a plan");
-    let inner = AnyPlan::Staged(Staged::new(rt.alloc(), author, steps));
+    let text = PlanText::of(rt.alloc(), &steps).expect(rt, "a text");
+    let inner = AnyPlan::Staged(Staged::new(rt.alloc(), author, text));
     KeptPlan { inner }
 }
 

@@ -7,7 +7,6 @@ use crate::listed::approvals_listed;
 use crate::parts::plan_in;
 use fab_desk_base::{Shown, ShownPlan};
 use fab_names::Name;
-use fab_plans_text::print_plan;
 use fab_world::World;
 use std::alloc::{AllocError, Allocator};
 
@@ -26,7 +25,7 @@ pub fn plan_shown<A: Allocator + Copy>(
         return Ok(None);
     };
     let plan = kept.plan();
-    let text = print_plan(alloc, plan.steps.as_slice())?;
+    let text = String::from_str(alloc, plan.text.as_str())?;
     let approvals = approvals_listed(alloc, &plan.approvals)?;
     Ok(Some(Shown::Plan(ShownPlan {
         name: *name,

@@ -12,7 +12,6 @@ ghost use Rattle.fab_desk_rows.specs.Places as spec;
 
 use crate::orders::position_of;
 use fab_names::Name;
-use fab_plans_text::print_plan;
 use fab_store_rows::{PlanRow, PlanState};
 use fab_world::KeptPlan;
 use std::alloc::{AllocError, Allocator};
@@ -77,7 +76,7 @@ pub fn row_of<A: Allocator + Copy>(
     ensures spelt { OnOk result (IsWithinLimits kept.now.steps → Spells (plan_text kept.now.steps) kept.now.steps) }
 {
     let plan = kept.plan();
-    let text = print_plan(alloc, plan.steps.as_slice())?;
+    let text = String::from_str(alloc, plan.text.as_str())?;
     Ok(PlanRow {
         name: *name,
         author: plan.author,

@@ -2,11 +2,12 @@
 use Rattle.std.specs.Prelude.{ℕ, ◌≡◌, ◌↔◌, List, Contains, Option, None, Some}
 use Rattle.std.specs.FinMap as map
 use Rattle.std.specs.Option.{option_map}
+use Rattle.fab_plans_base.specs.Steps.{PlanStep}
 use Rattle.fab_policy.specs.declared.act.Approval.{Approval}
 use Rattle.fab_world.specs.PlanRecords.{PlanRecord}
 use Rattle.fab_world.specs.Worlds.{WorldRows}
 use Rattle.fab_desk_base.specs.Acts.{IsApprovalOf}
-use Rattle.fab_desk_base.specs.Commands.{plan_of}
+use Rattle.fab_desk_base.specs.Commands.{plan_of, PlanHasStep, HasStep}
 use Rattle.fab_desk_base.specs.declared.command.Command.{Command}
 use Rattle.fab_desk_base.specs.declared.command.Command.TheVariants.{Stage}
 
@@ -14,6 +15,14 @@ use Rattle.fab_desk_base.specs.declared.command.Command.TheVariants.{Stage}
 abbrev pub plan_named : {A : Type 0} → Command A → Option (List ℕ)
 plan_named (Stage n steps) = Some n
 plan_named c = plan_of c
+
+-- just the steps of the plan that the command is about
+abbrev pub AreKept : {A : Type 0} → WorldRows → Command A → List PlanStep → Type 0
+AreKept w c steps = (s : PlanStep) → Contains steps s ↔ PlanHasStep w (plan_of c) s
+
+-- just the steps of the command's plan
+abbrev pub AreSteps : {A : Type 0} → WorldRows → Command A → List PlanStep → Type 0
+AreSteps w c steps = (s : PlanStep) → Contains steps s ↔ HasStep w c s
 
 -- the approval of a caller at a revision
 abbrev pub approval_of : List ℕ × ℕ → Approval

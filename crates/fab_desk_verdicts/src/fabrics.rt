@@ -5,13 +5,13 @@ ghost use Rattle.fab_names.specs.declared.fabric.Fabric.TheVariants as fabric;
 ghost use Rattle.fab_plans.specs.Steps.{fabric_of};
 ghost use Rattle.fab_plans_base.specs.Actions.{zoning_step};
 ghost use Rattle.fab_plans_base.specs.Steps.{PlanStep};
+ghost use Rattle.fab_world.specs.Worlds.{WorldRows};
 ghost use Rattle.fab_desk_base.specs.Commands.{NamesFabric};
+ghost use Rattle.fab_desk_verdicts.specs.Named.{AreSteps};
 
-use crate::named::steps_of;
 use fab_desk_base::Command;
 use fab_names::Fabric;
 use fab_plans_base::{Action, Step, ZoningAction};
-use fab_world::World;
 use std::alloc::Allocator;
 
 /// The fabric whose zoning the action changes.
@@ -48,14 +48,19 @@ fn are_of<A: Allocator + Copy>(steps: &[Step<A>], fabric: Fabric) -> bool
     steps.iter().any(|step| is_of(step, fabric))
 }
 
-/// Whether the command names the fabric: an import its own, and a plan those of its steps of zoning.
-fn names_fabric<A: Allocator + Copy>(world: &World<A>, command: &Command<A>, fabric: Fabric) -> bool
-    ensures { IsTrue result ↔ NamesFabric world.now command.now fabric }
+/// Whether the command names the fabric: an import its own, and a plan those of its steps of zoning,
+/// which are these.
+fn names_fabric<A: Allocator + Copy>(
+    command: &Command<A>,
+    steps: &[Step<A>],
+    fabric: Fabric,
+) -> bool
+    ensures { (w : WorldRows) → AreSteps w command.now steps.now → IsTrue result ↔ NamesFabric w command.now fabric }
 {
     if let Command::Import { fabric: own, .. } = command {
         return *own == fabric;
     }
-    are_of(steps_of(world, command), fabric)
+    are_of(steps, fabric)
 }
 
 /// The fabrics of which this holds.
@@ -71,11 +76,11 @@ fn chosen(a: bool, b: bool) -> &'static [Fabric]
     }
 }
 
-/// The fabrics that the command names. It takes no memory.
-pub fn fabrics_of<A: Allocator + Copy>(world: &World<A>, command: &Command<A>) -> &'static [Fabric]
-    ensures { (f : Fabric) → Contains result.now f ↔ NamesFabric world.now command.now f }
+/// The fabrics that the command names, whose plan has these steps. It takes no memory.
+pub fn fabrics_of<A: Allocator + Copy>(command: &Command<A>, steps: &[Step<A>]) -> &'static [Fabric]
+    ensures { (w : WorldRows) → AreSteps w command.now steps.now → (f : Fabric) → Contains result.now f ↔ NamesFabric w command.now f }
 {
-    let a = names_fabric(world, command, Fabric::A);
-    let b = names_fabric(world, command, Fabric::B);
+    let a = names_fabric(command, steps, Fabric::A);
+    let b = names_fabric(command, steps, Fabric::B);
     chosen(a, b)
 }

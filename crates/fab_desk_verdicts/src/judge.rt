@@ -6,14 +6,15 @@ ghost use Rattle.fab_desk_base.specs.Commands as commands;
 ghost use Rattle.fab_desk_base.specs.Tenants.{Has};
 ghost use Rattle.fab_desk_base.specs.Touching.{MovesTenant, Touches};
 ghost use Rattle.fab_desk_verdicts.specs.Made.{IsDecided};
-ghost use Rattle.fab_desk_verdicts.specs.Named.{plan_named, AreListed};
+ghost use Rattle.fab_desk_verdicts.specs.Named.{plan_named, AreListed, AreSteps};
 
 use crate::approvals::{approvals_of, author_of};
 use crate::fabrics::fabrics_of;
-use crate::named::action_of;
+use crate::named::{action_of, steps_kept, steps_of};
 use crate::touched::touched;
 use fab_desk_base::Command;
 use fab_names::{Fabric, Name};
+use fab_plans_base::Step;
 use fab_policy::{Act, Action, Approval, CallerId, PlanApprovals, Policy, Verdict, decide};
 use fab_world::World;
 use std::alloc::{AllocError, Allocator};
@@ -69,7 +70,8 @@ fn decided<'a>(
     decide(policy, &act)
 }
 
-/// The verdict on the command of this caller, with the lists that were found of it.
+/// The verdict on the command of this caller, whose plan has these steps, with the lists that were
+/// found of it.
 fn judged_by<A: Allocator + Copy>(
     policy: &Policy,
     world: &World<A>,
@@ -78,15 +80,17 @@ fn judged_by<A: Allocator + Copy>(
     moment: u64,
     command: &Command<A>,
     action: Action,
+    steps: &[Step<A>],
     lists: &Lists<A>,
 ) -> Verdict
+    requires steps { AreSteps world.now command.now steps.now }
     requires there { (n : List ℕ) → commands.plan_of command.now ≡ Some n → HasPlan world.now n }
     requires action { commands.action_of command.now ≡ Some action }
     requires touched { (t : List ℕ) → Contains lists.now.touched.items t ↔ Touches world.now caller.now command.now t }
     requires approvals { AreListed world.now (plan_named command.now) lists.now.approvals.items }
     ensures { IsJudged policy.now world.now id caller.now moment command.now result }
 {
-    let fabrics = fabrics_of(world, command);
+    let fabrics = fabrics_of(command, steps);
     let touched = lists.touched.as_slice();
     let author = author_of(world, caller, command);
     let approvals = lists.approvals.as_slice();
@@ -129,8 +133,12 @@ pub fn judged<A: Allocator + Copy>(
     let Some(action) = action_of(command) else {
         unreachable!();
     };
-    let touched = touched(alloc, world, caller, command, moved)?;
+    let kept = steps_kept(alloc, world, command)?;
+    let steps = steps_of(command, kept.as_slice());
+    let touched = touched(alloc, world, caller, command, steps, moved)?;
     let approvals = approvals_of(alloc, world, command)?;
     let lists = Lists { touched, approvals };
-    Ok(judged_by(policy, world, id, caller, moment, command, action, &lists))
+    Ok(judged_by(
+        policy, world, id, caller, moment, command, action, steps, &lists,
+    ))
 }

@@ -1,12 +1,12 @@
 //! What a command says of itself, and the plan that it names.
-ghost use Rattle.std.specs.Prelude.{◌≡◌, ◌↔◌, Contains};
+ghost use Rattle.std.specs.Prelude.{◌≡◌, ◌↔◌, Contains, IfOk};
 ghost use Rattle.std.specs.FinMap as map;
 ghost use Rattle.std.specs.Option.{option_copied};
 ghost use Rattle.fab_reach_base.specs.Views.{seen};
 ghost use Rattle.fab_plans_base.specs.Steps.{PlanStep};
-ghost use Rattle.fab_world.specs.Worlds.{records_of};
+ghost use Rattle.fab_world.specs.Worlds.{WorldRows, records_of};
 ghost use Rattle.fab_desk_base.specs.Commands as commands;
-ghost use Rattle.fab_desk_verdicts.specs.Named.{plan_named};
+ghost use Rattle.fab_desk_verdicts.specs.Named.{plan_named, AreKept, AreSteps};
 
 use fab_desk_base::Command;
 use fab_names::Name;
@@ -14,7 +14,7 @@ use fab_plans_base::Step;
 use fab_policy::Action;
 use fab_reach_base::View;
 use fab_world::{KeptPlan, World};
-use std::alloc::Allocator;
+use std::alloc::{AllocError, Allocator};
 
 /// What the command does, as a policy names it; a read has no action.
 pub fn action_of<A: Allocator + Copy>(command: &Command<A>) -> Option<Action>
@@ -74,29 +74,53 @@ pub fn plan_at<'a, A: Allocator + Copy>(world: &'a World<A>, name: &Name) -> Opt
     world.plans.get(name)
 }
 
-/// The steps of the plan of this name, where there is one.
-fn steps_under<'a, A: Allocator + Copy>(world: &'a World<A>, name: &Name) -> &'a [Step<A>]
-    ensures { (s : PlanStep) → Contains result.now s ↔ commands.PlanHasStep world.now (Some name.now) s }
+/// The steps of the plan of this name, read from its text; none where there is no such plan.
+///
+/// # Errors
+/// `AllocError` where there is no memory.
+fn steps_under<A: Allocator + Copy>(
+    alloc: A,
+    world: &World<A>,
+    name: &Name,
+) -> Result<Vec<Step<A>, A>, AllocError>
+    ensures { IfOk result (λ steps. (s : PlanStep) → Contains steps.items s ↔ commands.PlanHasStep world.now (Some name.now) s) }
 {
     let Some(kept) = plan_at(world, name) else {
-        return &[];
+        return Ok(Vec::new(alloc));
     };
     let plan = kept.plan();
-    plan.steps.as_slice()
+    let steps = plan.text.steps(alloc)?;
+    Ok(steps)
 }
 
-/// The steps of the command's plan: of the one that it stages, or of the one that it is about.
+/// The steps of the plan that the command is about, read from its text; none where it is about no
+/// plan.
+///
+/// # Errors
+/// `AllocError` where there is no memory.
+pub fn steps_kept<A: Allocator + Copy>(
+    alloc: A,
+    world: &World<A>,
+    command: &Command<A>,
+) -> Result<Vec<Step<A>, A>, AllocError>
+    ensures { IfOk result (λ steps. AreKept world.now command.now steps.items) }
+{
+    match plan_of(command) {
+        Some(name) => steps_under(alloc, world, &name),
+        None => Ok(Vec::new(alloc)),
+    }
+}
+
+/// The steps of the command's plan: of the one that it stages, or else those that are kept of the one
+/// that it is about.
 pub fn steps_of<'a, A: Allocator + Copy>(
-    world: &'a World<A>,
     command: &'a Command<A>,
+    kept: &'a [Step<A>],
 ) -> &'a [Step<A>]
-    ensures { (s : PlanStep) → Contains result.now s ↔ commands.HasStep world.now command.now s }
+    ensures { (w : WorldRows) → AreKept w command.now kept.now → AreSteps w command.now result.now }
 {
     if let Command::Stage { steps, .. } = command {
         return steps.as_slice();
     }
-    match plan_of(command) {
-        Some(name) => steps_under(world, &name),
-        None => &[],
-    }
+    kept
 }

@@ -4,13 +4,15 @@ ghost use Rattle.fab_reach_base.specs.Adding.{Adds};
 ghost use Rattle.fab_desk_base.specs.Tenants.{Has, IsHolderOf, IsVolumeOf};
 ghost use Rattle.fab_desk_base.specs.Touching.{MovesTenant, Touches};
 ghost use Rattle.fab_desk_verdicts.specs.Gathered.{IsOfBody, IsOfCommand};
+ghost use Rattle.fab_desk_verdicts.specs.Named.{AreSteps};
 
-use crate::named::{steps_of, view_of};
+use crate::named::view_of;
 use crate::steps::add_steps;
 use crate::things::{add_holder, add_tenant, add_volume};
 use fab_desk_base::Command;
 use fab_inventory::{HolderKind, Inventory};
 use fab_names::Name;
+use fab_plans_base::Step;
 use fab_world::World;
 use std::alloc::{AllocError, Allocator};
 use std::collections::BTreeSet;
@@ -74,12 +76,14 @@ fn add_named<A: Allocator + Copy>(
     tenants: &mut BTreeSet<Name, A>,
     world: &World<A>,
     command: &Command<A>,
+    steps: &[Step<A>],
 ) -> Result<(), AllocError>
+    requires { AreSteps world.now command.now steps.now }
     ensures { OnOk result (Adds (IsOfCommand world.now command.now) (Has tenants.old) (Has tenants.new)) }
 {
     let view = view_of(world);
     add_body(tenants, view.inventory, command)?;
-    add_steps(tenants, &view, steps_of(world, command))?;
+    add_steps(tenants, &view, steps)?;
     Ok(())
 }
 
@@ -94,7 +98,7 @@ fn listed<A: Allocator + Copy>(
 }
 
 /// The tenants whose things the command of this caller touches: of its body and its plan, and the
-/// moved ones.
+/// moved ones. The steps are those of its plan.
 ///
 /// # Errors
 /// `AllocError` where there is no memory.
@@ -103,13 +107,15 @@ pub fn touched<A: Allocator + Copy>(
     world: &World<A>,
     caller: &Name,
     command: &Command<A>,
+    steps: &[Step<A>],
     moved: &BTreeSet<Name, A>,
 ) -> Result<Vec<Name, A>, AllocError>
-    requires { (t : List ℕ) → Has moved.now t ↔ MovesTenant world.now caller.now command.now t }
+    requires steps { AreSteps world.now command.now steps.now }
+    requires moved { (t : List ℕ) → Has moved.now t ↔ MovesTenant world.now caller.now command.now t }
     ensures { IfOk result (λ list. (t : List ℕ) → Contains list.items t ↔ Touches world.now caller.now command.now t) }
 {
     let mut tenants = moved.clone()?;
-    add_named(&mut tenants, world, command)?;
+    add_named(&mut tenants, world, command, steps)?;
     let list = listed(alloc, &tenants)?;
     Ok(list)
 }

@@ -15,7 +15,7 @@ pub record PlanRows : Type 0 where
 
 -- what a plan shows
 abbrev pub seen_plan : {A : Type 0} → Plan A → PlanRows
-seen_plan p = record { author = p.author; steps = p.steps.items; approvals = map.from_entries p.approvals.entries }
+seen_plan p = record { author = p.author; steps = p.text; approvals = map.from_entries p.approvals.entries }
 
 -- a plan that nobody approved yet
 abbrev pub new_plan : List ℕ → List PlanStep → PlanRows

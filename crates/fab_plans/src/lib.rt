@@ -10,6 +10,7 @@ mod plan;
 mod states;
 mod zoning_steps;
 
+pub use fab_plans_kept::PlanText;
 pub use fab_plans_text::{
     Action, Keyword, LAST_UNIT, MOST_BYTES, MOST_ITEMS, MOST_STEPS, MappingAction, MappingKeyword,
     PlanFault, PlanFaultKind, Step, ZoningAction, ZoningKeyword, is_within_limits, print_plan,

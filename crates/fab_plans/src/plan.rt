@@ -4,7 +4,7 @@ ghost use Rattle.fab_plans.specs.Plans.{seen_plan, new_plan, approved_by, IsAppr
 ghost use Rattle.fab_plans.specs.declared.plan.ApprovalFault.TheVariants.{Memory};
 
 use fab_names::Name;
-use fab_plans_base::Step;
+use fab_plans_kept::PlanText;
 use std::alloc::{AllocFailed, Allocator};
 use std::collections::BTreeMap;
 
@@ -29,8 +29,8 @@ impl<T: Drop> From<AllocFailed<T>> for ApprovalFault {
 pub struct Plan<A: Allocator + Copy> {
     /// Who staged it.
     pub author: Name,
-    /// Its steps, in their order.
-    pub steps: Vec<Step<A>, A>,
+    /// Its steps, in their order, as their printed form.
+    pub text: PlanText<A>,
     /// The callers who approved it, each with the revision of the last time.
     pub approvals: BTreeMap<Name, u64, A>,
 }
@@ -40,7 +40,7 @@ impl<A: Allocator + Copy> Drop for Plan<A> {
     fn drop(self) {
         let Plan {
             author: _,
-            steps: _,
+            text: _,
             approvals: _,
         } = self;
     }
@@ -48,12 +48,12 @@ impl<A: Allocator + Copy> Drop for Plan<A> {
 
 impl<A: Allocator + Copy> Plan<A> {
     /// The plan of an author, with these steps, which nobody approved yet.
-    pub(crate) fn new(alloc: A, author: Name, steps: Vec<Step<A>, A>) -> Self
-        ensures { seen_plan result ≡ new_plan author steps.items }
+    pub(crate) fn new(alloc: A, author: Name, text: PlanText<A>) -> Self
+        ensures { seen_plan result ≡ new_plan author text }
     {
         Plan {
             author,
-            steps,
+            text,
             approvals: BTreeMap::new(alloc),
         }
     }

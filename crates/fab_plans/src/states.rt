@@ -8,7 +8,7 @@ ghost use Rattle.fab_reach_base.specs.Soundness.{IsSoundBeside};
 use crate::{ApprovalFault, Plan, TrialFault, trial};
 use fab_inventory::Inventory;
 use fab_names::Name;
-use fab_plans_base::Step;
+use fab_plans_kept::PlanText;
 use fab_reach_base::Config;
 use std::alloc::Allocator;
 
@@ -44,11 +44,11 @@ pub struct Withdrawn<A: Allocator + Copy> {
 
 impl<A: Allocator + Copy> Staged<A> {
     /// The plan of an author, with these steps, which nobody approved yet. It takes no memory.
-    pub fn new(alloc: A, author: Name, steps: Vec<Step<A>, A>) -> Self
-        ensures { seen_plan result.plan ≡ new_plan author steps.items }
+    pub fn new(alloc: A, author: Name, text: PlanText<A>) -> Self
+        ensures { seen_plan result.plan ≡ new_plan author text }
     {
         Staged {
-            plan: Plan::new(alloc, author, steps),
+            plan: Plan::new(alloc, author, text),
         }
     }
 
@@ -72,14 +72,18 @@ impl<A: Allocator + Copy> Staged<A> {
     /// Those of `trial`.
     pub fn outcome(
         &self,
+        alloc: A,
         config: &Config<A>,
         inventory: &Inventory<A>,
     ) -> Result<Config<A>, TrialFault>
-        ensures ok { IfOk result (IsOutcome inventory.now self.now.plan.steps.items config.now) }
+        ensures ok { IfOk result (IsOutcome inventory.now self.now.plan.text config.now) }
         ensures sound { IfOk result (λ after. IsSoundBeside inventory.now config.now → IsSoundBeside inventory.now after) }
-        ensures refused { IfErr result (IsTrialFault inventory.now self.now.plan.steps.items config.now) }
+        ensures refused { IfErr result (IsTrialFault inventory.now self.now.plan.text config.now) }
     {
-        trial(config, inventory, &self.plan.steps)
+        let Ok(steps) = self.plan.text.steps(alloc) else {
+            return Err(TrialFault::Memory);
+        };
+        trial(config, inventory, &steps)
     }
 
     /// The plan as an active one, with what undoes it. It takes no memory.

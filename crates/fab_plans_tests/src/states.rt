@@ -1,5 +1,6 @@
 //! The states of a plan: approvals, and what a call that leads on or is refused hands back.
 
+use crate::kept::kept;
 use crate::texts::NO_ZONE;
 use crate::worlds::{name, new_config, steps, stock};
 use fab_names::Name;
@@ -41,12 +42,15 @@ fn are(rt: &impl Abort, approvals: &BTreeMap<Name, u64, Global>, lines: &[(&str,
 
 /// Whether a plan is ada's, of three steps, and has these approvals.
 fn is_as(rt: &impl Abort, plan: &Plan<Global>, lines: &[(&str, u64)]) -> bool {
-    plan.author == name(rt, "ada") && plan.steps.len() == 3 && are(rt, &plan.approvals, lines)
+    plan.author == name(rt, "ada")
+        && plan.text.as_str().lines().count() == 3
+        && are(rt, &plan.approvals, lines)
 }
 
 /// A plan of ada's, of three steps, of which the last names a zone that is not there.
 fn staged(rt: &(impl Abort + AllocGlobal)) -> Staged<Global> {
-    Staged::new(rt.alloc(), name(rt, "ada"), steps(rt, NO_ZONE))
+    let steps = steps(rt, NO_ZONE);
+    Staged::new(rt.alloc(), name(rt, "ada"), kept(rt, &steps))
 }
 
 /// Approves a plan: whether that is accepted.
@@ -106,7 +110,7 @@ fn is_rolled_back(rt: &impl Abort, staged: Staged<Global>) -> bool {
 fn is_refused(rt: &(impl Abort + AllocGlobal), staged: &Staged<Global>) -> bool {
     let inventory = stock(rt);
     let config = new_config(rt.alloc());
-    match staged.outcome(&config, &inventory) {
+    match staged.outcome(rt.alloc(), &config, &inventory) {
         Err(TrialFault::Refused { step: 3, .. }) => true,
         _ => false,
     }

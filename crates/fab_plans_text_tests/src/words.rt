@@ -191,6 +191,10 @@ const CASES: &[Case] = &[
         Outcome::BadText,
     ),
     (
+        "list --db d --policy p --token t hosts --state staged",
+        Outcome::BadText,
+    ),
+    (
         "check --policy p",
         Outcome::Asks("Check(Policy { path: \"p\" })"),
     ),
@@ -208,6 +212,52 @@ const CASES: &[Case] = &[
     ("check --ports p --policy q", Outcome::BadText),
     ("check --policy p --plan q --ports r", Outcome::BadText),
     ("check --db d", Outcome::Refused(ErrorKind::UnknownArgument)),
+    (
+        "explain --policy p --rules",
+        Outcome::Asks("Explain(Explain { policy: \"p\", of: Rules })"),
+    ),
+    (
+        "explain --policy p --caller ada --action stage",
+        Outcome::Asks(
+            "Explain(Explain { policy: \"p\", of: Deed(Deed { caller: \"ada\", action: Stage, fabrics: None, tenants: None, author: None, approved: None, revision: None, now: None }) })",
+        ),
+    ),
+    (
+        "explain --policy p --caller ada --action rollback --fabric A,B --tenants blue,green --author bob --approved bob@6,dan@05 --revision 6 --now 0",
+        Outcome::Asks(
+            "Explain(Explain { policy: \"p\", of: Deed(Deed { caller: \"ada\", action: Rollback, fabrics: Some(Both), tenants: Some(\"blue,green\"), author: Some(\"bob\"), approved: Some(\"bob@6,dan@05\"), revision: Some(6), now: Some(0) }) })",
+        ),
+    ),
+    ("explain --policy p", Outcome::BadText),
+    ("explain --policy p --caller ada", Outcome::BadText),
+    (
+        "explain --policy p --caller ada --action stage --rules",
+        Outcome::BadText,
+    ),
+    (
+        "explain --policy p --caller ada --action stage --fabric B,A",
+        Outcome::BadText,
+    ),
+    (
+        "explain --policy p --caller ada --action stage --tenants blue,",
+        Outcome::BadText,
+    ),
+    (
+        "explain --policy p --caller ada --action stage --tenants=",
+        Outcome::BadText,
+    ),
+    (
+        "explain --policy p --caller ada --action stage --approved bob@6,@7",
+        Outcome::BadText,
+    ),
+    (
+        "explain --policy p --caller ada --action stage --approved bob@18446744073709551616",
+        Outcome::BadText,
+    ),
+    (
+        "explain --caller ada --action stage",
+        Outcome::Refused(ErrorKind::MissingRequiredArgument),
+    ),
     ("", Outcome::Refused(ErrorKind::MissingSubcommand)),
     ("serv", Outcome::Refused(ErrorKind::InvalidSubcommand)),
     ("--db d", Outcome::Refused(ErrorKind::UnknownArgument)),

@@ -1,13 +1,23 @@
-//! What is no fault of a policy, and is worth a look.
+//! What is worth a look in a policy: what is no fault of it, and what it finds of an act, rule by rule.
 //!
 //! ```
 //! for warning in &warnings_of(alloc, &policy)? {
 //!     ..
 //! }
+//! for rule in &find_rules(alloc, &policy, &act)? {
+//!     ..
+//! }
 //! ```
 #![tactic(auto)]
 
+mod findings;
 mod flaws;
+mod found;
+mod needs;
+mod openings;
 mod warnings;
 
+pub use findings::find_rules;
+pub use found::{QuorumNeed, RoleNeed, RuleFinding, WindowNeed};
+pub use openings::opening;
 pub use warnings::{Warning, warnings_of};

@@ -20,6 +20,7 @@ use Rattle.fab_program_options.specs.declared.words.Words.{Words}
 use Rattle.fab_program_options.specs.declared.words.Words.TheVariants as words
 use Rattle.fab_program_checks.specs.Checks.{CheckComes}
 use Rattle.fab_program_checks.specs.declared.modes.Modes as modes
+use Rattle.fab_program_explains.specs.Explains.{ExplainComes, now_in}
 use Rattle.fab_program_base.specs.Commands.{DryRunComes, ImportComes, ShowComes}
 use Rattle.fab_program_base.specs.Databases.{IsMade}
 use Rattle.fab_program_base.specs.Desks.{ProgramDesk}
@@ -68,3 +69,4 @@ module _ {O F T M D Reader Writer : Type 0} (f : files.Ghosts O F) (known : F â†
   Comes outside (words.Who asked) reader writer ended = EndsLike (WhoComes f known d t contents outside asked writer) ended
   Comes outside (words.Names asked) reader writer ended = EndsLike (NamesComes f known d t contents outside asked writer) ended
   Comes outside (words.Check asked) reader writer ended = EndsLike (CheckComes f known v contents outside asked writer) ended
+  Comes outside (words.Explain asked) reader writer ended = EndsAt (now_in asked.of) Tells (Î» moment. ExplainComes f known contents outside asked moment writer) ended

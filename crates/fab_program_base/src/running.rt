@@ -22,6 +22,7 @@ use crate::once::once;
 use crate::serving::serve;
 use fab_files::End;
 use fab_program_checks::{Modes, check};
+use fab_program_explains::{explain, now_in};
 use fab_program_options::{Once, Words, WordsFault, read_words};
 use fab_program_outside::{Fault, Files, Machine, fail, moment_of, refuse_text};
 use fab_store::{SqlStore, Store};
@@ -97,8 +98,8 @@ pub fn run_over<
     }
 }
 
-/// Does what the words ask for: `import`, `dryrun` and `once` at the moment that they give, or else the
-/// clock's, and the others with no moment.
+/// Does what the words ask for: `import`, `dryrun`, `once` and `explain` at the moment that they give, or
+/// else the clock's, and the others with no moment.
 fn carry_out<
     O: Files + Databases + Addresses + Modes,
     N: FnMut() -> Option<u64>,
@@ -135,6 +136,10 @@ fn carry_out<
         Words::Who(asked) => without_writer(who(alloc, outside, asked, writer)),
         Words::Names(asked) => without_writer(names(alloc, outside, asked, writer)),
         Words::Check(asked) => without_writer(check(alloc, outside, asked, writer)),
+        Words::Explain(asked) => {
+            let moment = moment_of(now_in(&asked.of), now);
+            without_writer(explain(alloc, outside, asked, moment, writer))
+        }
     }
 }
 

@@ -1,2 +1,3 @@
 mod Grown
+mod Parts
 mod Reasons

@@ -1,11 +1,13 @@
 -- What the words of a command line ask for.
-use Rattle.std.specs.Prelude.{◌≡◌, List, [], Option, Some, None}
+use Rattle.std.specs.Prelude.{◌≡◌, true, false, List, [], Option, Some, None, IfSome, option_map}
 use Rattle.clap.specs.Words.{Row, Text, fault_of, subcommand_of}
 use Rattle.fab_names.specs.Names.{SpellsName}
 use Rattle.fab_names.specs.Fabrics.{SpellsFabric}
 use Rattle.fab_names.specs.WorldWideNames.{SpellsWwn}
 use Rattle.fab_program_options.specs.CommandLine.{desk_app, subcommand_name, value_of}
-use Rattle.fab_program_options.specs.Values.{Has, MayHave, SpellsText, SpellsToken, SpellsNumber64, SpellsKind, SpellsState, is_given}
+use Rattle.fab_program_options.specs.Values.{Has, MayHave, SpellsText, SpellsToken, SpellsNumber64, SpellsKind, SpellsState, SpellsFabrics, SpellsAction, is_given}
+use Rattle.fab_program_options.specs.Lists.{SpellsList}
+use Rattle.fab_program_options.specs.declared.lists.Part.TheVariants as part
 use Rattle.fab_program_options.specs.declared.options.OptionKind.TheVariants as option
 use Rattle.fab_program_options.specs.declared.subcommands.Subcommand.{Subcommand}
 use Rattle.fab_program_options.specs.declared.subcommands.Subcommand.TheVariants as subcommand
@@ -26,6 +28,11 @@ use Rattle.fab_program_options.specs.declared.words.Who.{Who}
 use Rattle.fab_program_options.specs.declared.words.WhoOf.{WhoOf}
 use Rattle.fab_program_options.specs.declared.words.WhoOf.TheVariants as of
 use Rattle.fab_program_options.specs.declared.words.Names.{Names}
+use Rattle.fab_program_options.specs.declared.words.ListKind.TheVariants as list
+use Rattle.fab_program_options.specs.declared.words.Deed.{Deed}
+use Rattle.fab_program_options.specs.declared.words.Explain.{Explain}
+use Rattle.fab_program_options.specs.declared.words.ExplainOf.{ExplainOf}
+use Rattle.fab_program_options.specs.declared.words.ExplainOf.TheVariants as explain
 use Rattle.fab_program_options.specs.declared.words.Check.{Check}
 use Rattle.fab_program_options.specs.declared.words.Check.TheVariants as check
 use Rattle.fab_program_options.specs.declared.words.Words.{Words}
@@ -96,6 +103,7 @@ pub record IsNames (rows : List Row) (w : Names) : Type 0 where
   pub access : IsAccess rows w.access
   pub kind : Has SpellsKind (value_of option.Kind rows) w.kind
   pub state : MayHave SpellsState (value_of option.State rows) w.state
+  pub of_plans : IfSome w.state (λ s. w.kind ≡ list.Plans)
   pub json : w.is_json ≡ is_given (value_of option.Json rows)
 
 -- the file of one of the three kinds, and of no other
@@ -103,6 +111,26 @@ abbrev pub IsCheck : List Row → Check → Type 0
 IsCheck rows (check.Policy path) = Has SpellsText (value_of option.Policy rows) path.now × (value_of option.PlanFile rows ≡ None) × (value_of option.Ports rows ≡ None)
 IsCheck rows (check.Plan path) = (value_of option.Policy rows ≡ None) × Has SpellsText (value_of option.PlanFile rows) path.now × (value_of option.Ports rows ≡ None)
 IsCheck rows (check.Ports path) = (value_of option.Policy rows ≡ None) × (value_of option.PlanFile rows ≡ None) × Has SpellsText (value_of option.Ports rows) path.now
+
+-- a command: its values, and a list for itself
+pub record IsDeed (rows : List Row) (w : Deed) : Type 0 where
+  pub caller : Has SpellsName (value_of option.Caller rows) w.caller
+  pub action : Has SpellsAction (value_of option.Action rows) w.action
+  pub fabrics : MayHave SpellsFabrics (value_of option.Fabrics rows) w.fabrics
+  pub tenants : MayHave (SpellsList part.Name) (value_of option.Tenants rows) (option_map (λ text. text.now) w.tenants)
+  pub author : MayHave SpellsName (value_of option.Author rows) w.author
+  pub approved : MayHave (SpellsList part.Approval) (value_of option.Approved rows) (option_map (λ text. text.now) w.approved)
+  pub revision : MayHave SpellsNumber64 (value_of option.Revision rows) w.revision
+  pub now : MayHave SpellsNumber64 (value_of option.Now rows) w.now
+
+-- the rules and no command, or a command and not the rules
+abbrev pub IsExplainOf : List Row → ExplainOf → Type 0
+IsExplainOf rows explain.Rules = (is_given (value_of option.Rules rows) ≡ true) × (value_of option.Caller rows ≡ None) × (value_of option.Action rows ≡ None)
+IsExplainOf rows (explain.Deed deed) = (is_given (value_of option.Rules rows) ≡ false) × IsDeed rows deed
+
+pub record IsExplain (rows : List Row) (w : Explain) : Type 0 where
+  pub policy : Has SpellsText (value_of option.Policy rows) w.policy.now
+  pub of : IsExplainOf rows w.of
 
 -- ---- what the words ask for
 
@@ -119,6 +147,7 @@ subcommand_in (words.Why w) = subcommand.Why
 subcommand_in (words.Who w) = subcommand.Who
 subcommand_in (words.Names w) = subcommand.Names
 subcommand_in (words.Check w) = subcommand.Check
+subcommand_in (words.Explain w) = subcommand.Explain
 
 abbrev pub HasValues : List Row → Words → Type 0
 HasValues rows (words.Init w) = IsInit rows w
@@ -133,6 +162,7 @@ HasValues rows (words.Why w) = IsWhy rows w
 HasValues rows (words.Who w) = IsWho rows w
 HasValues rows (words.Names w) = IsNames rows w
 HasValues rows (words.Check w) = IsCheck rows w
+HasValues rows (words.Explain w) = IsExplain rows w
 
 -- the subcommand that clap found, and its options, ask for w
 abbrev pub IsAsked : Option (Text × List Row) → Words → Type 0

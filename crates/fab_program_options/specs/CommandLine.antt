@@ -3,11 +3,11 @@ use Rattle.std.specs.Prelude.{Bool, true, false, List, [], ◌∷◌, ◌++◌, 
 use Rattle.clap.specs.Words.{App, Row, Rule, Shape, Text, first_of, new_app, new_rule, with_subcommand}
 use Rattle.clap.specs.declared.builder.action.ArgAction.TheVariants.{Set, SetTrue}
 use Rattle.fab_program_options.specs.declared.options.OptionKind.{OptionKind}
-use Rattle.fab_program_options.specs.declared.options.OptionKind.TheVariants.{Db, Policy, Listen, Count, Now, Token, Fabric, File, Host, Plan, Volume, Kind, Json, PlanFile, Ports, State, Port}
+use Rattle.fab_program_options.specs.declared.options.OptionKind.TheVariants.{Db, Policy, Listen, Count, Now, Token, Fabric, File, Host, Plan, Volume, Kind, Json, PlanFile, Ports, State, Port, Rules, Caller, Action, Fabrics, Tenants, Author, Approved, Revision}
 use Rattle.fab_program_options.specs.declared.options.OptionShape.{OptionShape}
 use Rattle.fab_program_options.specs.declared.options.OptionShape.TheVariants as shape
 use Rattle.fab_program_options.specs.declared.subcommands.Subcommand.{Subcommand}
-use Rattle.fab_program_options.specs.declared.subcommands.Subcommand.TheVariants.{Init, Serve, Once, Import, Paths, Report, Export, DryRun, Why, Who, Names, Check}
+use Rattle.fab_program_options.specs.declared.subcommands.Subcommand.TheVariants.{Init, Serve, Once, Import, Paths, Report, Export, DryRun, Why, Who, Names, Check, Explain}
 
 -- ---- the words
 
@@ -29,11 +29,20 @@ option_name PlanFile = codes "plan"
 option_name Ports = codes "ports"
 option_name State = codes "state"
 option_name Port = codes "port"
+option_name Rules = codes "rules"
+option_name Caller = codes "caller"
+option_name Action = codes "action"
+option_name Fabrics = codes "fabric"
+option_name Tenants = codes "tenants"
+option_name Author = codes "author"
+option_name Approved = codes "approved"
+option_name Revision = codes "revision"
 
--- a kind of list stands without a word before it, and JSON is asked for by a word alone
+-- a kind of list stands without a word before it, and JSON and rules are asked for by a word alone
 abbrev pub shape_of : OptionKind → OptionShape
 shape_of Kind = shape.Place
 shape_of Json = shape.Flag
+shape_of Rules = shape.Flag
 shape_of other = shape.Value
 
 abbrev pub subcommand_name : Subcommand → Text
@@ -49,10 +58,11 @@ subcommand_name Why = codes "why"
 subcommand_name Who = codes "who"
 subcommand_name Names = codes "list"
 subcommand_name Check = codes "check"
+subcommand_name Explain = codes "explain"
 
 -- every subcommand
 abbrev pub all_subcommands : List Subcommand
-all_subcommands = Init ∷ Serve ∷ Once ∷ Import ∷ Paths ∷ Report ∷ Export ∷ DryRun ∷ Why ∷ Who ∷ Names ∷ Check ∷ []
+all_subcommands = Init ∷ Serve ∷ Once ∷ Import ∷ Paths ∷ Report ∷ Export ∷ DryRun ∷ Why ∷ Who ∷ Names ∷ Check ∷ Explain ∷ []
 
 -- the options by which a subcommand asks as a caller at a database
 abbrev pub access_of : Subcommand → List OptionKind
@@ -60,6 +70,7 @@ access_of Init = []
 access_of Serve = []
 access_of Once = []
 access_of Check = []
+access_of Explain = []
 access_of other = Db ∷ Policy ∷ Token ∷ []
 
 -- the options that it must have beside those
@@ -76,6 +87,7 @@ required_of Why = Host ∷ Volume ∷ []
 required_of Who = []
 required_of Names = Kind ∷ []
 required_of Check = []
+required_of Explain = Policy ∷ []
 
 -- the options that it may have
 abbrev pub optional_of : Subcommand → List OptionKind
@@ -91,6 +103,7 @@ optional_of Why = Json ∷ []
 optional_of Who = Volume ∷ Port ∷ Json ∷ []
 optional_of Names = State ∷ Json ∷ []
 optional_of Check = Policy ∷ PlanFile ∷ Ports ∷ []
+optional_of Explain = Rules ∷ Caller ∷ Action ∷ Fabrics ∷ Tenants ∷ Author ∷ Approved ∷ Revision ∷ Now ∷ []
 
 -- ---- the same, as clap reads it
 

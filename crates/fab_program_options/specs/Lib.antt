@@ -1,5 +1,6 @@
 pub mod CommandLine
 pub mod Building
 pub mod Values
+pub mod Lists
 pub mod Asking
 pub mod Reading

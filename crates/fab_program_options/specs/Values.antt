@@ -3,6 +3,10 @@ use Rattle.std.specs.Prelude.{ℕ, ◌≡◌, ◌<◌, ◌^◌, List, Option, So
 use Rattle.std.specs.Str.{bytes_eq}
 use Rattle.fab_names.specs.Numbers.{SpellsNumber}
 use Rattle.fab_names.specs.Tokens.{IsTokenText}
+use Rattle.fab_program_options.specs.declared.words.ActionWord.{ActionWord}
+use Rattle.fab_program_options.specs.declared.words.ActionWord.TheVariants as action
+use Rattle.fab_program_options.specs.declared.words.NamedFabrics.{NamedFabrics}
+use Rattle.fab_program_options.specs.declared.words.NamedFabrics.TheVariants as fabrics
 use Rattle.fab_program_options.specs.declared.words.ListKind.{ListKind}
 use Rattle.fab_program_options.specs.declared.words.ListKind.TheVariants as kind
 use Rattle.fab_program_options.specs.declared.words.ListState.{ListState}
@@ -60,6 +64,30 @@ SpellsKind text k = text ≡ kind_text k
 abbrev pub is_given : Option (List ℕ) → Bool
 is_given None = false
 is_given (Some text) = bytes_eq text (codes "true")
+
+-- the fabrics that a command names, with a comma between
+abbrev pub fabrics_text : NamedFabrics → List ℕ
+fabrics_text fabrics.A = codes "A"
+fabrics_text fabrics.B = codes "B"
+fabrics_text fabrics.Both = codes "A,B"
+
+abbrev pub SpellsFabrics : List ℕ → NamedFabrics → Type 0
+SpellsFabrics text f = text ≡ fabrics_text f
+
+-- the word of an action
+abbrev pub action_text : ActionWord → List ℕ
+action_text action.Import = codes "import"
+action_text action.Inventory = codes "inventory"
+action_text action.Stage = codes "stage"
+action_text action.Withdraw = codes "withdraw"
+action_text action.Approve = codes "approve"
+action_text action.DryRun = codes "dryrun"
+action_text action.Activate = codes "activate"
+action_text action.Rollback = codes "rollback"
+
+-- the word of an action, for it
+abbrev pub SpellsAction : List ℕ → ActionWord → Type 0
+SpellsAction text a = text ≡ action_text a
 
 -- a number text of 0 to 18446744073709551615
 abbrev pub SpellsNumber64 : List ℕ → ℕ → Type 0

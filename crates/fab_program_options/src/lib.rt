@@ -10,16 +10,18 @@
 #![tactic(auto)]
 
 mod commands;
+mod lists;
 mod options;
 mod reading;
 mod subcommands;
 mod values;
 mod words;
 
+pub use lists::{Part, approval_of};
 pub use options::{OptionKind, OptionShape};
 pub use reading::{WordsFault, read_words};
 pub use subcommands::{SUBCOMMANDS, Subcommand};
 pub use words::{
-    Access, Check, DryRun, Export, Import, Init, ListKind, ListState, Names, Once, Over, Paths,
-    Serve, Who, WhoOf, Why, Words,
+    Access, ActionWord, Check, Deed, DryRun, Explain, ExplainOf, Export, Import, Init, ListKind,
+    ListState, NamedFabrics, Names, Once, Over, Paths, Serve, Who, WhoOf, Why, Words,
 };

@@ -50,6 +50,22 @@ pub enum OptionKind {
     State,
     /// A port.
     Port,
+    /// The rules of a policy are asked for.
+    Rules,
+    /// The name of a caller.
+    Caller,
+    /// What a command does.
+    Action,
+    /// The fabrics that a command names.
+    Fabrics,
+    /// The tenants whose things a command touches.
+    Tenants,
+    /// The author of a plan.
+    Author,
+    /// The approvals of a plan.
+    Approved,
+    /// A revision.
+    Revision,
 }
 
 impl OptionKind {
@@ -75,6 +91,14 @@ impl OptionKind {
             OptionKind::Ports => "ports",
             OptionKind::State => "state",
             OptionKind::Port => "port",
+            OptionKind::Rules => "rules",
+            OptionKind::Caller => "caller",
+            OptionKind::Action => "action",
+            OptionKind::Fabrics => "fabric",
+            OptionKind::Tenants => "tenants",
+            OptionKind::Author => "author",
+            OptionKind::Approved => "approved",
+            OptionKind::Revision => "revision",
         }
     }
 
@@ -84,7 +108,7 @@ impl OptionKind {
     {
         match self {
             OptionKind::Kind => OptionShape::Place,
-            OptionKind::Json => OptionShape::Flag,
+            OptionKind::Json | OptionKind::Rules => OptionShape::Flag,
             _ => OptionShape::Value,
         }
     }
@@ -98,14 +122,22 @@ impl OptionKind {
             | OptionKind::PlanFile
             | OptionKind::Ports => "PATH",
             OptionKind::Listen => "ADDR:PORT",
-            OptionKind::Count => "N",
+            OptionKind::Count | OptionKind::Revision => "N",
             OptionKind::Now => "SECONDS",
             OptionKind::Token => "TOKEN",
             OptionKind::Fabric => "A|B",
-            OptionKind::Host | OptionKind::Plan | OptionKind::Volume => "NAME",
+            OptionKind::Fabrics => "A|B|A,B",
+            OptionKind::Host
+            | OptionKind::Plan
+            | OptionKind::Volume
+            | OptionKind::Caller
+            | OptionKind::Author => "NAME",
+            OptionKind::Action => "WORD",
+            OptionKind::Tenants => "NAME,..",
+            OptionKind::Approved => "NAME@N,..",
             OptionKind::State => "STATE",
             OptionKind::Port => "WWN",
-            OptionKind::Kind | OptionKind::Json => "KIND",
+            OptionKind::Kind | OptionKind::Json | OptionKind::Rules => "KIND",
         }
     }
 
@@ -134,6 +166,20 @@ impl OptionKind {
             OptionKind::PlanFile => "The text of a plan: a line for each step",
             OptionKind::Ports => "A port list: CSV lines port_name,node_name,domain,port",
             OptionKind::Port => "The N_Port_Name of the port",
+            OptionKind::Rules => "Shows the policy without its tokens",
+            OptionKind::Caller => "The name of the caller, as the policy has it",
+            OptionKind::Action => {
+                "import, inventory, stage, withdraw, approve, dryrun, activate or rollback"
+            }
+            OptionKind::Fabrics => "The fabrics that the command names [default: none]",
+            OptionKind::Tenants => {
+                "The tenants whose things the command touches, with commas between [default: none]"
+            }
+            OptionKind::Author => "The author of the plan [default: the caller]",
+            OptionKind::Approved => {
+                "Who approved the plan, each with the revision, with commas between [default: nobody]"
+            }
+            OptionKind::Revision => "The present revision [default: 0]",
             OptionKind::State => "Only plans that are staged, active, rolled-back or withdrawn",
         }
     }

@@ -1,7 +1,7 @@
 //! Reads the words of a command line.
 ghost use Rattle.std.specs.Prelude.{MatchOption, IfOk, IfErr, map, option_map, string_bytes};
 ghost use Rattle.clap.specs.Words.{found_of, rows_of, subcommand_rows_of};
-ghost use Rattle.fab_program_options.specs.Asking.{Asks, IsReason, IsAccess, IsInit, IsServe, IsOver, IsOnce, IsImport, IsPaths, IsExport, IsDryRun, IsWhy, IsWho, IsWhoOf, IsNames, IsCheck};
+ghost use Rattle.fab_program_options.specs.Asking.{Asks, IsReason, IsAccess, IsInit, IsServe, IsOver, IsOnce, IsImport, IsPaths, IsExport, IsDryRun, IsWhy, IsWho, IsWhoOf, IsNames, IsCheck, IsDeed, IsExplain, IsExplainOf};
 ghost use Rattle.fab_program_options.specs.Reading.{IsFaultOf, IsFound, IsRead, IsInMemory};
 ghost use Rattle.fab_program_options.specs.declared.subcommands.Subcommand.{Subcommand};
 ghost use Rattle.fab_program_options.specs.declared.words.Access.{Access};
@@ -18,16 +18,21 @@ ghost use Rattle.fab_program_options.specs.declared.words.Who.{Who};
 ghost use Rattle.fab_program_options.specs.declared.words.WhoOf.{WhoOf};
 ghost use Rattle.fab_program_options.specs.declared.words.Names.{Names};
 ghost use Rattle.fab_program_options.specs.declared.words.Check.{Check};
+ghost use Rattle.fab_program_options.specs.declared.words.Deed.{Deed};
+ghost use Rattle.fab_program_options.specs.declared.words.Explain.{Explain};
+ghost use Rattle.fab_program_options.specs.declared.words.ExplainOf.{ExplainOf};
 
 use crate::commands::command_line;
+use crate::lists::Part;
 use crate::options::OptionKind;
 use crate::subcommands::Subcommand;
 use crate::values::{
-    fabric_in, is_given, kind_in, name_in, number_in, state_in, text_in, token_in, wwn_in,
+    action_in, fabric_in, fabrics_in, is_given, kind_in, list_in, maybe_name_in, name_in,
+    number_in, state_in, text_in, token_in, wwn_in,
 };
 use crate::words::{
-    Access, Check, DryRun, Export, Import, Init, Names, Once, Over, Paths, Serve, Who, WhoOf, Why,
-    Words,
+    Access, Check, Deed, DryRun, Explain, ExplainOf, Export, Import, Init, ListKind, Names, Once,
+    Over, Paths, Serve, Who, WhoOf, Why, Words,
 };
 use clap::error::ErrorKind;
 use clap::{ArgMatches, Error};
@@ -125,6 +130,7 @@ fn words_of<'a>(subcommand: Subcommand, given: &ArgMatches<'a>) -> Option<Words<
         Subcommand::Who => who_words(given),
         Subcommand::Names => names_words(given),
         Subcommand::Check => check_words(given),
+        Subcommand::Explain => explain_words(given),
     }
 }
 
@@ -184,6 +190,16 @@ fn check_words<'a>(given: &ArgMatches<'a>) -> Option<Words<'a>>
 {
     match check_in(given) {
         Some(asked) => Some(Words::Check(asked)),
+        None => None,
+    }
+}
+
+/// What the matches of `explain` ask for.
+fn explain_words<'a>(given: &ArgMatches<'a>) -> Option<Words<'a>>
+    ensures { IsRead Subcommand.Explain (rows_of (found_of given.now)) result }
+{
+    match explain_in(given) {
+        Some(asked) => Some(Words::Explain(asked)),
         None => None,
     }
 }
@@ -414,6 +430,9 @@ fn names_in<'a>(given: &ArgMatches<'a>) -> Option<Names<'a>>
     let Some(state) = state_in(given, OptionKind::State) else {
         return None;
     };
+    if state.is_some() && kind != ListKind::Plans {
+        return None;
+    }
     Some(Names {
         access,
         kind,
@@ -436,4 +455,77 @@ fn check_in<'a>(given: &ArgMatches<'a>) -> Option<Check<'a>>
         (None, None, Some(path)) => Some(Check::Ports { path }),
         _ => None,
     }
+}
+
+/// The command, or none where a value of it has not its text form.
+fn deed_in<'a>(given: &ArgMatches<'a>) -> Option<Deed<'a>>
+    ensures { MatchOption result ((w : Deed) → ¬ IsDeed (rows_of (found_of given.now)) w)
+        (IsDeed (rows_of (found_of given.now))) }
+{
+    let Some(caller) = name_in(given, OptionKind::Caller) else {
+        return None;
+    };
+    let Some(action) = action_in(given, OptionKind::Action) else {
+        return None;
+    };
+    let Some(fabrics) = fabrics_in(given, OptionKind::Fabrics) else {
+        return None;
+    };
+    let Some(tenants) = list_in(given, OptionKind::Tenants, Part::Name) else {
+        return None;
+    };
+    let Some(author) = maybe_name_in(given, OptionKind::Author) else {
+        return None;
+    };
+    let Some(approved) = list_in(given, OptionKind::Approved, Part::Approval) else {
+        return None;
+    };
+    let Some(revision) = number_in(given, OptionKind::Revision) else {
+        return None;
+    };
+    let Some(now) = number_in(given, OptionKind::Now) else {
+        return None;
+    };
+    Some(Deed {
+        caller,
+        action,
+        fabrics,
+        tenants,
+        author,
+        approved,
+        revision,
+        now,
+    })
+}
+
+/// The rules or a command, or none where it is not one of them.
+fn explain_of_in<'a>(given: &ArgMatches<'a>) -> Option<ExplainOf<'a>>
+    ensures { MatchOption result ((w : ExplainOf) → ¬ IsExplainOf (rows_of (found_of given.now)) w)
+        (IsExplainOf (rows_of (found_of given.now))) }
+{
+    let caller = text_in(given, OptionKind::Caller);
+    let action = text_in(given, OptionKind::Action);
+    if is_given(given, OptionKind::Rules) {
+        return match (caller, action) {
+            (None, None) => Some(ExplainOf::Rules),
+            _ => None,
+        };
+    }
+    match deed_in(given) {
+        Some(deed) => Some(ExplainOf::Deed(deed)),
+        None => None,
+    }
+}
+
+fn explain_in<'a>(given: &ArgMatches<'a>) -> Option<Explain<'a>>
+    ensures { MatchOption result ((w : Explain) → ¬ IsExplain (rows_of (found_of given.now)) w)
+        (IsExplain (rows_of (found_of given.now))) }
+{
+    let Some(policy) = text_in(given, OptionKind::Policy) else {
+        return None;
+    };
+    let Some(of) = explain_of_in(given) else {
+        return None;
+    };
+    Some(Explain { policy, of })
 }

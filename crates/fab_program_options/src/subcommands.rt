@@ -32,10 +32,12 @@ pub enum Subcommand {
     Names,
     /// Tells what is wrong with a file.
     Check,
+    /// Tells what a policy says of a command.
+    Explain,
 }
 
 /// Every subcommand, in the order of the help.
-pub const SUBCOMMANDS: [Subcommand; 12] = [
+pub const SUBCOMMANDS: [Subcommand; 13] = [
     Subcommand::Init,
     Subcommand::Serve,
     Subcommand::Once,
@@ -48,6 +50,7 @@ pub const SUBCOMMANDS: [Subcommand; 12] = [
     Subcommand::Who,
     Subcommand::Names,
     Subcommand::Check,
+    Subcommand::Explain,
 ];
 
 impl Subcommand {
@@ -69,6 +72,7 @@ impl Subcommand {
             "who" => Some(Subcommand::Who),
             "list" => Some(Subcommand::Names),
             "check" => Some(Subcommand::Check),
+            "explain" => Some(Subcommand::Explain),
             _ => None,
         }
     }
@@ -90,6 +94,7 @@ impl Subcommand {
             Subcommand::Who => "who",
             Subcommand::Names => "list",
             Subcommand::Check => "check",
+            Subcommand::Explain => "explain",
         }
     }
 
@@ -98,7 +103,11 @@ impl Subcommand {
         ensures { result.now ≡ access_of self }
     {
         match self {
-            Subcommand::Init | Subcommand::Serve | Subcommand::Once | Subcommand::Check => &[],
+            Subcommand::Init
+            | Subcommand::Serve
+            | Subcommand::Once
+            | Subcommand::Check
+            | Subcommand::Explain => &[],
             _ => &[OptionKind::Db, OptionKind::Policy, OptionKind::Token],
         }
     }
@@ -117,6 +126,7 @@ impl Subcommand {
             Subcommand::DryRun => &[OptionKind::Plan],
             Subcommand::Why => &[OptionKind::Host, OptionKind::Volume],
             Subcommand::Names => &[OptionKind::Kind],
+            Subcommand::Explain => &[OptionKind::Policy],
         }
     }
 
@@ -133,6 +143,17 @@ impl Subcommand {
             Subcommand::Who => &[OptionKind::Volume, OptionKind::Port, OptionKind::Json],
             Subcommand::Names => &[OptionKind::State, OptionKind::Json],
             Subcommand::Check => &[OptionKind::Policy, OptionKind::PlanFile, OptionKind::Ports],
+            Subcommand::Explain => &[
+                OptionKind::Rules,
+                OptionKind::Caller,
+                OptionKind::Action,
+                OptionKind::Fabrics,
+                OptionKind::Tenants,
+                OptionKind::Author,
+                OptionKind::Approved,
+                OptionKind::Revision,
+                OptionKind::Now,
+            ],
         }
     }
 
@@ -162,6 +183,10 @@ impl Subcommand {
             Subcommand::Check => {
                 "Tells what is wrong with a policy, a plan or a port list, and what is worth a look in \
                  a policy"
+            }
+            Subcommand::Explain => {
+                "Tells what a policy says of a command, rule by rule, and when its windows open; or shows \
+                 the policy without its tokens"
             }
         }
     }
@@ -201,6 +226,10 @@ impl Subcommand {
                 "Example: sandesk list --db desk.db --policy policy.toml --token t-ada hosts"
             }
             Subcommand::Check => "Example: sandesk check --policy policy.toml",
+            Subcommand::Explain => {
+                "Example: sandesk explain --policy policy.toml --caller ada --action activate \
+                 --fabric B --approved bob@6 --revision 6"
+            }
         }
     }
 }

@@ -6,12 +6,16 @@ ghost use Rattle.fab_names.specs.WorldWideNames.{SpellsWwn};
 ghost use Rattle.fab_names.specs.Fabrics.{SpellsFabric};
 ghost use Rattle.fab_names.specs.declared.fabric.Fabric.{Fabric};
 ghost use Rattle.fab_program_options.specs.CommandLine.{value_of};
-ghost use Rattle.fab_program_options.specs.Values.{Has, MayHave, SpellsKind, SpellsState, SpellsToken, SpellsNumber64, is_given};
+ghost use Rattle.fab_program_options.specs.Lists.{SpellsList};
+ghost use Rattle.fab_program_options.specs.Values.{Has, MayHave, SpellsAction, SpellsFabrics, SpellsKind, SpellsState, SpellsToken, SpellsNumber64, is_given};
+ghost use Rattle.fab_program_options.specs.declared.words.ActionWord.{ActionWord};
 ghost use Rattle.fab_program_options.specs.declared.words.ListKind.{ListKind};
+ghost use Rattle.fab_program_options.specs.declared.words.NamedFabrics.{NamedFabrics};
 ghost use Rattle.fab_program_options.specs.declared.words.ListState.{ListState};
 
+use crate::lists::{Part, is_list};
 use crate::options::OptionKind;
-use crate::words::{ListKind, ListState};
+use crate::words::{ActionWord, ListKind, ListState, NamedFabrics};
 use clap::ArgMatches;
 use fab_names::{Fabric, Name, Wwn, is_token, read_number};
 
@@ -101,13 +105,105 @@ pub fn number_in(given: &ArgMatches<'_>, option: OptionKind) -> Option<Option<u6
 }
 
 /// The number that a text spells, if it is at most 18446744073709551615.
-fn number_of(text: &str) -> Option<u64>
+pub fn number_of(text: &str) -> Option<u64>
     ensures { MatchOption result ((x : ℕ) → ¬ SpellsNumber64 text.now x) (SpellsNumber64 text.now) }
 {
     let Some(number) = read_number(text.as_bytes()) else {
         return None;
     };
     u64::try_from(number).ok()
+}
+
+/// The value of an option as a name, `Some(None)` where it was not given, or none where it is no name.
+pub fn maybe_name_in(given: &ArgMatches<'_>, option: OptionKind) -> Option<Option<Name>>
+    ensures { MatchOption result
+        ((x : Option (List ℕ)) → ¬ MayHave SpellsName (value_of option (rows_of (found_of given.now))) x)
+        (MayHave SpellsName (value_of option (rows_of (found_of given.now)))) }
+{
+    let Some(text) = text_in(given, option) else {
+        return Some(None);
+    };
+    match Name::read(text) {
+        Ok(name) => Some(Some(name)),
+        Err(_) => None,
+    }
+}
+
+/// The value of an option as a list, `Some(None)` where it was not given, or none where it is no list of
+/// such parts.
+pub fn list_in<'a>(
+    given: &ArgMatches<'a>,
+    option: OptionKind,
+    kind: Part,
+) -> Option<Option<&'a str>>
+    ensures { MatchOption result
+        ((x : Option (List ℕ)) → ¬ MayHave (SpellsList kind) (value_of option (rows_of (found_of given.now))) x)
+        (λ x. MayHave (SpellsList kind) (value_of option (rows_of (found_of given.now))) (option_map (λ text. text.now) x)) }
+{
+    let Some(text) = text_in(given, option) else {
+        return Some(None);
+    };
+    if is_list(kind, text) {
+        Some(Some(text))
+    } else {
+        None
+    }
+}
+
+/// The value of an option as fabrics, `Some(None)` where it was not given, or none where they are none.
+pub fn fabrics_in(given: &ArgMatches<'_>, option: OptionKind) -> Option<Option<NamedFabrics>>
+    ensures { MatchOption result
+        ((x : Option NamedFabrics) → ¬ MayHave SpellsFabrics (value_of option (rows_of (found_of given.now))) x)
+        (MayHave SpellsFabrics (value_of option (rows_of (found_of given.now)))) }
+{
+    let Some(text) = text_in(given, option) else {
+        return Some(None);
+    };
+    match fabrics_of(text) {
+        Some(fabrics) => Some(Some(fabrics)),
+        None => None,
+    }
+}
+
+/// The fabrics that a text spells, if it spells some.
+fn fabrics_of(text: &str) -> Option<NamedFabrics>
+    ensures { MatchOption result ((x : NamedFabrics) → ¬ SpellsFabrics text.now x) (SpellsFabrics text.now) }
+{
+    match text {
+        "A" => Some(NamedFabrics::A),
+        "B" => Some(NamedFabrics::B),
+        "A,B" => Some(NamedFabrics::Both),
+        _ => None,
+    }
+}
+
+/// The value of an option as an action, or none where it is none or was not given.
+pub fn action_in(given: &ArgMatches<'_>, option: OptionKind) -> Option<ActionWord>
+    ensures { MatchOption result
+        ((x : ActionWord) → ¬ Has SpellsAction (value_of option (rows_of (found_of given.now))) x)
+        (Has SpellsAction (value_of option (rows_of (found_of given.now)))) }
+{
+    let Some(text) = text_in(given, option) else {
+        return None;
+    };
+    action_of(text)
+}
+
+/// The action that a text spells, if it spells one.
+fn action_of(text: &str) -> Option<ActionWord>
+    ensures { MatchOption result ((x : ActionWord) → ¬ SpellsAction text.now x) (SpellsAction text.now) }
+{
+    match text {
+        "import" => Some(ActionWord::Import),
+        "inventory" => Some(ActionWord::Inventory),
+        "stage" => Some(ActionWord::Stage),
+        "withdraw" => Some(ActionWord::Withdraw),
+        "approve" => Some(ActionWord::Approve),
+        "dryrun" => Some(ActionWord::DryRun),
+        "activate" => Some(ActionWord::Activate),
+        "rollback" => Some(ActionWord::Rollback),
+        _ => None,
+    }
 }
 
 /// The value of an option as a kind of list, or none where it is no kind or was not given.

@@ -29,6 +29,8 @@ pub enum Words<'a> {
     Names(Names<'a>),
     /// `check`: tells what is wrong with a file.
     Check(Check<'a>),
+    /// `explain`: tells what a policy says of a command.
+    Explain(Explain<'a>),
 }
 
 /// A caller at a database.
@@ -188,4 +190,63 @@ pub enum Check<'a> {
     Plan { path: &'a str },
     /// The file of a port list.
     Ports { path: &'a str },
+}
+
+/// What a command does, as a policy names it.
+#[derive(Clone, Copy, Debug)]
+pub enum ActionWord {
+    Import,
+    Inventory,
+    Stage,
+    Withdraw,
+    Approve,
+    DryRun,
+    Activate,
+    Rollback,
+}
+
+/// The fabrics that a command names.
+#[derive(Clone, Copy, Debug)]
+pub enum NamedFabrics {
+    A,
+    B,
+    Both,
+}
+
+/// A command of which it is asked what a policy says.
+#[derive(Clone, Copy, Debug)]
+pub struct Deed<'a> {
+    /// Who sends it.
+    pub caller: Name,
+    pub action: ActionWord,
+    /// Without it no fabric.
+    pub fabrics: Option<NamedFabrics>,
+    /// The tenants whose things it touches: names with commas between. Without it none.
+    pub tenants: Option<&'a str>,
+    /// The author of its plan; without it the caller.
+    pub author: Option<Name>,
+    /// The approvals of its plan: names, each with `@` and a revision, with commas between. Without it
+    /// none.
+    pub approved: Option<&'a str>,
+    /// The present revision; without it 0.
+    pub revision: Option<u64>,
+    /// The moment, in seconds since 1970; without it the clock's.
+    pub now: Option<u64>,
+}
+
+/// What is asked of a policy.
+#[derive(Clone, Copy, Debug)]
+pub enum ExplainOf<'a> {
+    /// What it is, without its tokens.
+    Rules,
+    /// What it says of a command.
+    Deed(Deed<'a>),
+}
+
+/// A policy of which something is asked.
+#[derive(Clone, Copy, Debug)]
+pub struct Explain<'a> {
+    /// The policy's file.
+    pub policy: &'a str,
+    pub of: ExplainOf<'a>,
 }

@@ -48,12 +48,14 @@ use Rattle.fab_plans_base.specs.Plans.{Spells, plan_text}
 use Rattle.fab_plans_base.specs.Steps.{PlanStep}
 use Rattle.fab_plans_base.specs.Texts.{lines_of}
 use Rattle.fab_store_world.specs.Orders.{numbered}
-use Rattle.fab_store_world.specs.PlanRows.{IsTextOf, IsRowOf, IsApprovalOf, IsChanged}
+use Rattle.fab_plans_kept.specs.Texts.{IsTextOf}
+use Rattle.fab_store_world.specs.PlanRows.{IsRowOf, IsApprovalOf, IsChanged}
 use Rattle.fab_store_world.specs.Positions.{IsPosition}
 use Rattle.fab_store_world.specs.Standing.{IsPlanRow, IsApprovalRow, IsUndoRow}
 use Rattle.fab_store_world.specs.Tables.{IsPortRow, IsHolderRow, IsVolumeRow, IsConfigRow, IsRowOfPath}
 use Rattle.fab_store_base.specs.Worlds.{IsMetaRow}
-use Rattle.fab_world.specs.Codes.{step_code, row_code}
+use Rattle.fab_plans_kept.specs.Codes.{step_code}
+use Rattle.fab_world.specs.Codes.{row_code}
 use Rattle.fab_world.specs.PlanRecords.{Standing, staged, active, rolled_back, withdrawn, PlanRecord}
 use Rattle.fab_world.specs.Plans.{state_of}
 use Rattle.fab_world.specs.Worlds.{WorldRows, records_of}

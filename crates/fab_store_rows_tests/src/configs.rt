@@ -1,6 +1,6 @@
 //! Configurations from their rows, and back.
 
-use crate::lines::{Line, assert_rows, row};
+use crate::lines::{Line, assert_rows, row, rows_of};
 use fab_names::Fabric::{A, B};
 use fab_store_load::{LoadFault, Table, config_of};
 use fab_store_rows::{ConfigRow, config_rows};
@@ -23,7 +23,7 @@ const NEW: &[Line] = &[
 ];
 
 /// Those of a configuration with one of each kind of row, in their order.
-const SMALL: &[Line] = &[
+pub const SMALL: &[Line] = &[
     Line::ActiveSet(A, "s1"),
     Line::NoActiveSet(B),
     Line::DefaultZone(A, false),
@@ -61,15 +61,6 @@ const MIXED: &[Edit] = &[
     (8, Line::ZonePort("z1", I1)),
 ];
 
-/// The rows of the lines.
-fn rows_of(rt: &(impl Abort + AllocGlobal), lines: &[Line]) -> Vec<ConfigRow, Global> {
-    let mut rows = Vec::new(rt.alloc());
-    for line in lines {
-        rows.push(row(rt, *line)).expect(rt, "a row");
-    }
-    rows
-}
-
 /// Puts a line in the place of another, or after the last.
 fn edit(rows: &mut Vec<ConfigRow, Global>, rt: &impl Abort, edit: Edit) {
     let row = row(rt, edit.1);
@@ -86,7 +77,7 @@ fn edited(
     lines: &[Line],
     edits: &[Edit],
 ) -> Vec<ConfigRow, Global> {
-    let mut rows = rows_of(rt, lines);
+    let mut rows = rows_of(rt, rt.alloc(), lines);
     for one in edits {
         edit(&mut rows, rt, *one);
     }

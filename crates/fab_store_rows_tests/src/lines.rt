@@ -5,6 +5,7 @@ use fab_store_rows::{
     ActiveRow, ConfigRow, GroupRow, HostGroupRow, PartRow, SettingRow, StorageGroupRow,
     StoragePart, ZoningItem, ZoningRow,
 };
+use std::alloc::Allocator;
 use std::process::Abort;
 
 /// A row: settings of a fabric; items and active rows of fabric A, and a port of a zone of
@@ -140,6 +141,19 @@ pub fn row(rt: &impl Abort, line: Line) -> ConfigRow {
         Line::ActiveAlias(zone, alias) => active(rt, zone, an_alias(rt, alias)),
         _ => item_row(rt, line),
     }
+}
+
+/// The rows of the lines.
+pub fn rows_of<A: Allocator + Copy>(
+    rt: &impl Abort,
+    alloc: A,
+    lines: &[Line],
+) -> Vec<ConfigRow, A> {
+    let mut rows = Vec::new(alloc);
+    for line in lines {
+        rows.push(row(rt, *line)).expect(rt, "a row");
+    }
+    rows
 }
 
 /// The rows are those of the lines, in this order.

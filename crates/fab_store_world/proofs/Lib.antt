@@ -1,5 +1,4 @@
 pub mod Orders
-pub mod PrintedTexts
 pub mod PlansMade
 pub mod WholePlans
 pub mod InOrder

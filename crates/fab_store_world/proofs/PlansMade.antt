@@ -13,7 +13,8 @@ use Rattle.fab_names.proofs.OrderLaws.{name_total, name_exact}
 use Rattle.fab_store_rows.specs.PlanEntries.{PlanEntry}
 use Rattle.fab_world.specs.PlanRecords.{PlanRecord}
 use Rattle.fab_store_world.specs.declared.plans.PlanParts.{PlanParts}
-use Rattle.fab_store_world.specs.PlanRows.{IsTextOf, ArePlanRows}
+use Rattle.fab_plans_kept.specs.Texts.{IsTextOf}
+use Rattle.fab_store_world.specs.PlanRows.{ArePlanRows}
 use Rattle.fab_store_world.specs.Parts.{IsMadeOf, AreMadeOf}
 
 module _ {A : Type 0} (rows : List PlanEntry) (parts : PlanParts A) where

@@ -10,7 +10,8 @@ use Rattle.fab_store_rows.specs.declared.config_row.ConfigRow.{ConfigRow}
 use Rattle.fab_store_rows.specs.declared.record_row.PlanState.{PlanState}
 use Rattle.fab_store_rows.specs.declared.record_row.PlanState.TheVariants as state
 use Rattle.fab_store_world.specs.declared.plans.PlanParts.{PlanParts}
-use Rattle.fab_store_world.specs.PlanRows.{IsTextOf, HaveNames, ChangesInOrder}
+use Rattle.fab_plans_kept.specs.Texts.{IsTextOf}
+use Rattle.fab_store_world.specs.PlanRows.{HaveNames, ChangesInOrder}
 use Rattle.fab_store_rows.specs.PlanEntries.{PlanEntry}
 use Rattle.fab_store_rows.specs.declared.record_row.ApprovalRow.{ApprovalRow}
 use Rattle.fab_store_rows.specs.declared.record_row.UndoRow.{UndoRow}

@@ -4,8 +4,7 @@ use Rattle.std.specs.FinMap as map
 use Rattle.std.specs.List.Sorted.{IsStrictlySortedBy}
 use Rattle.fab_lemmas.specs.Firsts.{HasAt}
 use Rattle.fab_store_load.specs.Inventories.{AreAll}
-use Rattle.fab_plans_base.specs.Steps.{PlanStep}
-use Rattle.fab_plans_base.specs.Plans.{Spells, plan_text}
+use Rattle.fab_plans_kept.specs.Texts.{IsTextOf}
 use Rattle.fab_store_rows.specs.declared.config_row.ConfigRow.{ConfigRow}
 use Rattle.fab_store_rows.specs.PlanEntries.{PlanEntry}
 use Rattle.fab_store_rows.specs.RowOrder.{row_order}
@@ -16,11 +15,6 @@ use Rattle.fab_store_rows.specs.declared.record_row.Sign.TheVariants.{Taken, Add
 use Rattle.fab_store_world.specs.Orders.{IsOrderOf}
 use Rattle.fab_world.specs.PlanRecords.{Standing, active, PlanRecord}
 use Rattle.fab_world.specs.Plans.{state_of}
-
--- the text is the printed form of the steps, and spells them
-pub record IsTextOf (text : List ℕ) (steps : List PlanStep) : Type 0 where
-  pub spells : Spells text steps
-  pub printed : text ≡ plan_text steps
 
 -- the row is the plan's
 pub record IsRowOf (r : PlanEntry) (p : PlanRecord) : Type 0 where

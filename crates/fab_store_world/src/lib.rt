@@ -14,7 +14,6 @@ mod paths;
 mod plans;
 mod row_tables;
 mod tables;
-mod texts;
 mod whole;
 mod world;
 

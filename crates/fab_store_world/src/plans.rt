@@ -5,11 +5,11 @@ ghost use Rattle.std.specs.FinMap as map;
 ghost use Rattle.fab_names.specs.Orders.{name_cmp};
 ghost use Rattle.fab_world.specs.PlanRecords.{PlanRecord};
 ghost use Rattle.fab_store_world.specs.Parts.{rows_at, approvals_at, standing_in, IsMadeOf, AreMadeOf};
-ghost use Rattle.fab_store_world.specs.PlanRows.{IsTextOf, IsInOrder, ChangesInOrder, ArePlanRows};
+ghost use Rattle.fab_plans_kept.specs.Texts.{IsTextOf};
+ghost use Rattle.fab_store_world.specs.PlanRows.{IsInOrder, ChangesInOrder, ArePlanRows};
 
-use crate::texts::steps_of;
 use fab_names::Name;
-use fab_plans::{Active, Plan, RolledBack, Staged, Withdrawn};
+use fab_plans::{Active, Plan, PlanText, RolledBack, Staged, Withdrawn};
 use fab_store_rows::{ConfigRow, PlanRow, PlanState, RowDifference};
 use fab_world::{AnyPlan, KeptPlan};
 use std::alloc::{AllocError, Allocator};
@@ -83,7 +83,7 @@ fn approvals_under<A: Allocator + Copy>(
 fn kept<A: Allocator + Copy>(plan: Plan<A>, state: PlanState, undo: RowDifference<A>) -> KeptPlan<A>
     ensures plan { result ≡ record {
       author = plan.author;
-      steps = plan.steps.items;
+      steps = plan.text;
       approvals = map.from_entries plan.approvals.entries;
       standing = standing_in state undo.taken.items undo.added.items;
     } }
@@ -109,7 +109,7 @@ pub fn plan_of<A: Allocator + Copy>(
 ) -> Result<Option<KeptPlan<A>>, AllocError>
     ensures { IfOk result (λ found. MatchOption found ((p : PlanRecord) → ¬ IsTextOf row.now.text p.steps) (IsMadeOf row.now parts.now)) }
 {
-    let Some(steps) = steps_of(alloc, row.text.as_str())? else {
+    let Some(text) = PlanText::read(alloc, row.text.as_str())? else {
         return Ok(None);
     };
     let approvals = approvals_under(alloc, &parts.approvals, &row.name)?;
@@ -117,7 +117,7 @@ pub fn plan_of<A: Allocator + Copy>(
     let added = rows_under(alloc, &parts.added, &row.name)?;
     let plan = Plan {
         author: row.author,
-        steps,
+        text,
         approvals,
     };
     Ok(Some(kept(plan, row.state, RowDifference { taken, added })))

@@ -240,7 +240,9 @@ fn is_first(rt: &impl Abort, kept: &KeptPlan<Global>) -> bool {
     if plan.author != name(rt, "ada") || kept.state() != PlanState::Active {
         return false;
     }
-    if plan.steps.len() != 10 || plan.approvals.get(&name(rt, "bob")) != Some(&6) {
+    if plan.text.as_str().lines().count() != 10
+        || plan.approvals.get(&name(rt, "bob")) != Some(&6)
+    {
         return false;
     }
     match kept.undo() {

@@ -211,7 +211,7 @@ fn is_as(rt: &impl Abort, kept: &KeptPlan<Global>, made: Made) -> bool {
     if plan.author != name(rt, "ada") || kept.state() != made.1 {
         return false;
     }
-    if plan.steps.len() != made.2 || plan.approvals.len() != made.3 {
+    if plan.text.as_str().lines().count() != made.2 || plan.approvals.len() != made.3 {
         return false;
     }
     match kept.undo() {

@@ -2,7 +2,6 @@
 
 use fab_names::Name;
 use fab_plans::Plan;
-use fab_plans_base::are_same;
 use fab_store_rows::RowDifference;
 use fab_world::KeptPlan;
 use std::alloc::Allocator;
@@ -24,7 +23,7 @@ fn are_same_approvals<A: Allocator>(
 /// Whether the plans have the same author, steps and approvals.
 fn is_same_text<A: Allocator + Copy>(plan: &Plan<A>, other: &Plan<A>) -> bool {
     plan.author == other.author
-        && are_same(plan.steps.as_slice(), other.steps.as_slice())
+        && plan.text.is_same(&other.text)
         && are_same_approvals(&plan.approvals, &other.approvals)
 }
 

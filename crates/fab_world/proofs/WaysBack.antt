@@ -5,10 +5,12 @@ use Rattle.fab_lemmas.specs.Lists.{IsListOf}
 use Rattle.fab_reach_base.specs.Records.{ConfigRows}
 use Rattle.fab_reach_base.specs.Soundness.{IsSoundAlone}
 use Rattle.fab_store_rows.specs.declared.config_row.ConfigRow.{ConfigRow}
-use Rattle.fab_store_rows.specs.Differences.{StandsOnlyIn, IsDifference}
+use Rattle.fab_store_rows.specs.Differences.{IsDifference}
 use Rattle.fab_store_rows.specs.RowOrder.{row_order}
 use Rattle.fab_store_rows.specs.Standing.{Stands}
-use Rattle.fab_store_rows.proofs.Determined.{one_list, one_config}
+use Rattle.fab_store_rows.specs.Telling.{HaveSameRows}
+use Rattle.fab_store_rows.proofs.Determined.{one_config}
+use Rattle.fab_store_edits.proofs.Differing.{led_back, same_rows, difference_of_rows}
 use Rattle.fab_store_load.specs.Configs.{AreConfigRows}
 use Rattle.fab_world.specs.History.{IsEarlier, IsOnlyEarlier, LeadsBack, changes_at, changes_of}
 use Rattle.fab_world.specs.PlanRecords.{PlanRecord}
@@ -27,23 +29,33 @@ found_as (Ok None) none some h = none h
 found_as (Ok (Some x)) none some h = some x h
 found_as (Err e) none some h = h
 
--- two differences of the same configurations are one
-pub one_difference : (b c : ConfigRows) (taken added others more : List ConfigRow) → IsDifference b c taken added → IsDifference b c others more → (taken ≡ others) × (added ≡ more)
-one_difference b c taken added others more h k = (one_list (StandsOnlyIn b c) taken others h.takes k.takes, one_list (StandsOnlyIn c b) added more h.adds k.adds)
+-- ---- the rows of a configuration, as listed
+module _ (c d : ConfigRows) (rows : List ConfigRow) (listed : IsListOf row_order (Stands c) rows) where
+  pub same_as_listed : AreConfigRows rows d → HaveSameRows d c
+  same_as_listed are r = ((λ h. listed.sound r ((are r).1 h)), λ h. (are r).0 (listed.complete r h))
 
-module _ (now : ConfigRows) (change : Change) (rows before : List ConfigRow) (listed : IsListOf row_order (Stands now) rows)
-    (undone : (b c : ConfigRows) → IsListOf row_order (Stands c) rows → IsDifference b c change.taken change.added → IsListOf row_order (Stands b) before) where
-  -- the rows that are left are an earlier configuration's
-  earlier_rows : (b : ConfigRows) → IsEarlier now change b → AreConfigRows before b
-  earlier_rows b e = let list = undone b now listed e.differs in λ r. (list.sound r, list.complete r)
+  pub listed_as_same : HaveSameRows d c → AreConfigRows rows d
+  listed_as_same same r = ((λ h. (same r).1 (listed.sound r h)), λ h. listed.complete r ((same r).0 h))
 
-  pub none_earlier : ((c : ConfigRows) → AreConfigRows before c → ¬ IsSoundAlone c) → (b : ConfigRows) → ¬ IsEarlier now change b
-  none_earlier h b e = h b (earlier_rows b e) e.sound
+-- where none has the rows, none is earlier
+pub none_led : (now : ConfigRows) (change : Change) → ((b : ConfigRows) → ¬ IsDifference b now change.taken change.added) → (b : ConfigRows) → ¬ IsEarlier now change b
+none_led now change none b e = none b e.differs
+
+-- ---- a configuration from which the change leads here, sound or not
+module _ (now edited : ConfigRows) (change : Change) (differs : IsDifference edited now change.taken change.added) where
+  -- each earlier one has its rows
+  earlier_rows : (b : ConfigRows) → IsEarlier now change b → HaveSameRows b edited
+  earlier_rows b e = same_rows now change.added change.taken b edited (led_back b now change.taken change.added e.differs) (led_back edited now change.taken change.added differs)
+
+  pub none_alike : ((c : ConfigRows) → HaveSameRows c edited → ¬ IsSoundAlone c) → (b : ConfigRows) → ¬ IsEarlier now change b
+  none_alike none b e = none b (earlier_rows b e) e.sound
 
   -- so there is one at most
-  pub one_earlier : (c : ConfigRows) → AreConfigRows before c × IsSoundAlone c → (b : ConfigRows) → IsEarlier now change b → b ≡ c
-  one_earlier c made b e =
-      one_config b c e.sound.parts.zonings made.1.parts.zonings (λ r. let x = earlier_rows b e r in let y = made.0 r in ((λ there. y.0 (x.1 there)), λ there. x.0 (y.1 there)))
+  pub only_alike : (c : ConfigRows) → HaveSameRows c edited × IsSoundAlone c → IsOnlyEarlier now change c
+  only_alike c found = record {
+    is = record { sound = found.1; differs = difference_of_rows edited c now change.taken change.added found.0 differs };
+    only = λ b e. one_config b c e.sound.parts.zonings found.1.parts.zonings (λ r. let x = earlier_rows b e r in let y = found.0 r in ((λ h. y.1 (x.0 h)), λ h. x.1 (y.0 h)));
+  }
 
 -- ---- steps back
 
@@ -62,3 +74,14 @@ module _ (now : ConfigRows) (change : Change) (changes : List Change) (is : chan
 -- the last of the names comes first
 pub last_first : (plans : List ℕ → Option PlanRecord) (names rest : List (List ℕ)) (name : List ℕ) → names ≡ rest ++ name ∷ [] → changes_of plans (reverse names) ≡ changes_at plans name ++ changes_of plans (reverse rest)
 last_first plans names rest name is = ap (λ ys. changes_of plans (reverse ys)) is ∙ ap (changes_of plans) (reverse-append rest (name ∷ []))
+
+-- ---- answers about ways
+
+-- what an answer tells follows from what another tells
+pub answer_as : {X E : Type 0} {P Q : X → Type 0} (r : Result X E) → ((x : X) → P x → Q x) → IfOk r P → IfOk r Q
+answer_as (Ok x) f h = f x h
+answer_as (Err e) f h = h
+
+-- where no activation is in force, the way is the same
+pub same_way : (now : ConfigRows) (changes others : List Change) → changes ≡ [] → LeadsBack (changes ++ others) now ↔ LeadsBack others now
+same_way now changes others is = (subst (λ ys. LeadsBack (ys ++ others) now) is, subst (λ ys. LeadsBack (ys ++ others) now) (sym is))

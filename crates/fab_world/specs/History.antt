@@ -1,23 +1,20 @@
 -- The configurations before the activations that are in force.
-use Rattle.std.specs.Prelude.{ℕ, ◌≡◌, List, [], ◌∷◌, Option}
+use Rattle.std.specs.Prelude.{ℕ, List, [], ◌∷◌, Option}
 use Rattle.std.specs.List.{flat_map}
 use Rattle.std.specs.Option.{option_and_then, option_to_list}
 use Rattle.fab_reach_base.specs.Records.{ConfigRows}
-use Rattle.fab_reach_base.specs.Soundness.{IsSoundAlone}
-use Rattle.fab_store_rows.specs.Differences.{IsDifference}
+use Rattle.fab_store_drafts.specs.Back as back
 use Rattle.fab_world.specs.PlanRecords.{PlanRecord}
 use Rattle.fab_world.specs.Plans.{Change, undo_of}
 
 -- the configuration from before the change: it is sound of itself, and differs from the one after
 -- it just so
-pub record IsEarlier (after : ConfigRows) (change : Change) (before : ConfigRows) : Type 0 where
-  pub sound : IsSoundAlone before
-  pub differs : IsDifference before after change.taken change.added
+abbrev pub IsEarlier : ConfigRows → Change → ConfigRows → Type 0
+IsEarlier after change before = back.IsEarlier after change.taken change.added before
 
 -- and there is no other
-pub record IsOnlyEarlier (after : ConfigRows) (change : Change) (before : ConfigRows) : Type 0 where
-  pub is : IsEarlier after change before
-  pub only : (other : ConfigRows) → IsEarlier after change other → other ≡ before
+abbrev pub IsOnlyEarlier : ConfigRows → Change → ConfigRows → Type 0
+IsOnlyEarlier after change before = back.IsOnlyEarlier after change.taken change.added before
 
 -- the changes, the last of them first, lead back from the configuration through such that are sound
 -- of themselves

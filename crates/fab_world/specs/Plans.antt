@@ -13,7 +13,7 @@ use Rattle.fab_world.specs.declared.any_plan.AnyPlan.TheVariants.{Staged, Active
 
 -- a plan that stands so
 abbrev pub seen_at : {A : Type 0} → Standing → Plan A → PlanRecord
-seen_at standing p = record { author = p.author; steps = p.steps.items; approvals = map.from_entries p.approvals.entries; standing = standing }
+seen_at standing p = record { author = p.author; steps = p.text; approvals = map.from_entries p.approvals.entries; standing = standing }
 
 -- what a plan shows
 abbrev pub plan_record : {A : Type 0} → AnyPlan A → PlanRecord

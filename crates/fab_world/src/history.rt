@@ -1,20 +1,21 @@
 //! The configurations before the activations that are in force.
-ghost use Rattle.std.specs.Prelude.{◌≡◌, ◌↔◌, ◌++◌, List, [], ◌∷◌, reverse, IsTrue, IfOk, MatchOption};
+ghost use Rattle.std.specs.Prelude.{◌≡◌, ◌↔◌, ◌++◌, List, [], ◌∷◌, reverse, IsTrue, IfOk, MatchOption, true, false};
 ghost use Rattle.std.specs.BTreeMap.{get};
 ghost use Rattle.fab_names.specs.Orders.{name_cmp};
 ghost use Rattle.fab_reach_base.specs.Records.{ConfigRows};
 ghost use Rattle.fab_reach_base.specs.Soundness.{IsSoundAlone};
 ghost use Rattle.fab_store_load.specs.Configs.{AreConfigRows};
-ghost use Rattle.fab_store_rows.specs.Differences.{IsDifference};
-ghost use Rattle.fab_store_rows.specs.declared.config_row.ConfigRow.{ConfigRow};
+ghost use Rattle.fab_store_rows.specs.Telling.{HaveSameRows};
 ghost use Rattle.fab_world.specs.History.{IsEarlier, IsOnlyEarlier, LeadsBack, changes_at, changes_of};
 ghost use Rattle.fab_world.specs.Plans.{Change, change_in};
 
 use crate::KeptPlan;
 use fab_names::Name;
 use fab_reach_base::Config;
+use fab_store_drafts::Draft;
+use fab_store_edits::lead;
 use fab_store_load::{LoadFault, config_of};
-use fab_store_rows::{ConfigRow, RowDifference, config_rows, difference, undone};
+use fab_store_rows::{ConfigRow, RowDifference, config_rows};
 use std::alloc::{AllocError, Allocator};
 use std::collections::BTreeMap;
 
@@ -32,27 +33,16 @@ fn restored<A: Allocator + Copy>(
     }
 }
 
-/// Whether the lists have the same rows in the same places.
-fn are_equal(rows: &[ConfigRow], others: &[ConfigRow]) -> bool
-    ensures { IsTrue result ↔ (rows.now ≡ others.now) }
-{
-    rows.cmp(others).is_eq()
-}
-
-/// Whether the change is the difference of the two configurations.
-fn is_difference<A: Allocator + Copy>(
+/// The sound configuration in which the same rows stand as in this one, if there is one. It is another
+/// where this one has an empty set.
+fn sound_alike<A: Allocator + Copy>(
     alloc: A,
-    before: &Config<A>,
-    after: &Config<A>,
-    change: &RowDifference<A>,
-) -> Result<bool, AllocError>
-    ensures { IfOk result (λ is. IsTrue is ↔ IsDifference before.now after.now change.now.taken.items change.now.added.items) }
+    config: &Config<A>,
+) -> Result<Option<Config<A>>, AllocError>
+    ensures { IfOk result (λ found. MatchOption found ((c : ConfigRows) → HaveSameRows c config.now → ¬ IsSoundAlone c) (λ c. HaveSameRows c config.now × IsSoundAlone c)) }
 {
-    let found = difference(alloc, before, after)?;
-    if !are_equal(found.taken.as_slice(), change.taken.as_slice()) {
-        return Ok(false);
-    }
-    Ok(are_equal(found.added.as_slice(), change.added.as_slice()))
+    let rows = config_rows(alloc, config)?;
+    restored(alloc, rows.as_slice())
 }
 
 /// The configuration from before a change: the sound one from which the change leads to this one,
@@ -67,16 +57,16 @@ pub fn earlier<A: Allocator + Copy>(
 ) -> Result<Option<Config<A>>, AllocError>
     ensures { IfOk result (λ found. MatchOption found ((b : ConfigRows) → ¬ IsEarlier now.now (change_in change.now) b) (IsOnlyEarlier now.now (change_in change.now))) }
 {
-    let rows = config_rows(alloc, now)?;
-    let rows_before = undone(alloc, rows.as_slice(), change)?;
-    let Some(before) = restored(alloc, rows_before.as_slice())? else {
+    let mut edited = now.copy()?;
+    if !lead(
+        alloc,
+        &mut edited,
+        change.added.as_slice(),
+        change.taken.as_slice(),
+    )? {
         return Ok(None);
-    };
-    if is_difference(alloc, &before, now, change)? {
-        Ok(Some(before))
-    } else {
-        Ok(None)
     }
+    sound_alike(alloc, &edited)
 }
 
 /// What undoes the plan of this name, where it is active.
@@ -92,26 +82,79 @@ fn undo_at<'a, A: Allocator + Copy>(
     plan.undo()
 }
 
-/// The configuration from before the activation of the plan of this name; the one that is given,
-/// where no activation of it is in force; none, where none leads to it.
-fn before_plan<A: Allocator + Copy>(
-    alloc: A,
+/// Goes back to the configuration from before the activation of the plan of this name, if there is one,
+/// and stays where no activation of it is in force. Where there is none the draft is some other
+/// configuration.
+///
+/// # Errors
+/// `AllocError` where there is no memory.
+fn undo_plan<A: Allocator + Copy>(
     plans: &BTreeMap<Name, KeptPlan<A>, A>,
     name: &Name,
-    now: Config<A>,
-) -> Result<Option<Config<A>>, AllocError>
-    ensures { IfOk result (λ found. MatchOption found
-        ((others : List Change) → ¬ LeadsBack (changes_at (get name_cmp plans.now) name.now ++ others) now)
-        (λ before. (others : List Change) → LeadsBack (changes_at (get name_cmp plans.now) name.now ++ others) now ↔ LeadsBack others before)) }
+    draft: &mut Draft<A>,
+) -> Result<bool, AllocError>
+    requires { IsSoundAlone draft.old }
+    ensures sound { IfOk result (λ led. led ≡ true → IsSoundAlone draft.new) }
+    ensures way { IfOk result (λ led. led ≡ true → (others : List Change) → LeadsBack (changes_at (get name_cmp plans.now) name.now ++ others) draft.old ↔ LeadsBack others draft.new) }
+    ensures none { IfOk result (λ led. led ≡ false → (others : List Change) → ¬ LeadsBack (changes_at (get name_cmp plans.now) name.now ++ others) draft.old) }
 {
-    let Some(change) = undo_at(plans, name) else {
-        return Ok(Some(now));
-    };
-    earlier(alloc, &now, change)
+    match undo_at(plans, name) {
+        Some(change) => draft.undo(change),
+        None => Ok(true),
+    }
+}
+
+/// Whether the activations of these plans that are in force lead back from a sound configuration
+/// through sound ones, each by just what it changed. The one configuration is led back in place, and
+/// the work of a step goes by its rows.
+///
+/// # Errors
+/// `AllocError` where there is no memory.
+fn leads_back<A: Allocator + Copy>(
+    alloc: A,
+    plans: &BTreeMap<Name, KeptPlan<A>, A>,
+    order: &[Name],
+    now: Config<A>,
+) -> Result<bool, AllocError>
+    requires { IsSoundAlone now }
+    ensures { IfOk result (λ leads. IsTrue leads ↔ LeadsBack (changes_of (get name_cmp plans.now) (reverse order.now)) now) }
+{
+    let mut draft = Draft::of(alloc, now)?;
+    let mut left = order;
+    while let Some(pair) = left.split_last() {
+        let (name, rest) = pair;
+        if !undo_plan(plans, name, &mut draft)? {
+            return Ok(false);
+        }
+        left = rest;
+    }
+    Ok(true)
+}
+
+/// Whether the change, and before it the activations of these plans that are in force, lead back from
+/// the configuration through sound ones. It need not be sound itself, so the one before the change is
+/// built anew and tested whole.
+///
+/// # Errors
+/// `AllocError` where there is no memory.
+fn leads_back_by<A: Allocator + Copy>(
+    alloc: A,
+    plans: &BTreeMap<Name, KeptPlan<A>, A>,
+    order: &[Name],
+    now: &Config<A>,
+    change: &RowDifference<A>,
+) -> Result<bool, AllocError>
+    ensures { IfOk result (λ leads. IsTrue leads ↔ LeadsBack (change_in change.now ∷ changes_of (get name_cmp plans.now) (reverse order.now)) now.now) }
+{
+    match earlier(alloc, now, change)? {
+        Some(before) => leads_back(alloc, plans, order, before),
+        None => Ok(false),
+    }
 }
 
 /// Whether the activations that are in force lead back from the configuration through sound ones,
-/// each by just what it changed. One earlier configuration is in memory at a time.
+/// each by just what it changed. The first of these steps back goes by the configuration, the others
+/// by their rows. One earlier configuration is in memory at a time.
 ///
 /// # Errors
 /// `AllocError` where there is no memory.
@@ -123,13 +166,11 @@ pub fn has_sound_history<A: Allocator + Copy>(
 ) -> Result<bool, AllocError>
     ensures { IfOk result (λ sound. IsTrue sound ↔ LeadsBack (changes_of (get name_cmp plans.now) (reverse order.now)) config.now) }
 {
-    let mut now = config.copy()?;
     let mut left = order;
     while let Some(pair) = left.split_last() {
         let (name, rest) = pair;
-        match before_plan(alloc, plans, name, now)? {
-            Some(before) => now = before,
-            None => return Ok(false),
+        if let Some(change) = undo_at(plans, name) {
+            return leads_back_by(alloc, plans, rest, config, change);
         }
         left = rest;
     }

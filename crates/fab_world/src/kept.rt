@@ -12,7 +12,6 @@ ghost use Rattle.fab_world.specs.declared.limits.TheConstants.{MOST_CHANGES};
 use crate::{KeptPlan, MOST_CHANGES};
 use fab_lemmas::set_of;
 use fab_names::Name;
-use fab_plans_text::is_within_limits;
 use std::alloc::{AllocError, Allocator};
 use std::collections::{BTreeMap, BTreeSet};
 
@@ -28,7 +27,7 @@ fn is_sound_plan<A: Allocator + Copy>(kept: &KeptPlan<A>) -> bool
     ensures { IsTrue result ↔ IsSoundPlan kept.now }
 {
     let plan = kept.plan();
-    if !is_within_limits(plan.steps.as_slice()) {
+    if !plan.text.is_within_limits() {
         return false;
     }
     are_sound_approvals(&plan.approvals)

@@ -18,8 +18,8 @@ pub returns-in-Err-plans_before-clause-err : goal.returns-in-Err-plans_before-cl
 returns-in-Err-plans_before-clause-err g c = λ caller.
     other_last_refused g.row.A.Denot c.args.world.now caller c.args.plan.now (in_state c.args.world.now c.args.plan.now c.in-Ok.kept.now c.in-Ok.ensures.ok.0 state.Active c.in-Ok.ensures.ok.1) c.in-Err-plans_before.fault c.in-Err-plans_before.ensures.err
 
-pub restored-requires : goal.restored-requires
-restored-requires g c = has_earlier c.args.world.now c.args.plan.now c.in-Ok.kept.now c.in-Ok.ensures.ok.0 c.in-Ok.ensures.ok.1 c.requires.sound c.in-Ok-plans_before.rest.now c.in-Ok-plans_before.ensures.ok
+pub restored-requires-clause-earlier : goal.restored-requires-clause-earlier
+restored-requires-clause-earlier g c = has_earlier c.args.world.now c.args.plan.now c.in-Ok.kept.now c.in-Ok.ensures.ok.0 c.in-Ok.ensures.ok.1 c.requires.sound c.in-Ok-plans_before.rest.now c.in-Ok-plans_before.ensures.ok
 
 pub returns-in-Err-restored-clause-err : goal.returns-in-Err-restored-clause-err
 returns-in-Err-restored-clause-err g c = λ caller.

@@ -5,11 +5,11 @@ use Rattle.fab_desk_commands.proofs.Stagings.{same_made, other_plan, no_other_pl
 use Rattle.fab_desk_commands.proofs.WorldParts.{plans_seen}
 use Rattle.fab_desk_commands.proofs.staged.is_staged_already.Goals as goal
 
-pub returns-then-is_same_plan-clause-same : goal.returns-then-is_same_plan-clause-same
-returns-then-is_same_plan-clause-same g c = λ _.
+pub returns-then-same-clause-same : goal.returns-then-same-clause-same
+returns-then-same-clause-same g c = λ _.
     let seen = plans_seen _ c.args.world.now c.world.inside.plans refl c.world.view_is in
     let is = sym (c.in-Some.ensures.value ∙ ap (λ look. look c.args.plan.now) seen) in
-    let same = c.is_same_plan.ensures.0 c.if-is_same_plan.true in
+    let same = c.in-Ok.ensures.0 c.if-same.true in
     same_made c.args.world.now c.args.caller.now c.args.plan.now c.args.steps.now c.in-Some.kept.now is (sym same.0) (same.1 ∙ c.as_slice.ensures.value)
 
 pub returns-in-Some-clause-err : goal.returns-in-Some-clause-err
@@ -17,7 +17,7 @@ returns-in-Some-clause-err g c =
     let seen = plans_seen _ c.args.world.now c.world.inside.plans refl c.world.view_is in
     let is = sym (c.in-Some.ensures.value ∙ ap (λ look. look c.args.plan.now) seen) in
     name_refused c.args.world.now c.args.caller.now c.args.plan.now c.args.steps.now
-    (other_plan c.args.world.now c.args.caller.now c.args.plan.now c.args.steps.now c.in-Some.kept.now is (λ h. true≢false (sym (c.is_same_plan.ensures.1 (sym h.0, h.1 ∙ sym c.as_slice.ensures.value)) ∙ c.if-is_same_plan.false)))
+    (other_plan c.args.world.now c.args.caller.now c.args.plan.now c.args.steps.now c.in-Some.kept.now is (λ h. true≢false (sym (c.in-Ok.ensures.1 (sym h.0, h.1 ∙ sym c.as_slice.ensures.value)) ∙ c.if-same.false)))
 
 pub returns-then-has_no_room-clause-err : goal.returns-then-has_no_room-clause-err
 returns-then-has_no_room-clause-err g c =

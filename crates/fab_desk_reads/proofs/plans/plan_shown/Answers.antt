@@ -12,5 +12,5 @@ returns g c =
     let kept : PlanRecord = c.in-Some.kept.now in
     let is = c.plan-plan.ensures in
     let approvals = subst (λ (m : map.FinMap name_cmp ℕ). AreEntries (map.entries m) c.in_ok-approvals.approvals.items) (ap (λ (p : PlanRows). p.approvals) is) c.in_ok-approvals.ensures in
-    let text = c.in_ok-text.ensures.text ∙ ap plan_text c.as_slice.ensures.value ∙ ap (λ (p : PlanRows). plan_text p.steps) is in
+    let text = c.in_ok-text.ensures.ok ∙ c.as_str.ensures.printed ∙ ap (λ (p : PlanRows). plan_text p.steps) is in
     (ap is_some (sym c.in-Some.ensures), (kept, sym c.in-Some.ensures, refl, ap (λ (p : PlanRows). p.author) is, c.state.ensures, approvals, text))

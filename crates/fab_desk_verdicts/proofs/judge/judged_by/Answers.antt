@@ -10,7 +10,7 @@ returns g c = judged_made c.args.policy.now c.args.world.now c.args.id c.args.ca
     (record {
       there = c.requires.there;
       action_is = c.requires.action;
-      fabrics_are = c.fabrics_of-fabrics.ensures;
+      fabrics_are = c.fabrics_of-fabrics.ensures c.args.world.now c.requires.steps;
       touched_are = subst (λ xs. (t : List ℕ) → Contains xs t ↔ Touches c.args.world.now c.args.caller.now c.args.command.now t) (sym c.as_slice-touched.ensures.value) c.requires.touched;
       approvals_are = subst (AreListed c.args.world.now (plan_named c.args.command.now)) (sym c.as_slice-approvals.ensures.value) c.requires.approvals;
     })

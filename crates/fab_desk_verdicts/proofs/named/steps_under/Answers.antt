@@ -4,4 +4,4 @@ use Rattle.fab_desk_verdicts.proofs.PlansNamed.{steps_found}
 use Rattle.fab_desk_verdicts.proofs.named.steps_under.Goals as goal
 
 pub returns : goal.returns
-returns g c = steps_found c.args.world.now c.args.name.now c.in-Some.kept.now c.as_slice.result.now (sym c.in-Some.ensures) (c.as_slice.ensures.value ∙ ap (λ (p : PlanRows). p.steps) c.plan-plan.ensures)
+returns g c = steps_found c.args.world.now c.args.name.now c.in-Some.kept.now c.in_ok-steps.steps.items (sym c.in-Some.ensures) (c.in_ok-steps.ensures ∙ ap (λ (p : PlanRows). p.steps) c.plan-plan.ensures)

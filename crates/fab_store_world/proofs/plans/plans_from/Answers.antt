@@ -5,7 +5,7 @@ use Rattle.std.specs.BTreeMap.{get, is_at}
 use Rattle.fab_store_rows.specs.PlanEntries.{PlanEntry}
 use Rattle.fab_names.specs.Orders.{name_cmp}
 use Rattle.fab_world.specs.PlanRecords.{PlanRecord}
-use Rattle.fab_store_world.specs.PlanRows.{IsTextOf}
+use Rattle.fab_plans_kept.specs.Texts.{IsTextOf}
 use Rattle.fab_store_world.specs.Parts.{IsMadeOf}
 use Rattle.fab_store_world.proofs.PlansMade.{none_yet, one_more, all_made, repeated, unread, none_there}
 use Rattle.fab_store_world.proofs.plans.plans_from.Goals as goal

@@ -5,7 +5,7 @@ use Rattle.fab_world.specs.History.{LeadsBack, changes_of}
 use Rattle.fab_world.proofs.history.has_sound_history.Given as goal
 
 abbrev pub invariant-loop-pair : goal.invariant-loop-pair
-invariant-loop-pair g l = LeadsBack (changes_of (get name_cmp l.plans) (reverse l.order)) l.config ↔ LeadsBack (changes_of (get name_cmp l.plans) (reverse l.left)) l.now
+invariant-loop-pair g l = LeadsBack (changes_of (get name_cmp l.plans) (reverse l.order)) l.config ↔ LeadsBack (changes_of (get name_cmp l.plans) (reverse l.left)) l.config
 
 abbrev pub decreases-loop-pair : goal.decreases-loop-pair
 decreases-loop-pair g l = length l.left

@@ -9,7 +9,7 @@ use Rattle.fab_world.proofs.kept.is_sound_plan.Goals as goal
 
 pub returns : goal.returns
 returns g c =
-    let steps = c.as_slice.ensures.value ∙ ap (λ (r : PlanRows). r.steps) c.plan-plan.ensures in
+    let steps = ap (λ (r : PlanRows). r.steps) c.plan-plan.ensures in
     let look = same_look_ups name_total c.plan-plan.result.now.approvals c.args.kept.now.approvals (ap (λ (r : PlanRows). r.approvals) c.plan-plan.ensures) in (
       λ t. record {
         steps = subst IsWithinLimits steps (c.is_within_limits.ensures.0 c.if-not-is_within_limits.false);

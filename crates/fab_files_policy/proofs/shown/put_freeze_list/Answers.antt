@@ -1,0 +1,7 @@
+use Rattle.fab_wire_streams.proofs.Turns.{in_turn}
+use Rattle.fab_files_policy.proofs.shown.put_freeze_list.Goals as goal
+
+pub returns : goal.returns
+returns g c =
+    let s = g.met.S.Sink.laws in
+    in_turn s c.put_said-2.result c.args.sink.now c.put_said.new.sink c.put_said-2.new.sink _ _ c.in-Ok.ensures (in_turn s c.put_said-2.result c.put_said.new.sink c.put_freezes.new.sink c.put_said-2.new.sink _ _ c.in-Ok-put_freezes.ensures c.put_said-2.ensures)

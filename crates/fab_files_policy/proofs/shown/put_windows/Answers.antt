@@ -1,0 +1,24 @@
+use Rattle.std.proofs.Common.{ℕ, List, subst}
+use Rattle.std.specs.List.{flat_map}
+use Rattle.fab_wire_streams.proofs.SentLemmas.{flat-cut}
+use Rattle.fab_wire_streams.proofs.Turns.{Gone, gone-cut, gone-more}
+use Rattle.fab_files_policy.specs.Shown.{window_lines}
+use Rattle.fab_files_policy.proofs.shown.put_windows.Goals as goal
+
+pub returns-in_default : goal.returns-in_default
+returns-in_default g c =
+    let s = g.met.S.Sink.laws in
+    let line = window_lines in
+    let xs = c.args.windows.now in
+    let cut = flat-cut line xs c.loop-window.window-index c.window-item.result c.loop-window-test.true in
+    let here : Gone g.S.Sink.took c.args.sink.now c.loop-window.sink (flat_map line xs) _ = subst (λ (t : List ℕ). Gone g.S.Sink.took c.args.sink.now c.loop-window.sink (flat_map line xs) t) cut c.loop-window.invariant in
+    gone-cut s _ _ _ _ _ _ here (rw c.window-item.is at c.in_default.ensures)
+
+pub loop-window-preserved : goal.loop-window-preserved
+loop-window-preserved g c =
+    let s = g.met.S.Sink.laws in
+    let line = window_lines in
+    let xs = c.args.windows.now in
+    let cut = flat-cut line xs c.loop-window.window-index c.window-item.result c.loop-window-test.true in
+    let here : Gone g.S.Sink.took c.args.sink.now c.loop-window.sink (flat_map line xs) _ = subst (λ (t : List ℕ). Gone g.S.Sink.took c.args.sink.now c.loop-window.sink (flat_map line xs) t) cut c.loop-window.invariant in
+    gone-more s _ _ _ _ _ _ here (rw c.window-item.is at c.in-Ok.ensures)

@@ -1,0 +1,8 @@
+//! The steps of a plan, kept as their printed form: a plan that is kept takes the memory of its text,
+//! and its steps are read where they are needed.
+#![tactic(auto)]
+
+mod printed;
+mod text;
+
+pub use text::PlanText;

@@ -1,0 +1,12 @@
+mod OneUse
+mod ManyUses
+mod IfThere
+mod Sizes
+mod ZoningThere
+mod MappingThere
+mod ClashThere
+pub mod Law
+mod Beside
+mod Gathering
+mod Counted
+mod Using

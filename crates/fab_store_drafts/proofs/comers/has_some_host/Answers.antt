@@ -1,0 +1,10 @@
+use Rattle.std.proofs.Common.{sym, ◌∙◌}
+use Rattle.std.specs.FinSet as set
+use Rattle.fab_names.proofs.OrderLaws.{name_total}
+use Rattle.fab_store_drafts.proofs.Counted.{is_some, set_counted}
+use Rattle.fab_store_drafts.proofs.comers.has_some_host.Goals as goal
+
+pub returns-in-Some : goal.returns-in-Some
+returns-in-Some g c =
+    let s = c.in-Some.group.now.hosts in
+    rw c.in-Some.is (is_some c.len.result (set.len s) (c.len.ensures.value ∙ sym (set_counted name_total c.hosts.result s c.hosts.ensures.hosts c.hosts.ensures.ordered)))

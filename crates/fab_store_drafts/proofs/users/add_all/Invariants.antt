@@ -1,0 +1,10 @@
+use Rattle.std.proofs.Common.{◌≡◌, ℕ, List, ◌++◌}
+use Rattle.std.specs.BTreeSet.{contains}
+use Rattle.fab_lemmas.specs.Adding.{Adds}
+use Rattle.fab_lemmas.proofs.Adding.{Before}
+use Rattle.fab_names.specs.Orders.{name_cmp}
+use Rattle.fab_store_drafts.proofs.users.add_all.Given as goal
+
+abbrev pub invariant-loop-name : goal.invariant-loop-name
+invariant-loop-name g l =
+    (before : List (List ℕ)) × (l.more.keys ≡ before ++ l.name-iterator) × Adds (Before (λ (k x : List ℕ). x ≡ k) before) (contains name_cmp l.fn.names) (contains name_cmp l.names)

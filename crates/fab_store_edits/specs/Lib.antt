@@ -1,0 +1,4 @@
+pub mod Rows
+pub mod Tidy
+pub mod Led
+pub mod Inner

@@ -1,0 +1,2 @@
+-- What single rows are proved by. No public contract names it.
+pub mod Losses
