@@ -15,7 +15,7 @@ use Rattle.fab_inventory.specs.declared.port.Known.{Known}
 use Rattle.fab_inventory.specs.declared.port.Port.{Port}
 use Rattle.fab_inventory.specs.Holders.{Holds}
 use Rattle.fab_zoning.specs.Joins.{Joined, IsFirstZone, InDefaultZone}
-use Rattle.fab_zoning.specs.Rows.{Rows}
+use Rattle.fab_zoning_rows.specs.Rows.{Rows}
 use Rattle.fab_mapping_base.specs.Groups.{HostGroupRows, StorageGroupRows}
 use Rattle.fab_reach_base.specs.Orders as paths
 use Rattle.fab_reach_base.specs.Reach.{IsPort, ReachesFrom}

@@ -15,7 +15,7 @@ use Rattle.fab_lemmas.proofs.Walks.{all_push}
 use Rattle.fab_names.specs.Orders.{name_cmp, member_cmp}
 use Rattle.fab_names.specs.declared.member.Member.{Member}
 use Rattle.fab_names.proofs.OrderLaws.{name_total, name_exact}
-use Rattle.fab_zoning.specs.Rows.{Row, Rows, row_cmp, IsRowOf}
+use Rattle.fab_zoning_rows.specs.Rows.{Row, Rows, row_cmp, IsRowOf}
 use Rattle.fab_desk_base.specs.Showing.{AreActiveZones, IsActiveZone}
 use Rattle.fab_desk_base.specs.declared.reply.ZoneMembers.{ZoneMembers}
 use Rattle.fab_desk_reads.specs.Grouping.{rows_of_zone, rows_in, names_of, HasSome, EndsIn, IsOpened, IsAdded, IsGrouped}

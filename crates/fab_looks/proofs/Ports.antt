@@ -18,9 +18,9 @@ use Rattle.fab_reach_base.specs.Reach.{IsPort}
 use Rattle.fab_reach_base.specs.Records.{zoning_at}
 use Rattle.fab_reach_base.proofs.Adding.{Before, adds_as, from_none}
 use Rattle.fab_world.specs.Worlds.{WorldRows, records_of}
-use Rattle.fab_zoning.specs.Joins.{Holds, IsLoggedInAt}
-use Rattle.fab_zoning.specs.PortZones.{in_zones}
-use Rattle.fab_zoning.specs.declared.port_zones.PortZones.{PortZones}
+use Rattle.fab_zoning_rows.specs.Holding.{Holds, IsLoggedInAt}
+use Rattle.fab_zoning_rows.specs.PortZones.{in_zones}
+use Rattle.fab_zoning_rows.specs.declared.port_zones.PortZones.{PortZones}
 use Rattle.fab_desk_base.specs.Showing.{IsOpenTo}
 use Rattle.fab_desk_base.specs.declared.command.Query.{Query}
 use Rattle.fab_desk_base.specs.declared.command.Query.TheVariants as query

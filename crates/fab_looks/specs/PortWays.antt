@@ -11,7 +11,7 @@ use Rattle.fab_policy_base.specs.Policies.{PolicyRows}
 use Rattle.fab_reach_base.specs.Reach.{IsPort}
 use Rattle.fab_reach_base.specs.Records.{zoning_at}
 use Rattle.fab_world.specs.Worlds.{WorldRows, records_of}
-use Rattle.fab_zoning.specs.Joins.{Holds, IsLoggedInAt}
+use Rattle.fab_zoning_rows.specs.Holding.{Holds, IsLoggedInAt}
 use Rattle.fab_desk_base.specs.Showing.{Shows}
 use Rattle.fab_desk_base.specs.declared.command.Query.{Query}
 use Rattle.fab_desk_base.specs.declared.command.Query.TheVariants as query

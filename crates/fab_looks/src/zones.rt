@@ -9,7 +9,7 @@ use fab_desk_base::Query;
 use fab_names::{Fabric, Name, Wwn};
 use fab_policy::{CallerId, Policy};
 use fab_world::World;
-use fab_zoning::PortZones;
+use fab_zoning_rows::PortZones;
 use std::alloc::{AllocError, Allocator};
 use std::collections::BTreeSet;
 

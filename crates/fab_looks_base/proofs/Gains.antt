@@ -15,7 +15,7 @@ use Rattle.fab_inventory.specs.declared.port.Port.{Port}
 use Rattle.fab_inventory.specs.Ports.{port_at}
 use Rattle.fab_lemmas.proofs.SeenSets.{listed_decides}
 use Rattle.fab_lemmas.proofs.SeenEntries.{entry_decides}
-use Rattle.fab_zoning.specs.Joins.{IsLoggedInAt}
+use Rattle.fab_zoning_rows.specs.Holding.{IsLoggedInAt}
 use Rattle.fab_mapping_base.specs.Groups.{StorageGroupRows, MapsVolume}
 use Rattle.fab_mapping.specs.Mappings.{MappingRows}
 use Rattle.fab_reach_base.specs.Adding.{Adds}

@@ -14,7 +14,8 @@ use Rattle.fab_inventory.specs.Ports.{port_of}
 use Rattle.fab_inventory.specs.Holders.{holder_in}
 use Rattle.fab_inventory.specs.Holders as held
 use Rattle.fab_inventory.specs.Inventories.{IsHost}
-use Rattle.fab_zoning.specs.Joins.{IsLoggedInAt, Joined}
+use Rattle.fab_zoning_rows.specs.Holding.{IsLoggedInAt}
+use Rattle.fab_zoning.specs.Joins.{Joined}
 use Rattle.fab_mapping_base.specs.Groups.{StorageGroupRows}
 use Rattle.fab_mapping.specs.Mappings.{MappingRows}
 use Rattle.fab_mapping.specs.Soundness.{Fits}

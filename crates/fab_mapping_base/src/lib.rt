@@ -25,7 +25,7 @@ pub use limits::{
     LAST_UNIT, MOST_GROUPS_SERVED, MOST_HOST_GROUPS, MOST_HOSTS, MOST_STORAGE_GROUPS, MOST_TARGETS,
     MOST_UNITS, is_unit,
 };
-pub use look_ups::{first_no_host, is_array, is_held_by};
+pub use look_ups::{first_no_host, is_array, is_held_by, is_host, is_port_of, is_volume_on};
 pub use nexus::Nexus;
 pub use sound::{group_fits, host_group_fits, is_sound_group};
 pub use storage_group::StorageGroup;

@@ -12,10 +12,10 @@ use Rattle.fab_lemmas.specs.Firsts.{IsFirstWithout}
 use Rattle.fab_lemmas.specs.MapsOfSets.{MapOfSets, IsFirstUser}
 use Rattle.fab_inventory.specs.Inventories.{InventoryRows, IsHost}
 use Rattle.fab_zoning.specs.Resolved.{AreResolved}
-use Rattle.fab_zoning.specs.Rows.{Rows}
+use Rattle.fab_zoning_rows.specs.Rows.{Rows}
 use Rattle.fab_zoning.specs.Steps.{HasAlias, HasZone}
 use Rattle.fab_zoning.specs.Zonings.{FabricZoning}
-use Rattle.fab_zoning.proofs.RowSets.{row_total, row_exact}
+use Rattle.fab_zoning_rows.proofs.RowSets.{row_total, row_exact}
 use Rattle.fab_mapping_base.specs.Groups.{StorageGroupRows, with_hosts, without_hosts, with_target, without_target, with_unit, without_unit, exposed_as}
 use Rattle.fab_mapping.specs.Mappings.{MappingRows, ChangesGroup, IsLeastServing}
 use Rattle.fab_reach_base.specs.Records.{ConfigRows, zoning_at}

@@ -5,7 +5,7 @@ use Rattle.std.proofs.lemmas.List.Elements.{All-nil, All-cons}
 use Rattle.fab_names.specs.declared.fabric.Fabric.{Fabric}
 use Rattle.fab_names.specs.declared.member.Member.{Member}
 use Rattle.fab_names.specs.declared.member.Member.TheVariants as member
-use Rattle.fab_zoning.specs.Rows.{IsPlain}
+use Rattle.fab_zoning_rows.specs.Rows.{IsPlain}
 use Rattle.fab_zoning.specs.Steps.{IsListing}
 use Rattle.fab_plans_base.specs.Texts.{words_of}
 use Rattle.fab_plans_base.specs.Steps.{PlanStep, alias_put, zone_put, set_put, host_group_put, group_map}

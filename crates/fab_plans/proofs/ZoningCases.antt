@@ -12,12 +12,13 @@ use Rattle.fab_lemmas.specs.MapsOfSets.{in_set}
 use Rattle.fab_zoning.specs.declared.fault.ZoningFault.{ZoningFault}
 use Rattle.fab_zoning.specs.declared.fault.ZoningFault.TheVariants as fault
 use Rattle.fab_zoning.specs.declared.fault.ZoningLimit.TheVariants as limit
-use Rattle.fab_zoning.specs.Limits.{most_zones, most_sets, most_rows}
-use Rattle.fab_zoning.specs.Rows.{Rows}
+use Rattle.fab_zoning_rows.specs.Limits.{most_rows}
+use Rattle.fab_zoning.specs.Limits.{most_zones, most_sets}
+use Rattle.fab_zoning_rows.specs.Rows.{Rows}
 use Rattle.fab_zoning.specs.Zonings.{FabricZoning}
 use Rattle.fab_zoning.specs.Resolved.{IsResolved, AreResolved, MoreThan}
 use Rattle.fab_zoning.specs.Steps as base
-use Rattle.fab_zoning.proofs.RowSets.{row_total, row_exact}
+use Rattle.fab_zoning_rows.proofs.RowSets.{row_total, row_exact}
 use Rattle.fab_plans_base.specs.Steps.{alias_put, alias_drop, zone_put, zone_drop, set_put, activate}
 use Rattle.fab_plans.specs.Checks.{PassesAll, IsFirstRefusal}
 use Rattle.fab_plans.specs.ZoningSteps.{ZoningFails}

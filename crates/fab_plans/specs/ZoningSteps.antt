@@ -6,7 +6,8 @@ use Rattle.fab_names.specs.declared.member.Member.TheVariants as member
 use Rattle.fab_lemmas.specs.Firsts.{IsFirstWithout}
 use Rattle.fab_lemmas.specs.MapsOfSets.{IsFirstUser}
 use Rattle.fab_lemmas.specs.Room.{IsFull}
-use Rattle.fab_zoning.specs.Limits.{most_aliases, most_zones, most_sets, most_rows}
+use Rattle.fab_zoning_rows.specs.Limits.{most_rows}
+use Rattle.fab_zoning.specs.Limits.{most_aliases, most_zones, most_sets}
 use Rattle.fab_zoning.specs.Resolved.{IsResolved, AreResolved, MoreThan}
 use Rattle.fab_zoning.specs.Steps.{HasAlias, HasZone}
 use Rattle.fab_zoning.specs.Zonings.{FabricZoning}

@@ -14,7 +14,7 @@ use Rattle.fab_names.proofs.OrderLaws.{name_total, name_exact}
 use Rattle.fab_inventory.specs.declared.port.Port.{Port}
 use Rattle.fab_lemmas.specs.MapsOfSets.{in_tree, tree_has}
 use Rattle.fab_mapping_base.specs.Groups.{StorageGroupRows}
-use Rattle.fab_zoning.specs.Joins.{IsLoggedInAt, Holds}
+use Rattle.fab_zoning_rows.specs.Holding.{IsLoggedInAt, Holds}
 use Rattle.fab_reach_base.specs.Adding.{Adds}
 use Rattle.fab_reach_base.specs.Gathering.{Serves, HasTarget, IsTargeted}
 use Rattle.fab_reach_base.specs.Reach.{IsPort}

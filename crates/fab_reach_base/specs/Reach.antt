@@ -6,7 +6,8 @@ use Rattle.fab_names.specs.declared.fabric.Fabric.{Fabric}
 use Rattle.fab_inventory.specs.declared.port.Port.{Port}
 use Rattle.fab_inventory.specs.Ports.{port_at}
 use Rattle.fab_inventory.specs.Inventories.{IsHost, IsArray}
-use Rattle.fab_zoning.specs.Joins.{IsLoggedInAt, Joined}
+use Rattle.fab_zoning_rows.specs.Holding.{IsLoggedInAt}
+use Rattle.fab_zoning.specs.Joins.{Joined}
 use Rattle.fab_mapping_base.specs.declared.nexus.Nexus.{Nexus}
 use Rattle.fab_mapping_base.specs.Groups.{StorageGroupRows}
 use Rattle.fab_mapping.specs.Mappings.{IsMapped}

@@ -9,7 +9,8 @@ use Rattle.fab_inventory.specs.declared.port.Port.{Port}
 use Rattle.fab_inventory.specs.Ports.{KnownPorts, port_at, port_of}
 use Rattle.fab_inventory.specs.Holders.{holder_in}
 use Rattle.fab_inventory.specs.Inventories.{IsHost}
-use Rattle.fab_zoning.specs.Joins.{IsLoggedInAt, InZone, InDefaultZone, Joined}
+use Rattle.fab_zoning_rows.specs.Holding.{IsLoggedInAt}
+use Rattle.fab_zoning.specs.Joins.{InZone, InDefaultZone, Joined}
 use Rattle.fab_mapping_base.specs.Groups.{StorageGroupRows}
 use Rattle.fab_reach_base.specs.Records.{Records, zoning_at}
 use Rattle.fab_reach_base.specs.Reach.{IsPort, PathOf}

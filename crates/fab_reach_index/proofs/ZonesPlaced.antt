@@ -16,7 +16,7 @@ use Rattle.fab_inventory.specs.Ports.{port_at, port_of}
 use Rattle.fab_lemmas.specs.MapsOfSets.{in_tree, tree_has}
 use Rattle.fab_lemmas.proofs.SeenEntries.{entry_decides}
 use Rattle.fab_lemmas.proofs.Tests.{or_true, or_left, or_right}
-use Rattle.fab_zoning.specs.Joins.{IsLoggedInAt, Holds}
+use Rattle.fab_zoning_rows.specs.Holding.{IsLoggedInAt, Holds}
 use Rattle.fab_reach_base.specs.Adding.{Adds}
 use Rattle.fab_reach_base.specs.Reach.{IsPort}
 use Rattle.fab_reach_base.specs.Records.{Records, zoning_at}

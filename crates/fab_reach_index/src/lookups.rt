@@ -1,6 +1,6 @@
 //! Looks at a port, and at the ports of a holder.
 ghost use Rattle.std.specs.Prelude.{◌≡◌, ◌↔◌, IsTrue, OnOk};
-ghost use Rattle.fab_zoning.specs.Joins.{IsLoggedInAt};
+ghost use Rattle.fab_zoning_rows.specs.Holding.{IsLoggedInAt};
 ghost use Rattle.fab_reach_base.specs.Adding.{Adds};
 ghost use Rattle.fab_reach_books.specs.Inner.Sets.{HasPortIn};
 ghost use Rattle.fab_reach_index.specs.Inner.Holding.{HoldsIn};

@@ -8,7 +8,7 @@ ghost use Rattle.fab_names.specs.Orders.{name_cmp};
 ghost use Rattle.fab_reach_base.specs.Adding.{Adds};
 ghost use Rattle.fab_reach_base.specs.Serving.{IsServing};
 ghost use Rattle.fab_reach_base.specs.Views.{seen};
-ghost use Rattle.fab_zoning.specs.PortZones.{in_zones};
+ghost use Rattle.fab_zoning_rows.specs.PortZones.{in_zones};
 ghost use Rattle.fab_reach_books.specs.Affected.{IsInZone};
 ghost use Rattle.fab_reach_index.specs.Indexes.{IsTreeOf, zone_cmp, PortInZone};
 ghost use Rattle.fab_reach_index.specs.Inner.Placing.{IsIn, ByZone, ByZones};
@@ -18,7 +18,7 @@ use crate::lookups::is_at;
 use fab_inventory::Port;
 use fab_names::{Fabric, Name, Wwn};
 use fab_reach_base::View;
-use fab_zoning::PortZones;
+use fab_zoning_rows::PortZones;
 use std::alloc::{AllocError, Allocator};
 use std::collections::{BTreeMap, BTreeSet};
 

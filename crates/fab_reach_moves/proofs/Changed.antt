@@ -21,8 +21,8 @@ use Rattle.fab_inventory.specs.declared.port.Port.{Port}
 use Rattle.fab_inventory.specs.Ports.{port_at, port_of}
 use Rattle.fab_lemmas.proofs.SeenEntries.{entry_decides}
 use Rattle.fab_lemmas.proofs.Tests.{or_true, or_left, or_right}
-use Rattle.fab_zoning.specs.Joins.{Matches, IsLoggedInAt, Holds}
-use Rattle.fab_zoning.specs.Rows.{Rows}
+use Rattle.fab_zoning_rows.specs.Holding.{Matches, IsLoggedInAt, Holds}
+use Rattle.fab_zoning_rows.specs.Rows.{Rows}
 use Rattle.fab_reach_base.specs.Adding.{Adds}
 use Rattle.fab_reach_base.specs.Reach.{IsPort}
 use Rattle.fab_reach_base.specs.Records.{Records, zoning_at}

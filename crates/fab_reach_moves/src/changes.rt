@@ -3,7 +3,7 @@
 ghost use Rattle.std.specs.Prelude.{◌≡◌, ◌↔◌, ℕ, List, Contains, true, IsTrue, OnOk, IfOk};
 ghost use Rattle.std.specs.FinSet as set;
 ghost use Rattle.fab_inventory.specs.declared.port.Port.{Port};
-ghost use Rattle.fab_zoning.specs.Joins.{Matches, Holds};
+ghost use Rattle.fab_zoning_rows.specs.Holding.{Matches, Holds};
 ghost use Rattle.fab_reach_base.specs.Adding.{Adds};
 ghost use Rattle.fab_reach_base.specs.Reach.{IsPort};
 ghost use Rattle.fab_reach_base.specs.Records.{Records, zoning_at};

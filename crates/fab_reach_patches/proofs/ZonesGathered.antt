@@ -26,7 +26,7 @@ use Rattle.fab_reach_index.specs.Inner.Placing.{IsIn, ByZone, ByZones}
 use Rattle.fab_reach_index.specs.Inner.Regathering.{HasIn}
 use Rattle.fab_reach_index.proofs.ZonesPlaced.{Placed, zones_three}
 use Rattle.fab_reach_moves.proofs.Changed.{zoned_by_three}
-use Rattle.fab_zoning.specs.Joins.{IsLoggedInAt, Holds}
+use Rattle.fab_zoning_rows.specs.Holding.{IsLoggedInAt, Holds}
 
 module _ (zones : BTreeMap ℕ (BTreeSet Zone)) where
   -- a port, with its zones

@@ -8,8 +8,9 @@ use Rattle.fab_lemmas.specs.Firsts.{HasAt}
 use Rattle.fab_lemmas.specs.MapsOfSets.{HasNoUser}
 use Rattle.fab_names.specs.declared.fabric.Fabric.{Fabric}
 use Rattle.fab_names.specs.declared.member.Member.TheVariants as member
-use Rattle.fab_zoning.specs.Limits.{most_aliases, most_zones, most_sets, most_members, most_rows}
-use Rattle.fab_zoning.specs.Rows.{IsPlain}
+use Rattle.fab_zoning_rows.specs.Limits.{most_rows}
+use Rattle.fab_zoning.specs.Limits.{most_aliases, most_zones, most_sets, most_members}
+use Rattle.fab_zoning_rows.specs.Rows.{IsPlain}
 use Rattle.fab_zoning.specs.Steps.{HasAlias, HasZone}
 use Rattle.fab_zoning.specs.Zonings.{FabricZoning}
 use Rattle.fab_mapping_base.specs.declared.limits.TheConstants.{MOST_HOSTS, MOST_GROUPS_SERVED, MOST_TARGETS, MOST_UNITS, LAST_UNIT, MOST_HOST_GROUPS, MOST_STORAGE_GROUPS}

@@ -3,7 +3,7 @@ ghost use Rattle.std.specs.Prelude.{◌≡◌, ◌↔◌, Contains, IfSome, IsTr
 ghost use Rattle.std.specs.Option.{option_copied, option_map};
 ghost use Rattle.std.specs.FinMap as map;
 ghost use Rattle.fab_lemmas.specs.MapsOfSets.{seen_set};
-ghost use Rattle.fab_zoning.specs.Rows.{IsPlain};
+ghost use Rattle.fab_zoning_rows.specs.Rows.{IsPlain};
 ghost use Rattle.fab_zoning.specs.Steps.{HasAlias, HasZone};
 ghost use Rattle.fab_store_rows.specs.declared.config_row.ConfigRow.{ConfigRow as Row};
 ghost use Rattle.fab_store_rows.specs.declared.config_row.ZoningItem.TheVariants as item;

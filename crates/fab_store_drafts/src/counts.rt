@@ -8,7 +8,8 @@ ghost use Rattle.fab_store_drafts.specs.Inner.Counting.{HasFewSets, IsActiveCoun
 use fab_mapping::{MOST_HOST_GROUPS, MOST_STORAGE_GROUPS, Mapping};
 use fab_names::Fabric;
 use fab_reach_base::Config;
-use fab_zoning::{MOST_ALIASES, MOST_ROWS, MOST_SETS, MOST_ZONES, Zoning};
+use fab_zoning::{MOST_ALIASES, MOST_SETS, MOST_ZONES, Zoning};
+use fab_zoning_rows::MOST_ROWS;
 use std::alloc::Allocator;
 
 /// Whether there are not too many aliases, zones and zone sets.

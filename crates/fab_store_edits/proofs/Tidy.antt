@@ -11,7 +11,7 @@ use Rattle.fab_names.specs.declared.fabric.Fabric.TheVariants.{A, B}
 use Rattle.fab_names.proofs.OrderLaws.{name_total, name_exact, member_total, member_exact}
 use Rattle.fab_lemmas.specs.MapsOfSets.{has, in_set}
 use Rattle.fab_zoning.specs.Zonings.{NamedSets, permits, flag_of, flag_of-permits}
-use Rattle.fab_zoning.proofs.RowSets.{row_total as active_total, row_exact as active_exact}
+use Rattle.fab_zoning_rows.proofs.RowSets.{row_total as active_total, row_exact as active_exact}
 use Rattle.fab_mapping_base.specs.Groups.{HostGroupRows, StorageGroupRows}
 use Rattle.fab_reach_base.specs.Records.{ConfigRows, zoning_at}
 use Rattle.fab_store_rows.specs.declared.config_row.SettingRow.TheVariants.{ActiveSet, DefaultZone}

@@ -8,9 +8,9 @@ use Rattle.fab_names.specs.declared.fabric.Fabric.{Fabric}
 use Rattle.fab_names.specs.declared.fabric.Fabric.TheVariants.{A, B}
 use Rattle.fab_names.specs.declared.member.Member.{Member}
 use Rattle.fab_lemmas.proofs.Adding.{adds_one}
-use Rattle.fab_zoning.specs.Rows.{Row, Rows, row_cmp}
+use Rattle.fab_zoning_rows.specs.Rows.{Row, Rows, row_cmp}
 use Rattle.fab_zoning.specs.Zonings.{FabricZoning, permits}
-use Rattle.fab_zoning.proofs.RowSets.{row_total, row_exact}
+use Rattle.fab_zoning_rows.proofs.RowSets.{row_total, row_exact}
 use Rattle.fab_reach_base.specs.Records.{ConfigRows, zoning_at}
 use Rattle.fab_store_rows.specs.declared.config_row.SettingRow.TheVariants.{ActiveSet, DefaultZone}
 use Rattle.fab_store_rows.specs.declared.config_row.ZoningItem.{ZoningItem}

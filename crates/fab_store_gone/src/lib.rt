@@ -3,7 +3,6 @@
 #![tactic(auto)]
 
 mod at_rows;
-mod look_ups;
 mod lost;
 
 pub use at_rows::gone_there;

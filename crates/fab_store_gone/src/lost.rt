@@ -5,10 +5,9 @@ ghost use Rattle.fab_store_rows.specs.declared.config_row.StoragePart.TheVariant
 ghost use Rattle.fab_store_gone.specs.Inner.Losses as losses;
 ghost use Rattle.fab_store_gone.specs.Inner.Losses.{lost_cmp, LacksName, PartLacks, GroupLacks};
 
-use crate::look_ups::{is_host, is_port_of, is_volume_on};
 use fab_inventory::Inventory;
 use fab_mapping::{Gone, StorageGroup};
-use fab_mapping_base::{gone_array, gone_target, gone_volume};
+use fab_mapping_base::{gone_array, gone_target, gone_volume, is_host, is_port_of, is_volume_on};
 use fab_names::{Name, Wwn};
 use fab_store_rows::StoragePart;
 use std::alloc::Allocator;

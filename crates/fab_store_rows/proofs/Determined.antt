@@ -22,7 +22,7 @@ use Rattle.fab_lemmas.specs.Lists.{IsListOf}
 use Rattle.fab_lemmas.proofs.SeenSets.{tie_decides}
 use Rattle.fab_zoning.specs.Soundness.{AreListings, IsSound}
 use Rattle.fab_zoning.specs.Zonings.{NamedSets, permits, flag_of, flag_of-permits}
-use Rattle.fab_zoning.proofs.RowSets.{row_total as active_total, row_exact as active_exact}
+use Rattle.fab_zoning_rows.proofs.RowSets.{row_total as active_total, row_exact as active_exact}
 use Rattle.fab_zoning.proofs.Keeping.{set_at}
 use Rattle.fab_mapping_base.specs.Groups.{HostGroupRows, StorageGroupRows}
 use Rattle.fab_reach_base.specs.Records.{ConfigRows, zoning_at}

@@ -19,9 +19,9 @@ use Rattle.fab_names.specs.declared.member.Member.{Member}
 use Rattle.fab_lemmas.specs.MapsOfSets.{MapOfSets, seen_set, seen_sets, has, in_set}
 use Rattle.fab_lemmas.proofs.SeenMaps.{get_entries}
 use Rattle.fab_lemmas.proofs.SeenSets.{listed_decides}
-use Rattle.fab_zoning.specs.Rows.{Row, Rows}
-use Rattle.fab_zoning.specs.Views.{listed_rows, seen_rows}
-use Rattle.fab_zoning.proofs.RowSets.{row_total, row_exact}
+use Rattle.fab_zoning_rows.specs.Rows.{Row, Rows}
+use Rattle.fab_zoning_rows.specs.Views.{listed_rows, seen_rows}
+use Rattle.fab_zoning_rows.proofs.RowSets.{row_total, row_exact}
 
 module _ {Q K : Type 0} {O : Q → Q → Ordering} (o : IsTotalOrder O) (exact : set.IsAntisymmetric O) where
   -- an entry is what is found at its key

@@ -14,7 +14,7 @@ use Rattle.fab_names.proofs.OrderLaws.{name_total, name_exact}
 use Rattle.fab_lemmas.specs.MapsOfSets.{MapOfSets, seen_sets, has}
 use Rattle.fab_lemmas.proofs.SeenEntries.{entry_decides}
 use Rattle.fab_lemmas.proofs.SeenSets.{listed_decides}
-use Rattle.fab_zoning.specs.Views.{seen_rows}
+use Rattle.fab_zoning_rows.specs.Views.{seen_rows}
 use Rattle.fab_zoning.specs.Zonings.{FabricZoning}
 use Rattle.fab_mapping_base.specs.Groups.{HostGroupRows, StorageGroupRows}
 use Rattle.fab_mapping.specs.Mappings.{MappingRows}

@@ -13,12 +13,12 @@ use Rattle.fab_names.specs.Orders.{name_cmp, member_cmp}
 use Rattle.fab_lemmas.specs.Adding.{Adds, AddsOnly, Among}
 use Rattle.fab_lemmas.specs.MapsOfSets.{tree_has, in_tree}
 use Rattle.fab_lemmas.proofs.Adding as generic
-use Rattle.fab_zoning.specs.Rows.{Row, Rows, row_cmp, IsPlain}
+use Rattle.fab_zoning_rows.specs.Rows.{Row, Rows, row_cmp, IsPlain}
 use Rattle.fab_zoning.specs.declared.fault.ZoningFault.{ZoningFault}
 use Rattle.fab_zoning.specs.declared.fault.ZoningFault.TheVariants.{Unknown, InUse, Empty, Limit, Memory}
 use Rattle.fab_zoning.specs.declared.fault.ZoningLimit.TheVariants.{Aliases, Zones, Sets, Members, Active}
 use Rattle.fab_zoning.specs.Inner.Adding.{IsRowsFault, IsResolvedFault, PlainRow, AliasRow, ZoneRow}
-use Rattle.fab_zoning.proofs.RowSets.{row_total, row_exact}
+use Rattle.fab_zoning_rows.proofs.RowSets.{row_total, row_exact}
 
 -- t has the rows of s and all with P, and no others
 abbrev pub AddsRows : (Row → Type 0) → Rows → Rows → Type 0

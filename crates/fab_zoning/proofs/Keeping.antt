@@ -17,14 +17,15 @@ use Rattle.fab_lemmas.specs.MapsOfSets.{has, in_set, seen_sets}
 use Rattle.fab_lemmas.proofs.SeenSets.{listed_decides}
 use Rattle.fab_lemmas.proofs.Sizes.{map_put, map_gone, holds_some, some_listed, at_most_listed, some_member}
 use Rattle.fab_lemmas.proofs.Changed.{entry_put, entry_gone, still_there, there_without, has_put, has_gone}
-use Rattle.fab_zoning.specs.Limits.{most_members, most_rows}
-use Rattle.fab_zoning.specs.Rows.{Row, Rows, row_cmp, IsPlain}
+use Rattle.fab_zoning_rows.specs.Limits.{most_rows}
+use Rattle.fab_zoning.specs.Limits.{most_members}
+use Rattle.fab_zoning_rows.specs.Rows.{Row, Rows, row_cmp, IsPlain}
 use Rattle.fab_zoning.specs.declared.flag.DefaultFlag.TheVariants.{Deny}
 use Rattle.fab_zoning.specs.Zonings.{FabricZoning, NamedSets, new_zoning}
 use Rattle.fab_zoning.specs.Steps.{IsListing, HasAlias, HasZone, CanPutAlias, CanPutZone, CanPutSet, CanDropAlias, CanDropZone}
 use Rattle.fab_zoning.specs.Resolved.{IsResolved, AreResolved}
 use Rattle.fab_zoning.specs.Soundness.{AreListings, AreSoundDefinitions, IsSoundActive, IsSound}
-use Rattle.fab_zoning.proofs.RowSets.{row_total, row_exact}
+use Rattle.fab_zoning_rows.proofs.RowSets.{row_total, row_exact}
 
 -- a set that may be listed: it has something, and is not too large
 abbrev IsListed : {K : Type 0} {R : K → K → Ordering} → List ℕ → set.FinSet R → Type 0

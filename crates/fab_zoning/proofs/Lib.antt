@@ -1,13 +1,9 @@
 pub mod Changes
-pub mod RowSets
 pub mod Adding
-pub mod Listing
 pub mod Resolving
-pub mod PortZoneLemmas
 pub mod Reasons
 pub mod Sounding
 pub mod Keeping
 pub mod Putting
 pub mod Taking
 pub mod SeenItems
-pub mod RowsTaken

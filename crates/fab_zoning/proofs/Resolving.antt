@@ -12,7 +12,7 @@ use Rattle.fab_zoning.specs.declared.fault.ZoningFault.{ZoningFault}
 use Rattle.fab_zoning.specs.declared.fault.ZoningFault.TheVariants.{Unknown, InUse, Empty, Limit, Memory}
 use Rattle.fab_zoning.specs.declared.fault.ZoningLimit.TheVariants.{Aliases, Zones, Sets, Members, Active}
 use Rattle.fab_lemmas.specs.MapsOfSets.{has, tree_has, in_tree, seen_sets}
-use Rattle.fab_zoning.specs.Rows.{Row, Rows}
+use Rattle.fab_zoning_rows.specs.Rows.{Row, Rows}
 use Rattle.fab_zoning.specs.Zonings.{FabricZoning}
 use Rattle.fab_zoning.specs.Resolved.{IsResolvedBy, IsResolved, AreResolved}
 use Rattle.fab_zoning.specs.Steps.{IsActivateFault}

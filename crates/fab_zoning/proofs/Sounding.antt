@@ -19,7 +19,7 @@ use Rattle.fab_lemmas.proofs.MapsOfSets.{get_seen, knows_seen, len_seen}
 use Rattle.fab_lemmas.proofs.Passing.{found_passes, each_passes, pair_passes, each_pair_passes, seen_some}
 use Rattle.fab_lemmas.proofs.Tests.{both, left, right, within, from_within, below, from_below}
 use Rattle.fab_zoning.specs.Limits.{most_aliases, most_zones, most_sets, most_members}
-use Rattle.fab_zoning.specs.Rows.{IsPlain}
+use Rattle.fab_zoning_rows.specs.Rows.{IsPlain}
 use Rattle.fab_zoning.specs.Soundness.{AreListings, AreSoundDefinitions}
 use Rattle.fab_zoning.specs.Inner.Tests.{is_listing, is_plain, names_alias, knows, are_listed, are_closed}
 

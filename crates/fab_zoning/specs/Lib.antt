@@ -1,9 +1,6 @@
 pub mod Limits
-pub mod Rows
 pub mod Zonings
-pub mod Views
 pub mod Parts
-pub mod PortZones
 pub mod Joins
 pub mod Resolved
 pub mod Steps

@@ -16,7 +16,3 @@ most_sets = 64
 -- members of an alias or a zone, zones of a set
 abbrev pub most_members : ℕ
 most_members = 255
-
--- rows of the active set
-abbrev pub most_rows : ℕ
-most_rows = 65536

@@ -4,7 +4,7 @@ use Rattle.std.specs.FinSet as set
 use Rattle.fab_names.specs.declared.member.Member.{Member}
 use Rattle.fab_names.specs.declared.member.Member.TheVariants as member
 use Rattle.fab_lemmas.specs.MapsOfSets.{has}
-use Rattle.fab_zoning.specs.Rows.{Row, Rows, IsPlain}
+use Rattle.fab_zoning_rows.specs.Rows.{Row, Rows, IsPlain}
 use Rattle.fab_zoning.specs.Zonings.{FabricZoning}
 
 -- the same from tests: which zones a set has, which members a zone, and which an alias

@@ -9,7 +9,8 @@ use Rattle.fab_zoning.specs.declared.fault.ZoningLimit.TheVariants.{Aliases, Zon
 use Rattle.fab_lemmas.specs.MapsOfSets.{HasNoUser, IsFirstUser}
 use Rattle.fab_lemmas.specs.Room.{IsFull, HasRoom}
 use Rattle.fab_lemmas.specs.Firsts.{IsFirstWithout}
-use Rattle.fab_zoning.specs.Limits.{most_aliases, most_zones, most_sets, most_members, most_rows}
+use Rattle.fab_zoning_rows.specs.Limits.{most_rows}
+use Rattle.fab_zoning.specs.Limits.{most_aliases, most_zones, most_sets, most_members}
 use Rattle.fab_zoning.specs.Zonings.{FabricZoning}
 use Rattle.fab_zoning.specs.Resolved.{IsResolved, MoreThan}
 

@@ -10,7 +10,7 @@ use Rattle.fab_names.specs.Codes.{name_code, fabric_code, member_code}
 use Rattle.fab_zoning.specs.declared.flag.DefaultFlag.{DefaultFlag}
 use Rattle.fab_zoning.specs.declared.flag.DefaultFlag.TheVariants.{Permit, Deny}
 use Rattle.fab_lemmas.specs.MapsOfSets.{MapOfSets}
-use Rattle.fab_zoning.specs.Rows.{Rows, row_code}
+use Rattle.fab_zoning_rows.specs.Rows.{Rows, row_code}
 
 -- a finite set at each of finitely many names
 abbrev pub NamedSets : {K : Type 0} → (K → K → Ordering) → Type 0

@@ -2,16 +2,13 @@
 //! lets communicate (FC-GS, Fabric Zone Server).
 #![tactic(auto)]
 
-mod by_zone;
 mod fault;
 mod flag;
 mod items;
 mod key;
 pub mod laws;
 mod named;
-mod port_zones;
 mod resolve;
-mod rows;
 mod sound;
 mod why;
 mod zoning;
@@ -20,8 +17,5 @@ pub use fault::{ZoningFault, ZoningLimit};
 pub use flag::DefaultFlag;
 pub use items::{put_in_tree, take_from};
 pub use key::Key;
-pub use port_zones::PortZones;
 pub use why::Why;
-pub use zoning::{
-    MOST_ALIASES, MOST_MEMBERS, MOST_ROWS, MOST_SETS, MOST_ZONES, Zoning, ZoningParts,
-};
+pub use zoning::{MOST_ALIASES, MOST_MEMBERS, MOST_SETS, MOST_ZONES, Zoning, ZoningParts};

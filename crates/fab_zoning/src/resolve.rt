@@ -3,12 +3,12 @@ ghost use Rattle.std.specs.Prelude.{◌≡◌, ◌≤◌, OnOk, IfOk, IfErr};
 ghost use Rattle.std.specs.FinSet as set;
 ghost use Rattle.fab_names.specs.Orders.{name_cmp, member_cmp};
 ghost use Rattle.fab_lemmas.specs.Adding.{Among};
-ghost use Rattle.fab_zoning.specs.Limits.{most_rows};
+ghost use Rattle.fab_zoning_rows.specs.Limits.{most_rows};
 ghost use Rattle.fab_zoning.specs.Inner.Adding.{AddsAll, StopsAt, IsResolvedFault, PlainRow, AliasRow, ZoneRow};
 
-use crate::rows::ActiveRows;
-use crate::{MOST_ROWS, ZoningFault, ZoningLimit};
+use crate::{ZoningFault, ZoningLimit};
 use fab_names::{Member, Name};
+use fab_zoning_rows::{ActiveRows, MOST_ROWS};
 use std::alloc::Allocator;
 use std::collections::{BTreeMap, BTreeSet};
 

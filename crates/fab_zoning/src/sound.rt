@@ -7,9 +7,9 @@ ghost use Rattle.fab_lemmas.specs.MapsOfSets.{seen_sets};
 ghost use Rattle.fab_zoning.specs.Inner.Tests as spec;
 ghost use Rattle.fab_zoning.specs.Soundness.{AreSoundDefinitions, IsSoundActive};
 
-use crate::rows::ActiveRows;
-use crate::{MOST_ALIASES, MOST_MEMBERS, MOST_ROWS, MOST_SETS, MOST_ZONES};
+use crate::{MOST_ALIASES, MOST_MEMBERS, MOST_SETS, MOST_ZONES};
 use fab_names::{Member, Name};
+use fab_zoning_rows::{ActiveRows, MOST_ROWS};
 use std::alloc::Allocator;
 use std::collections::{BTreeMap, BTreeSet};
 

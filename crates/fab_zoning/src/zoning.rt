@@ -8,16 +8,17 @@ ghost use Rattle.std.specs.List.Sorted.{IsStrictlySortedBy};
 ghost use Rattle.fab_names.specs.declared.member.Member.TheVariants.{Alias};
 ghost use Rattle.fab_names.specs.Orders.{name_cmp, member_cmp};
 ghost use Rattle.fab_lemmas.specs.MapsOfSets.{in_tree, seen_set, seen_sets};
-ghost use Rattle.fab_zoning.specs.Limits.{most_rows};
+ghost use Rattle.fab_zoning_rows.specs.Limits.{most_rows};
 ghost use Rattle.fab_lemmas.specs.Lists.{IsListOf};
-ghost use Rattle.fab_zoning.specs.Rows.{row_cmp, IsRowOf, IsPlain};
+ghost use Rattle.fab_zoning_rows.specs.Rows.{row_cmp, IsRowOf, IsPlain};
 ghost use Rattle.fab_zoning.specs.Soundness.{AreSoundDefinitions, IsSoundActive, IsSound};
 ghost use Rattle.fab_zoning.specs.Zonings.{new_zoning};
 ghost use Rattle.fab_zoning.specs.Edits.{Puts, Takes, IsItem, HasSome};
 ghost use Rattle.fab_zoning.specs.Parts.{zoning_of};
-ghost use Rattle.fab_zoning.specs.PortZones.{in_zones};
-ghost use Rattle.fab_zoning.specs.Views.{seen_rows};
-ghost use Rattle.fab_zoning.specs.Joins.{IsLoggedInAt, Holds, Joined, Explains};
+ghost use Rattle.fab_zoning_rows.specs.PortZones.{in_zones};
+ghost use Rattle.fab_zoning_rows.specs.Views.{seen_rows};
+ghost use Rattle.fab_zoning_rows.specs.Holding.{IsLoggedInAt, Holds};
+ghost use Rattle.fab_zoning.specs.Joins.{Joined, Explains};
 ghost use Rattle.fab_zoning.specs.Resolved.{AreResolved};
 ghost use Rattle.fab_zoning.specs.Steps.{IsListing, IsListingFault, CanPutAlias, IsPutAliasFault, CanPutZone, IsPutZoneFault, CanPutSet, IsPutSetFault, CanDropAlias, IsDropAliasFault, CanDropZone, IsDropZoneFault, IsDropSetFault, IsActivateFault};
 
@@ -27,11 +28,11 @@ use crate::named::{
     take_out,
 };
 use crate::resolve::resolved;
-use crate::rows::ActiveRows;
 use crate::sound::{are_sound, is_active_sound};
-use crate::{DefaultFlag, PortZones, Why, ZoningFault, ZoningLimit};
+use crate::{DefaultFlag, Why, ZoningFault, ZoningLimit};
 use fab_inventory::Port;
 use fab_names::{Fabric, Member, Name};
+use fab_zoning_rows::{ActiveRows, PortZones};
 use std::alloc::{AllocError, Allocator};
 use std::collections::btree_map::Iter;
 use std::collections::{BTreeMap, BTreeSet};
@@ -48,9 +49,6 @@ pub const MOST_SETS: usize = 64;
 
 /// How many members may be listed for an alias, a zone or a zone set, equal ones counted.
 pub const MOST_MEMBERS: usize = 255;
-
-/// How many rows may be active.
-pub const MOST_ROWS: usize = 65536;
 
 /// The zoning of one fabric (FC-GS, Fabric Zone Server).
 ///

@@ -1,6 +1,6 @@
 //! The zoning of one fabric by itself: tables of steps, of limits, and of what is shown and sound.
 ghost use Rattle.std.specs.Prelude.{All};
-ghost use Rattle.fab_zoning.specs.Rows.{IsPlain};
+ghost use Rattle.fab_zoning_rows.specs.Rows.{IsPlain};
 
 use crate::rows::{named, numbered};
 use fab_inventory::Port;

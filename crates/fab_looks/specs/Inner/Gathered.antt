@@ -7,8 +7,8 @@ use Rattle.fab_policy_base.specs.Policies.{PolicyRows}
 use Rattle.fab_world.specs.Worlds.{WorldRows}
 use Rattle.fab_desk_base.specs.declared.command.Query.{Query}
 use Rattle.fab_desk_base.specs.declared.command.Query.TheVariants as query
-use Rattle.fab_zoning.specs.PortZones.{in_zones}
-use Rattle.fab_zoning.specs.declared.port_zones.PortZones.{PortZones}
+use Rattle.fab_zoning_rows.specs.PortZones.{in_zones}
+use Rattle.fab_zoning_rows.specs.declared.port_zones.PortZones.{PortZones}
 use Rattle.fab_looks.specs.Ways.{IsOpenQuery}
 
 -- it is the read of one of the ports

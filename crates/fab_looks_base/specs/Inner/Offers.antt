@@ -5,7 +5,8 @@ use Rattle.std.specs.FinMap as map
 use Rattle.std.specs.FinSet as set
 use Rattle.fab_names.specs.declared.fabric.Fabric.{Fabric}
 use Rattle.fab_inventory.specs.declared.port.Port.{Port}
-use Rattle.fab_zoning.specs.Joins.{IsLoggedInAt, Joined}
+use Rattle.fab_zoning_rows.specs.Holding.{IsLoggedInAt}
+use Rattle.fab_zoning.specs.Joins.{Joined}
 use Rattle.fab_mapping_base.specs.Groups.{StorageGroupRows}
 use Rattle.fab_reach_base.specs.Records.{Records, zoning_at}
 use Rattle.fab_reach_base.specs.Reach.{IsPort, IsTarget}

@@ -11,7 +11,7 @@ use Rattle.fab_names.specs.declared.fabric.Fabric.{Fabric}
 use Rattle.fab_inventory.specs.declared.port.Port.{Port}
 use Rattle.fab_mapping_base.specs.Groups.{HostGroupRows, StorageGroupRows}
 use Rattle.fab_mapping.specs.Mappings.{MappingRows}
-use Rattle.fab_zoning.specs.Joins.{IsLoggedInAt}
+use Rattle.fab_zoning_rows.specs.Holding.{IsLoggedInAt}
 use Rattle.fab_reach_base.specs.Gathering.{Serves, HasTarget}
 use Rattle.fab_reach_base.specs.Records.{Records}
 use Rattle.fab_reach_base.specs.Reach.{IsPort}

@@ -6,7 +6,7 @@ use Rattle.std.specs.BTreeSet.{BTreeSet, contains}
 use Rattle.fab_names.specs.Orders.{member_cmp}
 use Rattle.fab_names.specs.declared.member.Member.{Member}
 use Rattle.fab_inventory.specs.declared.port.Port.{Port}
-use Rattle.fab_zoning.specs.Joins.{Matches, IsLoggedInAt, Holds}
+use Rattle.fab_zoning_rows.specs.Holding.{Matches, IsLoggedInAt, Holds}
 use Rattle.fab_reach_base.specs.Records.{Records, zoning_at}
 use Rattle.fab_reach_base.specs.Reach.{IsPort}
 use Rattle.fab_reach_index.specs.Indexes.{Zone, zone_cmp}

@@ -2,7 +2,8 @@
 use Rattle.std.specs.Prelude.{◌<◌, ◌≤◌, IsSome}
 use Rattle.std.specs.FinMap as map
 use Rattle.std.specs.FinSet as set
-use Rattle.fab_zoning.specs.Limits.{most_aliases, most_zones, most_sets, most_rows}
+use Rattle.fab_zoning_rows.specs.Limits.{most_rows}
+use Rattle.fab_zoning.specs.Limits.{most_aliases, most_zones, most_sets}
 use Rattle.fab_zoning.specs.Zonings.{FabricZoning}
 
 -- not too many aliases, zones and zone sets

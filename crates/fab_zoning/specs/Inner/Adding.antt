@@ -12,9 +12,9 @@ use Rattle.fab_zoning.specs.declared.fault.ZoningFault.TheVariants.{Limit, Memor
 use Rattle.fab_zoning.specs.declared.fault.ZoningLimit.TheVariants.{Active}
 use Rattle.fab_lemmas.specs.MapsOfSets.{tree_has}
 use Rattle.fab_lemmas.specs.Adding.{Adds, AddsOnly}
-use Rattle.fab_zoning.specs.Limits.{most_rows}
+use Rattle.fab_zoning_rows.specs.Limits.{most_rows}
 use Rattle.fab_zoning.specs.Resolved.{MoreThan}
-use Rattle.fab_zoning.specs.Rows.{Row, Rows, IsPlain}
+use Rattle.fab_zoning_rows.specs.Rows.{Row, Rows, IsPlain}
 
 -- all were added, and the rows are within the limit
 abbrev pub AddsAll : (Row → Type 0) → Rows → Rows → Type 0

@@ -3,7 +3,7 @@ use Rattle.std.specs.List.Sorted.{IsStrictlySortedBy}
 use Rattle.std.specs.Map.Iter.{deref}
 use Rattle.std.proofs.lemmas.Map.Iter.{rest_more, rest_all}
 use Rattle.fab_lemmas.proofs.Walks.{walked, walk_end}
-use Rattle.fab_zoning.specs.Rows.{Row, row_cmp}
+use Rattle.fab_zoning_rows.specs.Rows.{Row, row_cmp}
 use Rattle.fab_desk_reads.specs.Grouping.{IsGrouped}
 use Rattle.fab_desk_reads.proofs.Zones.{grouped_none, grouped_more}
 use Rattle.fab_desk_reads.proofs.active.zones_of.Goals as goal

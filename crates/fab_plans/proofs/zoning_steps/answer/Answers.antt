@@ -1,7 +1,7 @@
 use Rattle.std.proofs.Common.{◌≡◌, Result, IfErr, OnOk, All, sym, ap, subst}
 use Rattle.std.specs.FinMap as map
 use Rattle.std.specs.FinSet as set
-use Rattle.fab_zoning.specs.Rows.{IsPlain}
+use Rattle.fab_zoning_rows.specs.Rows.{IsPlain}
 use Rattle.fab_zoning.specs.Steps.{IsPutAliasFault, CanPutZone, IsPutZoneFault, CanPutSet, IsPutSetFault}
 use Rattle.fab_zoning.specs.Zonings.{FabricZoning}
 use Rattle.fab_zoning.specs.declared.fault.ZoningFault.{ZoningFault}

@@ -1,7 +1,7 @@
 use Rattle.std.proofs.Common.{sym, subst, ℕ, List}
 use Rattle.fab_reach.proofs.LooseLoops.{unzoned_loose, loose_unzoned}
 use Rattle.fab_reach_base.specs.Views.{seen}
-use Rattle.fab_zoning.specs.Joins.{Holds}
+use Rattle.fab_zoning_rows.specs.Holding.{Holds}
 use Rattle.fab_zoning.specs.Zonings.{FabricZoning}
 use Rattle.fab_reach.proofs.loose.is_loose.Goals as goal
 

@@ -1,6 +1,6 @@
 use Rattle.fab_reach.proofs.LooseLoops.{none_zoned}
-use Rattle.fab_zoning.specs.PortZones.{in_zones}
-use Rattle.fab_zoning.specs.Joins.{Holds}
+use Rattle.fab_zoning_rows.specs.PortZones.{in_zones}
+use Rattle.fab_zoning_rows.specs.Holding.{Holds}
 use Rattle.fab_reach.proofs.loose.is_unzoned.Goals as goal
 
 pub returns : goal.returns

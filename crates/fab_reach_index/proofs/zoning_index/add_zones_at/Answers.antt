@@ -4,8 +4,8 @@ use Rattle.std.specs.Ordering.{nat_cmp}
 use Rattle.fab_reach_index.specs.Indexes.{zone_cmp}
 use Rattle.fab_reach_base.specs.Views.{seen}
 use Rattle.fab_reach_index.specs.Inner.Placing.{IsIn}
-use Rattle.fab_zoning.specs.PortZones.{in_zones}
-use Rattle.fab_zoning.specs.Joins.{Holds}
+use Rattle.fab_zoning_rows.specs.PortZones.{in_zones}
+use Rattle.fab_zoning_rows.specs.Holding.{Holds}
 use Rattle.fab_zoning.specs.Zonings.{FabricZoning}
 use Rattle.fab_reach_index.proofs.ZonesPlaced.{zones_at, not_at, not_known}
 use Rattle.fab_reach_index.proofs.zoning_index.add_zones_at.Goals as goal

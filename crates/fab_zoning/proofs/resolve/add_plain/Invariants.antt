@@ -1,6 +1,6 @@
 use Rattle.std.proofs.Common.{◌≡◌, ◌≤◌, List, ◌++◌}
 use Rattle.std.specs.FinSet as set
-use Rattle.fab_zoning.specs.Limits.{most_rows}
+use Rattle.fab_zoning_rows.specs.Limits.{most_rows}
 use Rattle.fab_names.specs.declared.member.Member.{Member}
 use Rattle.fab_zoning.specs.Inner.Adding.{PlainRow}
 use Rattle.fab_zoning.proofs.Adding.{AddsRows}

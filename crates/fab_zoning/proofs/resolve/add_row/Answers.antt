@@ -1,5 +1,5 @@
 use Rattle.std.proofs.Common.{◌≡◌, arith}
-use Rattle.fab_zoning.specs.Rows.{Row}
+use Rattle.fab_zoning_rows.specs.Rows.{Row}
 use Rattle.fab_zoning.proofs.Adding.{adds_one, only_from}
 use Rattle.fab_zoning.proofs.resolve.add_row.Goals as goal
 

@@ -4,7 +4,7 @@ use Rattle.std.specs.FinSet as set
 use Rattle.std.proofs.lemmas.Result.{err_from_is_err_and}
 use Rattle.fab_names.specs.Orders.{name_cmp}
 use Rattle.fab_names.proofs.OrderLaws.{name_total, name_exact}
-use Rattle.fab_zoning.specs.Rows.{Rows, row_cmp}
+use Rattle.fab_zoning_rows.specs.Rows.{Rows, row_cmp}
 use Rattle.fab_lemmas.specs.Adding.{Among}
 use Rattle.fab_zoning.specs.Inner.Adding.{ZoneRow}
 use Rattle.fab_zoning.proofs.Adding.{AddsRows}

@@ -1,6 +1,6 @@
 use Rattle.std.proofs.Common.{◌≡◌, ◌≤◌, ℕ, List, ◌++◌}
 use Rattle.std.specs.FinSet as set
-use Rattle.fab_zoning.specs.Limits.{most_rows}
+use Rattle.fab_zoning_rows.specs.Limits.{most_rows}
 use Rattle.fab_zoning.specs.Inner.Adding.{ZoneRow}
 use Rattle.fab_zoning.proofs.Adding.{AddsRows}
 use Rattle.fab_zoning.proofs.Adding.{Before}

@@ -1,8 +1,8 @@
 use Rattle.std.proofs.Common.{◌≡◌, ◌+◌, List, ◌∷◌, [], ◌++◌, sym, ap, ◌∙◌, arith, take}
 use Rattle.std.specs.FinSet as set
 use Rattle.std.proofs.lemmas.List.{take_more}
-use Rattle.fab_zoning.specs.Rows.{Row, Rows, row_cmp}
-use Rattle.fab_zoning.proofs.RowSets.{row_total, row_exact, grows_by_one}
+use Rattle.fab_zoning_rows.specs.Rows.{Row, Rows, row_cmp}
+use Rattle.fab_zoning_rows.proofs.RowSets.{row_total, row_exact, grows_by_one}
 use Rattle.fab_zoning.proofs.zoning.rows_of.Goals as goal
 
 pub loop-zone-init : goal.loop-zone-init

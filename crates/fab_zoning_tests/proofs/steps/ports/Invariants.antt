@@ -1,5 +1,5 @@
 use Rattle.std.proofs.Common.{All}
-use Rattle.fab_zoning.specs.Rows.{IsPlain}
+use Rattle.fab_zoning_rows.specs.Rows.{IsPlain}
 use Rattle.fab_zoning_tests.proofs.steps.ports.Given as goal
 
 abbrev pub invariant-loop-number : goal.invariant-loop-number

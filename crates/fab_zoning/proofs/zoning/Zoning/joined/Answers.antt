@@ -2,10 +2,10 @@ use Rattle.std.proofs.Common.{ℕ, ◌≡◌, List, Bool, true, false, refl, sym
 use Rattle.std.proofs.lemmas.Bool.{eqb-false}
 use mathlib.Core.Bool.{true≢false}
 use Rattle.fab_inventory.specs.declared.port.Port.{Port}
-use Rattle.fab_zoning.specs.Rows.{Rows}
+use Rattle.fab_zoning_rows.specs.Rows.{Rows}
 use Rattle.fab_zoning.specs.Zonings.{FabricZoning}
-use Rattle.fab_zoning.specs.PortZones.{in_zones}
-use Rattle.fab_zoning.specs.Joins.{Holds, IsLoggedInAt}
+use Rattle.fab_zoning_rows.specs.PortZones.{in_zones}
+use Rattle.fab_zoning_rows.specs.Holding.{Holds, IsLoggedInAt}
 use Rattle.fab_zoning.proofs.Reasons.{by_zone, by_default, denied, zoned_p, zoned_q}
 use Rattle.fab_zoning.proofs.zoning.Zoning.joined.Goals as goal
 use Rattle.fab_zoning.proofs.zoning.Zoning.joined.Goals.{then-not-is_empty-via-then-not-is_empty, then-not-is_empty-via-else-not-is_empty+then-not-is_empty-2}

@@ -1,0 +1,9 @@
+use Rattle.std.proofs.Common.{◌≡◌, ℕ, List, ◌++◌}
+use Rattle.std.specs.List.{AllByRecursion}
+use Rattle.std.specs.BTreeSet.{BTreeSet}
+use Rattle.fab_names.specs.declared.member.Member.{Member}
+use Rattle.fab_zoning_rows.proofs.RowSets.{IsPlainEntry}
+use Rattle.fab_zoning_rows.proofs.rows.have_no_alias.Given as goal
+
+abbrev pub invariant-loop-member : goal.invariant-loop-member
+invariant-loop-member g l = (before : List (Member × BTreeSet (List ℕ))) × (l.zones_by_member.entries ≡ before ++ l.member-iterator) × AllByRecursion IsPlainEntry before

@@ -1,0 +1,25 @@
+-- Which ports a member stands for, and which zones hold a port.
+use Rattle.std.specs.Prelude.{ℕ, ◌≡◌, List, Some, true}
+use Rattle.std.specs.FinSet as set
+use Rattle.fab_names.specs.Places.{Position}
+use Rattle.fab_names.specs.declared.fabric.Fabric.{Fabric}
+use Rattle.fab_names.specs.declared.member.Member.{Member}
+use Rattle.fab_names.specs.declared.member.Member.TheVariants as member
+use Rattle.fab_inventory.specs.declared.port.Port.{Port}
+use Rattle.fab_zoning_rows.specs.Rows.{Rows}
+
+-- the member stands for the port: it has the port's N_Port_Name or Node_Name, or the port is
+-- logged in at its place; an alias stands for none
+abbrev pub Matches : Member → Port → Type 0
+Matches (member.Port name) p = p.name ≡ name
+Matches (member.Node name) p = p.node ≡ name
+Matches (member.Place place) p = (f : Fabric) × (p.at ≡ Some (f, place))
+Matches (member.Alias name) p = ⊥
+
+-- the port is logged in at the fabric
+abbrev pub IsLoggedInAt : Fabric → Port → Type 0
+IsLoggedInAt f p = (place : Position) × (p.at ≡ Some (f, place))
+
+-- some row of the zone has a member that stands for the port
+abbrev pub Holds : Rows → Port → List ℕ → Type 0
+Holds rows p z = (m : Member) × (set.contains rows (z, m) ≡ true) × Matches m p

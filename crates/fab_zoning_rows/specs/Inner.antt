@@ -1,0 +1,3 @@
+-- What private loops and searches are proved by. No public contract names it.
+pub mod ByZone
+pub mod PortZones

@@ -1,0 +1,10 @@
+//! The rows (zone, member) of an active zone set: kept by member, and which zones have a port
+//! (FC-GS, Fabric Zone Server).
+#![tactic(auto)]
+
+mod by_zone;
+mod port_zones;
+mod rows;
+
+pub use port_zones::PortZones;
+pub use rows::{ActiveRows, MOST_ROWS};
