@@ -1,5 +1,5 @@
 -- The differences of two configurations, as rows.
-use Rattle.std.specs.Prelude.{List, ◌⊎◌, Contains}
+use Rattle.std.specs.Prelude.{List}
 use Rattle.fab_lemmas.specs.Lists.{IsListOf}
 use Rattle.fab_reach_base.specs.Records.{ConfigRows}
 use Rattle.fab_store_rows.specs.declared.config_row.ConfigRow.{ConfigRow}
@@ -15,7 +15,3 @@ pub record StandsOnlyIn (c d : ConfigRows) (r : ConfigRow) : Type 0 where
 pub record IsDifference (before after : ConfigRows) (taken added : List ConfigRow) : Type 0 where
   pub takes : IsListOf row_order (StandsOnlyIn before after) taken
   pub adds : IsListOf row_order (StandsOnlyIn after before) added
-
--- a row of what there was before a change: it is there now and was not added, or it was taken away
-abbrev pub IsUndone : List ConfigRow → List ConfigRow → List ConfigRow → ConfigRow → Type 0
-IsUndone now taken added r = (Contains now r × ¬ Contains added r) ⊎ Contains taken r

@@ -18,7 +18,7 @@ pub use config_row::{
     StoragePart, ZoningItem, ZoningRow,
 };
 pub use inventory_row::{HolderRow, InventoryRow, VolumeRow};
-pub use listing::{RowDifference, config_rows, difference, undone};
+pub use listing::{RowDifference, config_rows, difference};
 pub use record_row::{ApprovalRow, PathRow, PlanRow, PlanState, Sign, UndoRow};
 pub use standing::has_row;
 pub use table_rows::{CountRow, SCHEMA, TableRows};

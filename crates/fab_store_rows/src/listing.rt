@@ -1,14 +1,12 @@
 //! All rows of a configuration, and the differences of two.
-ghost use Rattle.std.specs.Prelude.{◌≡◌, ◌↔◌, Contains, OnOk, IfOk};
+ghost use Rattle.std.specs.Prelude.{◌≡◌, IfOk};
 ghost use Rattle.std.specs.Option.{option_copied};
 ghost use Rattle.fab_lemmas.specs.Lists.{IsListOf};
 ghost use Rattle.fab_reach_base.specs.Records.{ConfigRows};
 ghost use Rattle.fab_store_rows.specs.RowOrder.{row_order};
 ghost use Rattle.fab_store_rows.specs.Standing.{Stands};
-ghost use Rattle.fab_reach_base.specs.Adding.{Adds};
-ghost use Rattle.fab_store_rows.specs.Gathering.{Has, Lacking};
-ghost use Rattle.fab_store_rows.specs.declared.config_row.ConfigRow.{ConfigRow};
-ghost use Rattle.fab_store_rows.specs.Differences.{IsDifference, IsUndone};
+ghost use Rattle.fab_store_rows.specs.Gathering.{Lacking};
+ghost use Rattle.fab_store_rows.specs.Differences.{IsDifference};
 
 use crate::ConfigRow;
 use crate::gathering::add_all;
@@ -79,49 +77,4 @@ pub fn difference<A: Allocator + Copy>(
     let taken = rows_without(alloc, Some(after), before)?;
     let added = rows_without(alloc, Some(before), after)?;
     Ok(RowDifference { taken, added })
-}
-
-/// Takes the rows out of the set.
-fn remove_all<A: Allocator + Copy>(rows: &mut BTreeSet<ConfigRow, A>, added: &[ConfigRow])
-    ensures { (r : ConfigRow) → Has rows.new r ↔ Has rows.old r × ¬ Contains added.now r }
-{
-    for row in added {
-        rows.remove(row);
-    }
-}
-
-/// Puts the rows into the set.
-fn insert_all<A: Allocator + Copy>(
-    rows: &mut BTreeSet<ConfigRow, A>,
-    taken: &[ConfigRow],
-) -> Result<(), AllocError>
-    ensures { OnOk result (Adds (Contains taken.now) (Has rows.old) (Has rows.new)) }
-{
-    for row in taken {
-        rows.insert(*row)?;
-    }
-    Ok(())
-}
-
-/// The rows from before a change: those that are there now and that it did not add, and those that
-/// it took away, each once, in their order.
-///
-/// # Errors
-/// `AllocError` where there is no memory.
-pub fn undone<A: Allocator + Copy>(
-    alloc: A,
-    now: &[ConfigRow],
-    change: &RowDifference<A>,
-) -> Result<Vec<ConfigRow, A>, AllocError>
-    ensures rows { IfOk result (λ rows. IsListOf row_order (IsUndone now.now change.now.taken.items change.now.added.items) rows.items) }
-    ensures before { IfOk result (λ rows. (before after : ConfigRows) → IsListOf row_order (Stands after) now.now
-        → IsDifference before after change.now.taken.items change.now.added.items → IsListOf row_order (Stands before) rows.items) }
-{
-    let mut rows = BTreeSet::new(alloc);
-    insert_all(&mut rows, now)?;
-    remove_all(&mut rows, change.added.as_slice());
-    insert_all(&mut rows, change.taken.as_slice())?;
-    let _count = rows.len();
-    let items = listed(alloc, &rows)?;
-    Ok(items)
 }

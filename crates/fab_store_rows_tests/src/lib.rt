@@ -1,5 +1,5 @@
-//! Tests of rows: of a configuration's rows, of differences, of a configuration that is edited by rows, of
-//! a change undone, and of inventories and configurations that are made of rows, sound or damaged.
+//! Tests of rows: of a configuration's rows, of differences, of a configuration that is edited by rows, and of
+//! inventories and configurations that are made of rows, sound or damaged.
 //! Nothing here is part of the product.
 #![tactic(auto)]
 

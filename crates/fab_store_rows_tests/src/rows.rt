@@ -1,11 +1,10 @@
-//! The rows of a new configuration and of the first worked plan's, their differences, and the plan
-//! undone.
+//! The rows of a new configuration and of the first worked plan's, and their differences.
 
 use crate::lines::{Line, assert_rows};
 use crate::worlds::{I1, TP1, new_config, planned};
 use fab_names::Fabric::{A, B};
 use fab_reach_base::Config;
-use fab_store_rows::{config_rows, difference, undone};
+use fab_store_rows::{config_rows, difference};
 use std::alloc::Global;
 use std::process::Abort;
 
@@ -121,27 +120,5 @@ fn assert_change(rt: &(impl Abort + AllocGlobal), case: Change) {
 fn differences_are_rows(rt: HostRuntime) {
     for &case in CHANGES {
         assert_change(&rt, case);
-    }
-}
-
-/// A configuration, another, and the rows of the first.
-const UNDONE: &[(World, World, &'static [Line])] = &[
-    (World::New, World::Planned, NEW),
-    (World::Planned, World::New, PLANNED),
-];
-
-/// The second configuration's rows, with the change from the first undone, are those of the lines.
-fn assert_undone(rt: &(impl Abort + AllocGlobal), case: (World, World, &[Line])) {
-    let (before, after) = (config(rt, case.0), config(rt, case.1));
-    let change = difference(rt.alloc(), &before, &after).expect(rt, "a difference");
-    let rows = config_rows(rt.alloc(), &after).expect(rt, "rows");
-    let rows_before = undone(rt.alloc(), rows.as_slice(), &change).expect(rt, "rows");
-    assert_rows(rt, rows_before.as_slice(), case.2);
-}
-
-#[test]
-fn plan_is_undone(rt: HostRuntime) {
-    for &case in UNDONE {
-        assert_undone(&rt, case);
     }
 }
