@@ -4,14 +4,11 @@ use Rattle.std.specs.declared.cmp.Ordering.{Ordering}
 use Rattle.std.specs.Cmp.{IsTotalOrder, Equal-is, tied_itself}
 use Rattle.std.specs.FinMap as map
 use Rattle.std.specs.Ordering.{is_gt}
-use Rattle.std.proofs.lemmas.Bool.{cases_lt}
 use Rattle.std.proofs.lemmas.Map.Views.{Contains-from_any}
 use Rattle.fab_lemmas.specs.Firsts.{IsFirstOf, IsFirstWith, HasAt, lesser}
 use Rattle.fab_lemmas.proofs.Leasts.{least_as, least_both}
 use Rattle.fab_names.specs.Orders.{name_cmp}
 use Rattle.fab_names.proofs.OrderLaws.{name_total, name_exact}
-use Rattle.fab_inventory.specs.Holders.{IsLeast}
-use Rattle.fab_desk_base.proofs.KeptHosts.{no_least}
 
 -- ---- the least number
 

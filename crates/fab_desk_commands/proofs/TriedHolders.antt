@@ -6,7 +6,7 @@ use Rattle.std.specs.FinMap as map
 use Rattle.std.specs.Option.{option_map}
 use Rattle.fab_inventory.specs.Holders.{HasNoVolume, AreKnown, AreFree, IsLeast, IsUnknownIn, IsHeldIn}
 use Rattle.fab_inventory.specs.Inventories as inventories
-use Rattle.fab_inventory.specs.Inventories.{InventoryRows, HolderRows, kind_of, HasNoOtherKind, CanPutHolder, PutHolderFails, IsHolderPut, DropHolderFails, IsHolderDropped}
+use Rattle.fab_inventory.specs.Inventories.{InventoryRows, HolderRows, kind_of, CanPutHolder, PutHolderFails, IsHolderPut, DropHolderFails, IsHolderDropped}
 use Rattle.fab_inventory.specs.Limits.{most_ports_of_holder}
 use Rattle.fab_inventory.specs.declared.fault.InventoryFault.{InventoryFault}
 use Rattle.fab_inventory.specs.declared.fault.InventoryFault.TheVariants.{UnknownPort, PortHeld, Unknown, WrongKind, InUse, Limit, Memory}

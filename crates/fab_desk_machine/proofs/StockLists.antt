@@ -1,5 +1,5 @@
 -- The rows in which an inventory differs.
-use Rattle.std.proofs.Common.{ℕ, ◌≡◌, List, sym, subst}
+use Rattle.std.proofs.Common.{◌≡◌, List, sym, subst}
 use Rattle.fab_inventory.specs.Inventories.{InventoryRows}
 use Rattle.fab_inventory.specs.declared.port.Port.{Port}
 use Rattle.fab_reach_books.specs.Stocks.{AreKnownOnlyIn}

@@ -1,5 +1,5 @@
 -- Facts on lists, sets and maps.
-use Rattle.std.proofs.Common.{◌≡◌, ℕ, Result, Ok, Err, IfErr, OnOk, List, Option, None, Some, Bool, true, false, All, slice_get, sym, subst, ◌∙◌, arith, inl, inr}
+use Rattle.std.proofs.Common.{◌≡◌, ℕ, Result, Ok, Err, OnOk, List, Option, None, Some, Bool, true, false, All, slice_get, sym, subst, ◌∙◌, arith, inl, inr}
 use mathlib.Core.Bool.{true≢false}
 use Rattle.std.specs.declared.cmp.Ordering.{Ordering}
 use Rattle.std.specs.FinMap as map
@@ -7,7 +7,7 @@ use Rattle.std.specs.FinSet as set
 use Rattle.std.proofs.lemmas.Option.{slice_get_within, get_or_from_slice_get, same_Some, none-some}
 use Rattle.fab_lemmas.specs.Firsts.{IsFirstWithout}
 use Rattle.fab_lemmas.specs.Room.{IsFull, HasRoom, IsFullSet, SetHasRoom}
-use Rattle.fab_mapping.proofs.GroupChanges.{on_ok, if_err}
+use Rattle.fab_mapping.proofs.GroupChanges.{if_err}
 
 -- a test is not true and false
 pub not_both : {b : Bool} → b ≡ true → b ≡ false → ⊥

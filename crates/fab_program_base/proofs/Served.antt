@@ -1,5 +1,5 @@
 -- Serving over a desk whose store is opened anew somehow.
-use Rattle.std.proofs.Common.{ℕ, ◌≡◌, ◌⊎◌, List, [], ◌∷◌, Option, Some, None, Result, Ok, Err, inl, inr}
+use Rattle.std.proofs.Common.{ℕ, List, [], ◌∷◌, Option, Some, None, Result, Ok, Err, inl, inr}
 use Rattle.std.specs.Bool.{⊤}
 use Rattle.std.specs.declared.alloc.Global.{Global}
 use Rattle.std.specs.declared.net.TcpListener.{TcpListener}
@@ -8,15 +8,14 @@ use Rattle.fab_files.specs.declared.printing.End.{End}
 use Rattle.fab_program_outside.specs.Coming.{After}
 use Rattle.fab_program_outside.specs.declared.faults.Fault.{Fault}
 use Rattle.fab_wire_streams.specs.declared.counted.Counted.{Counted}
-use Rattle.fab_wire_serving.specs.Turns.{AreTurns, IsReopened, IsRestored, IsTurn}
+use Rattle.fab_wire_serving.specs.Turns.{AreTurns, IsReopened, IsRestored}
 use Rattle.fab_wire_serving.specs.declared.server.Server as server
 use Rattle.fab_wire_serving.specs.declared.serving.ServeFault.{ServeFault}
 use Rattle.fab_wire.specs.declared.outcome.Outcome.{Outcome}
 use Rattle.fab_store.specs.declared.OpenFault.{OpenFault}
 use Rattle.fab_store.specs.declared.Store as store
-use Rattle.fab_program_base.specs.Databases.{IsDeskOver}
 use Rattle.fab_program_base.specs.Desks.{ProgramDesk}
-use Rattle.fab_program_base.specs.Servings.{AreServed, EndsFrom, IsServedAt, IsServedBy, IsServedOver, connection_time}
+use Rattle.fab_program_base.specs.Servings.{AreServed, EndsFrom, IsServedBy, IsServedOver, connection_time}
 
 module _ {D S W : Type 0} (w : server.Ghosts D S OpenFault Outcome) (contents : W → Option (List ℕ)) (opens : Result S OpenFault → Type 0) (gives : Option ℕ → Type 0) (count : Option ℕ) where
   reopened : (s t : D) → IsReopened w opens s t → IsReopened w (λ again. ⊤) s t

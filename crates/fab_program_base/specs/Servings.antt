@@ -1,10 +1,10 @@
 -- What serving connections comes to.
-use Rattle.std.specs.Prelude.{ℕ, ◌≡◌, ◌<◌, ◌*◌, ◌⊎◌, ⊤, List, length, Option, Some, None, Result, Ok, Err, OnOk, OnErr}
+use Rattle.std.specs.Prelude.{ℕ, ◌≡◌, ◌<◌, ◌*◌, ◌⊎◌, ⊤, List, length, Option, Some, None, Result, Err, OnOk, OnErr}
 use Rattle.std.specs.declared.alloc.Global.{Global}
 use Rattle.std.specs.declared.net.TcpListener.{TcpListener}
 use Rattle.fab_policy_base.specs.Policies.{PolicyRows}
 use Rattle.fab_files.specs.declared.printing.End.{End}
-use Rattle.fab_program_outside.specs.Coming.{After, Then}
+use Rattle.fab_program_outside.specs.Coming.{Then}
 use Rattle.fab_program_outside.specs.Contents.{IsPolicyAt}
 use Rattle.fab_program_outside.specs.declared.faults.Fault.{Fault}
 use Rattle.fab_program_outside.specs.declared.faults.Fault.TheVariants as fault

@@ -1,6 +1,6 @@
 -- How a list is cut into its parts, and an approval into a name and a number.
-use Rattle.std.proofs.Common.{ℕ, ◌≡◌, ◌≢◌, ◌↔◌, ◌<◌, ◌&&◌, zero, suc, Bool, true, false, eqb, List, [], ◌∷◌, ◌++◌, length, get_or, length-append, Option, Some, None, IfSome, IfNone, Bor, refl, sym, ap, subst, ◌∙◌, lit<, arith}
-use Rattle.std.specs.Prelude.{All, IsTrue}
+use Rattle.std.proofs.Common.{ℕ, ◌≡◌, ◌≢◌, ◌<◌, ◌&&◌, zero, suc, Bool, true, false, eqb, List, [], ◌∷◌, ◌++◌, length, length-append, Option, Some, None, IfSome, IfNone, Bor, refl, sym, ap, subst, ◌∙◌, lit<, arith}
+use Rattle.std.specs.Prelude.{All}
 use Rattle.std.specs.List.{list_all}
 use mathlib.Core.Bool.{true≢false}
 use Rattle.std.proofs.lemmas.List.Elements.{All-nil, All-cons, All-head, All-tail}
@@ -8,9 +8,9 @@ use Rattle.std.proofs.lemmas.List.Splits.{slice_split_at, slice_split_none}
 use Rattle.std.proofs.lemmas.Str.Pattern.{IsSplitOnceResult, split_parts}
 use Rattle.std.proofs.lemmas.Bool.Decides.{nat_tests}
 use Rattle.fab_names.proofs.Splits.{Lacks, one_cut, cut_has}
-use Rattle.fab_names.specs.Names.{is_name_char, IsNameText, SpellsName}
+use Rattle.fab_names.specs.Names.{is_name_char, IsNameText}
 use Rattle.fab_policy.specs.declared.act.Approval.{Approval}
-use Rattle.fab_program_options.specs.Lists.{IsListText, IsPart, IsPartCut, SpellsApproval, parts_of}
+use Rattle.fab_program_options.specs.Lists.{IsPartCut, SpellsApproval, parts_of}
 use Rattle.fab_program_options.specs.Values.{SpellsNumber64}
 
 -- a text that lacks a character fails the test for it at each place

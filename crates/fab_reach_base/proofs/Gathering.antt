@@ -23,8 +23,8 @@ use Rattle.fab_mapping.specs.Mappings.{MappingRows}
 use Rattle.fab_reach_base.specs.Adding.{Adds, AddsOnly}
 use Rattle.fab_reach_base.specs.Records.{Records}
 use Rattle.fab_reach_base.specs.Orders.{path_cmp, Has, IsListOf}
-use Rattle.fab_reach_base.specs.Reach.{IsPort, IsInitiator, IsTarget, PathOf, Reaches}
-use Rattle.fab_reach_base.specs.Gathering.{Index, Lists, IsIndexOf, AreGroupsOf, MayMeet, UnitPath, GroupPath, HasTarget, IsTargeted, PathFrom, StopsAt}
+use Rattle.fab_reach_base.specs.Reach.{IsPort, IsInitiator, PathOf, Reaches}
+use Rattle.fab_reach_base.specs.Gathering.{Index, IsIndexOf, AreGroupsOf, MayMeet, UnitPath, GroupPath, HasTarget, IsTargeted, PathFrom, StopsAt}
 use Rattle.fab_reach_base.specs.Limits.{MoreThan, IsPathsFault}
 use Rattle.fab_reach_base.proofs.PathOrder.{path_total, path_exact}
 use Rattle.fab_reach_base.proofs.Adding.{Before, adds_as, adds_none, from_none, only_as, before_stop}

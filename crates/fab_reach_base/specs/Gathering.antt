@@ -14,7 +14,7 @@ use Rattle.fab_lemmas.specs.MapsOfSets.{in_tree, tree_has}
 use Rattle.fab_mapping_base.specs.Groups.{HostGroupRows, StorageGroupRows}
 use Rattle.fab_mapping.specs.Mappings.{MappingRows}
 use Rattle.fab_reach_base.specs.Records.{Records, zoning_at}
-use Rattle.fab_reach_base.specs.Reach.{IsTarget, PathOf, Reaches}
+use Rattle.fab_reach_base.specs.Reach.{IsTarget, PathOf}
 use Rattle.fab_reach_base.specs.Adding.{AddsOnly}
 use Rattle.fab_reach_base.specs.Orders.{path_cmp, Has}
 use Rattle.fab_reach_base.specs.declared.path.Path.{Path}

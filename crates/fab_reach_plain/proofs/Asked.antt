@@ -4,7 +4,7 @@ use Rattle.std.specs.BTreeSet.{BTreeSet}
 use Rattle.fab_reach_base.specs.Adding.{Adds}
 use Rattle.fab_reach_base.specs.Books.{AreReached}
 use Rattle.fab_reach_base.specs.Orders.{Has, IsListOf}
-use Rattle.fab_reach_base.specs.Reach.{IsPort, PathOf, Reaches}
+use Rattle.fab_reach_base.specs.Reach.{PathOf}
 use Rattle.fab_reach_base.specs.Records.{Records}
 use Rattle.fab_reach_base.specs.declared.path.Path.{Path}
 use Rattle.fab_reach_base.proofs.Adding.{Before, adds_as, from_none}

@@ -18,7 +18,7 @@ use Rattle.fab_lemmas.proofs.SeenEntries.{entry_decides}
 use Rattle.fab_reach_base.specs.Adding.{Adds}
 use Rattle.fab_reach_base.specs.Records.{Records}
 use Rattle.fab_reach_base.specs.Orders.{Has, IsListOf}
-use Rattle.fab_reach_base.specs.Reach.{IsPort, IsInitiator, ReachesFrom}
+use Rattle.fab_reach_base.specs.Reach.{IsInitiator, ReachesFrom}
 use Rattle.fab_reach_base.specs.declared.path.Path.{Path}
 use Rattle.fab_reach_base.proofs.Adding.{Before, adds_as, adds_none, from_none}
 use Rattle.fab_reach_base.proofs.Books.{list_as}

@@ -2,7 +2,6 @@
 use Rattle.std.proofs.Common.{ℕ, zero, suc, ◌≡◌, ◌↔◌, List, [], ◌∷◌, slice_get, Contains, Some, refl, sym, subst}
 use Rattle.sqlite.specs.Order.{Row}
 use Rattle.std.specs.List.{AllZip}
-use Rattle.std.proofs.lemmas.Option.{slice_get_within, get_or_from_slice_get}
 use Rattle.fab_store_world.specs.Positions.{IsOrder}
 use Rattle.fab_store_columns.proofs.Unique.{same_name}
 use Rattle.fab_store_columns.specs.PlanLines.{ShowsPlan}

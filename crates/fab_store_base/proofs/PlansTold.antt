@@ -1,5 +1,5 @@
 -- Plans and their rows: each row stands, and each that stands is there.
-use Rattle.std.proofs.Common.{◌≡◌, ℕ, ◌↔◌, List, Contains, Option, Some, is_some, Bool, true, false, inl, inr, refl, sym, ap, ◌∙◌, subst}
+use Rattle.std.proofs.Common.{◌≡◌, ℕ, ◌↔◌, List, Contains, Some, is_some, Bool, true, false, inl, inr, refl, sym, ap, ◌∙◌, subst}
 use mathlib.Core.Bool.{true≢false}
 use Rattle.std.specs.FinMap as map
 use Rattle.std.proofs.lemmas.List.Elements.{All-contains, All-contains_itself, All-weaker}

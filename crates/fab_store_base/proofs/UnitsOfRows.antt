@@ -1,7 +1,7 @@
 -- The units of the rows of configurations, and of changes to undo, are within their range.
 use Rattle.std.proofs.Common.{ℕ, ◌≡◌, inl, inr, List, [], ◌∷◌, ◌++◌, Contains, Option, Some, is_some, option_to_list, option_and_then, reverse, refl, sym, ap, ◌∙◌, subst, arith}
 use Rattle.std.specs.FinMap as map
-use Rattle.std.proofs.lemmas.List.Elements.{Contains-push_cases, Contains-append_cases}
+use Rattle.std.proofs.lemmas.List.Elements.{Contains-append_cases}
 use Rattle.std.proofs.lemmas.List.Sorted.{Contains-permutation, IsPermutation-reverse}
 use Rattle.fab_store_world.specs.Standing.{IsUndoRow}
 use Rattle.fab_reach_base.specs.Records.{ConfigRows}

@@ -8,7 +8,7 @@ use Rattle.fab_reach_base.proofs.Adding.{Before, adds_as, adds_none}
 use Rattle.fab_reach_base.proofs.Sets.{adds_insert}
 use Rattle.fab_store_rows.specs.declared.config_row.ConfigRow.{ConfigRow}
 use Rattle.fab_store_rows.specs.RowOrder.{row_cmp}
-use Rattle.fab_store_rows.specs.Gathering.{Has, Misses, Lacking, RowOfSome}
+use Rattle.fab_store_rows.specs.Gathering.{Has, Misses, Lacking}
 use Rattle.fab_store_rows.proofs.OrderOfRows.{row_total, row_exact}
 
 -- two steps, one after the other

@@ -1,5 +1,5 @@
 -- What an INSERT of one row and a DELETE do to a table.
-use Rattle.std.proofs.Common.{◌≡◌, ◌≢◌, ◌⊎◌, ℕ, ◌/◌, ◌^◌, ◌-◌, unwrap_or, slice_get, nat_le, Bool, true, false, cond, List, [], ◌∷◌, length, drop, None, Option, Ok, Err, Result, refl, sym, ap, subst, ◌∙◌, inl, inr}
+use Rattle.std.proofs.Common.{◌≡◌, ◌≢◌, ℕ, ◌/◌, ◌^◌, ◌-◌, unwrap_or, slice_get, nat_le, Bool, true, false, cond, List, [], ◌∷◌, length, drop, None, Option, Ok, refl, sym, ap, subst, ◌∙◌}
 use Rattle.std.specs.List.{AllByRecursion, list_all}
 use Rattle.sqlite.specs.declared.types.Value.{Value}
 use Rattle.sqlite.specs.declared.types.Value.TheVariants.{Null, Int}

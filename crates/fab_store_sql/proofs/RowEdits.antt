@@ -1,5 +1,5 @@
 -- What an edit leaves of a table's rows.
-use Rattle.std.proofs.Common.{◌≡◌, ℤ, true, false, not, List, [], ◌∷◌, refl, sym, ap, subst, ◌∙◌, inl, inr, is_eq, Equal, Less, Greater, Ordering}
+use Rattle.std.proofs.Common.{◌≡◌, ℤ, true, false, not, List, [], ◌∷◌, refl, sym, ap, subst, ◌∙◌, inl, inr, is_eq, Equal}
 use Rattle.std.proofs.lemmas.Bool.{and_parts, not-true, cases_Bool, both_ways}
 use Rattle.std.proofs.lemmas.Cmp.{tied_itself, tied_back}
 use Rattle.sqlite.specs.Order.{Row}

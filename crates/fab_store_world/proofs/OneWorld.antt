@@ -1,5 +1,5 @@
 -- The rows of all tables tell a world.
-use Rattle.std.proofs.Common.{◌≡◌, ℕ, List, Contains, Option, None, Some, refl, sym, ap, ◌∙◌, subst}
+use Rattle.std.proofs.Common.{◌≡◌, ℕ, List, Contains, Option, Some, refl, sym, ap, ◌∙◌, subst}
 use Rattle.std.specs.FinMap as map
 use Rattle.fab_lemmas.specs.Firsts.{HasAt}
 use Rattle.fab_names.proofs.OrderLaws.{name_total, name_exact}

@@ -1,14 +1,13 @@
 -- Serving a beginning that is whole.
-use Rattle.std.proofs.Common.{ℕ, ◌<◌, List, ◌++◌, length, Some, inl, inr, arith, length-append}
+use Rattle.std.proofs.Common.{ℕ, List, ◌++◌, Some, inl, inr, arith, length-append}
 use Rattle.fab_store_base.specs.declared.store.Store as store
 use Rattle.fab_wire_answers.specs.declared.answers.Answer.{Answer}
 use Rattle.fab_wire_base.specs.Whole.{IsWhole}
 use Rattle.fab_wire_base.proofs.WholeLemmas.{beginnings-tell}
 use Rattle.fab_desk.specs.Handled.{policy_of}
 use Rattle.fab_wire.specs.Known.{is_known}
-use Rattle.fab_wire.specs.Serving.{Side, side, Serves, IsAnswered}
+use Rattle.fab_wire.specs.Serving.{IsAnswered}
 use Rattle.fab_desk.specs.declared.desk.Desk.{Desk}
-use Rattle.fab_wire.specs.declared.outcome.Outcome.{Outcome}
 use Rattle.fab_wire.specs.declared.outcome.Outcome.TheVariants as outcome
 use Rattle.fab_wire.specs.Beginnings.{BeginningsServe}
 

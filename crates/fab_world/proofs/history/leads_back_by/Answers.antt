@@ -1,4 +1,4 @@
-use Rattle.std.proofs.Common.{[], ◌∷◌, refl, reverse, sym, ◌∙◌}
+use Rattle.std.proofs.Common.{[], ◌∷◌, refl, reverse, sym}
 use mathlib.Core.Bool.{true≢false}
 use Rattle.std.specs.BTreeMap.{get}
 use Rattle.fab_names.specs.Orders.{name_cmp}

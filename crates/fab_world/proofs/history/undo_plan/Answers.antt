@@ -1,5 +1,3 @@
-use Rattle.std.proofs.Common.{◌≡◌, true, false, sym, ◌∙◌}
-use mathlib.Core.Bool.{true≢false}
 use Rattle.std.specs.BTreeMap.{get}
 use Rattle.fab_names.specs.Orders.{name_cmp}
 use Rattle.fab_world.specs.History.{changes_at}

@@ -1,4 +1,4 @@
-use Rattle.std.proofs.Common.{ℕ, ◌≤◌, sym, ap, ◌∙◌, subst}
+use Rattle.std.proofs.Common.{ℕ, ◌≤◌, sym, ap, subst}
 use Rattle.fab_lemmas.proofs.SeenMaps.{same_look_ups}
 use Rattle.fab_mapping.specs.Soundness.{Each}
 use Rattle.fab_names.proofs.OrderLaws.{name_total}
