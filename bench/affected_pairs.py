@@ -48,13 +48,9 @@ process while it is asked on and on (bench/samples.py). Its parts:
 
 Stagings before an activation are not counted.
 """
-import argparse
 import contextlib
-import os
 import pathlib
-import platform
 import re
-import sqlite3
 import statistics
 import subprocess
 import sys
@@ -68,18 +64,6 @@ SIZES = [16, 128, 1023]
 ARRAYS, TARGETS, UNITS, QUARTERS = 16, 4, 8, 4
 LINES_A_PLAN = 200
 CONNECTIONS, SECONDS = 201, 1.0
-
-# All may do everything: a verdict takes next to nothing.
-POLICY = """
-[[callers]]
-name = "ada"
-token = "t-ada"
-roles = []
-tenants = "*"
-[[rules]]
-name = "all"
-actions = ["import", "inventory", "stage", "dryrun", "activate"]
-"""
 
 # The lone host's port, the target that it has, and where it is logged in.
 LONE, DISK = 0x11 << 56 | 1, 0x51 << 56 | 1
@@ -392,7 +376,7 @@ def run(kind, programs, work, asked_for):
     """All of a kind of worlds; `programs` has names and paths, the first is the one that the run is about."""
     worlds = [World(kind, hosts) for hosts in SIZES]
     policy, found = work / "policy.toml", {}
-    policy.write_text(POLICY)
+    policy.write_text(desk.OPEN_POLICY)
     with contextlib.ExitStack() as served:
         for world in worlds:
             made = work / f"{kind}-{world.hosts}.db"
@@ -415,9 +399,7 @@ def storage_groups(world):
 
 
 def words_of():
-    words = argparse.ArgumentParser(description=__doc__, formatter_class=argparse.RawDescriptionHelpFormatter)
-    words.add_argument("--program", type=pathlib.Path, help="a built program")
-    words.add_argument("--before", type=pathlib.Path, help="an earlier one, for the same rows")
+    words = desk.comparing_words(__doc__)
     words.add_argument("--connections", type=int, default=CONNECTIONS, help="how many each process gets of a kind, odd")
     words.add_argument("--seconds", type=float, default=SECONDS, help="how long samples are taken of a kind; 0: never")
     words.add_argument("worlds", nargs="*", metavar="WORLD", help="few, many, wide")
@@ -429,16 +411,11 @@ def words_of():
 
 def main():
     asked = words_of()
-    if asked.program:
-        os.environ["SANDESK"] = str(asked.program)
-    programs = {"desk": desk.program()}
-    if asked.before:
-        programs["before"] = asked.before.resolve()
+    programs = desk.compared(asked)
     if asked.seconds and not samples.is_possible():
         print("perf can take no samples: parts are not told.")
         asked.seconds = 0
-    print(f"{os.cpu_count()} processors, load {os.getloadavg()[0]:.1f}.")
-    print(f"Client: Python {platform.python_version()}, SQLite {sqlite3.sqlite_version}.")
+    desk.tell_machine()
     for kind in asked.worlds or ["few", "many", "wide"]:
         with tempfile.TemporaryDirectory() as folder:
             try:

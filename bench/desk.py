@@ -9,6 +9,7 @@ import functools
 import json
 import os
 import pathlib
+import platform
 import random
 import re
 import shutil
@@ -63,6 +64,18 @@ actions = ["import", "inventory", "activate", "rollback"]
 scope = "own"
 """
 
+# All may do everything: a verdict takes next to nothing.
+OPEN_POLICY = """
+[[callers]]
+name = "ada"
+token = "t-ada"
+roles = []
+tenants = "*"
+[[rules]]
+name = "all"
+actions = ["import", "inventory", "stage", "dryrun", "activate"]
+"""
+
 TABLES = ["meta", "ports", "holders", "volumes", "zoning", "active", "groups", "group_parts", "plans",
           "approvals", "undo", "paths"]
 
@@ -81,6 +94,30 @@ def program():
     if not found.exists():
         sys.exit(f"there is no program {found}")
     return found
+
+
+def comparing_words(description):
+    """The words of a script that may run an earlier program beside the built one."""
+    words = argparse.ArgumentParser(description=description, formatter_class=argparse.RawDescriptionHelpFormatter)
+    words.add_argument("--program", type=pathlib.Path, help="a built program")
+    words.add_argument("--before", type=pathlib.Path, help="an earlier one, for the same rows")
+    return words
+
+
+def compared(asked):
+    """Names and paths of the programs that these words name: the one that the run is about comes first."""
+    if asked.program:
+        os.environ["SANDESK"] = str(asked.program)
+    programs = {"desk": program()}
+    if asked.before:
+        programs["before"] = asked.before.resolve()
+    return programs
+
+
+def tell_machine():
+    """What the figures of a run depend on."""
+    print(f"{os.cpu_count()} processors, load {os.getloadavg()[0]:.1f}. "
+          f"Python {platform.python_version()}, SQLite {sqlite3.sqlite_version}.")
 
 
 # ---- requests

@@ -20,11 +20,8 @@ new desk tells what starting takes by itself, and is taken away. `SQLite` reads 
 The least of some runs is told in milliseconds, in the order of the groups, and then of the activations; `times` is how
 many times as long the desk takes as SQLite.
 """
-import argparse
 import contextlib
-import os
 import pathlib
-import platform
 import re
 import sqlite3
 import subprocess
@@ -41,18 +38,6 @@ LINES_A_PLAN = 200
 ARRAYS, TARGETS = 16, 4
 YEAR_HOSTS, YEAR_PLANS = 200, 1013
 PLANS = 1000
-
-# All may do everything: a verdict takes next to nothing.
-POLICY = """
-[[callers]]
-name = "ada"
-token = "t-ada"
-roles = []
-tenants = "*"
-[[rules]]
-name = "all"
-actions = ["import", "inventory", "stage", "dryrun", "activate"]
-"""
 
 
 # ---- worlds
@@ -158,7 +143,7 @@ class Timed:
     def __init__(self, programs, folder, times):
         self.programs, self.folder, self.times = programs, folder, times
         self.policy, self.empty = folder / "policy.toml", folder / "empty.db"
-        self.policy.write_text(POLICY)
+        self.policy.write_text(desk.OPEN_POLICY)
         desk.make(self.empty)
         self.starts = {name: opening(path, self.empty, self.policy, 5 * times) for name, path in programs.items()}
 
@@ -245,9 +230,7 @@ CASES = {"groups": groups, "year": year, "plans": plans}
 
 
 def words_of():
-    words = argparse.ArgumentParser(description=__doc__, formatter_class=argparse.RawDescriptionHelpFormatter)
-    words.add_argument("--program", type=pathlib.Path, help="a built program")
-    words.add_argument("--before", type=pathlib.Path, help="an earlier one")
+    words = desk.comparing_words(__doc__)
     words.add_argument("--most", type=int, default=IN_FORCE[-1], help="the most activations in force")
     words.add_argument("--times", type=int, default=3, help="how often each is timed")
     words.add_argument("cases", nargs="*", metavar="CASE", help=", ".join(CASES))
@@ -259,13 +242,8 @@ def words_of():
 
 def main():
     asked = words_of()
-    if asked.program:
-        os.environ["SANDESK"] = str(asked.program)
-    programs = {"desk": desk.program()}
-    if asked.before:
-        programs["before"] = asked.before.resolve()
-    print(f"{os.cpu_count()} processors, load {os.getloadavg()[0]:.1f}. "
-          f"Python {platform.python_version()}, SQLite {sqlite3.sqlite_version}.")
+    programs = desk.compared(asked)
+    desk.tell_machine()
     for name in asked.cases or CASES:
         with tempfile.TemporaryDirectory() as folder:
             try:
