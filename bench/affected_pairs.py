@@ -71,10 +71,10 @@ SLOT, OTHER_SLOT = 4090, 4091
 
 # Which part is at work, by the names of functions: of the book below it, with the rows that it is handed; of the limit
 # below it, but the sight that stops past the limit by itself alone.
-OF_BOOK = re.compile(r"fab_reach\w*::(?!config|path|view)|fab_desk_machine::moves::")
-OF_LIMIT = re.compile(r"fab_reach::offers::|fab_world::present::|fab_desk_machine::limits::|fab_reach\w*::.*few")
+OF_BOOK = re.compile(r"fab_reach\w*::(?!config|path|view)|fab_desk_trials::moves::")
+OF_LIMIT = re.compile(r"fab_reach::offers::|fab_world::present::|fab_desk_trials::limits::|fab_reach\w*::.*few")
 OF_LIMITED = re.compile(r"fab_reach_books::limited::")
-OF_MACHINE = re.compile(r"fab_desk_machine::(?:proposing|steps|change::take_over)")
+OF_MACHINE = re.compile(r"fab_desk_(?:machine::(?:proposing|change::take_over)|trials::steps)")
 OF_OTHERS = re.compile(r"fab_(?:desk|plans|policy|store|wire|world|program)|sqlite|main|fab_reach_base::config::"
                        r"|fab_(?:inventory|zoning|mapping)\w*::\w+::\w+::(?:drop|copy)")
 OF_LETTING = re.compile(r"std_\w+::.*(?:destroy|drop)")

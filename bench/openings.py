@@ -11,7 +11,8 @@ as `/dev/shm`, where no disk is waited for. CASE is one of these; all without on
     groups    100, 250 and 2,000 hosts, each with a port, a zone, a host group and a storage group of its own, and 300,
               1,000 and 3,000 activations in force, of two steps each: a unit of a group gets another volume
     year      200 hosts, and 1,013 activations in force of 2 to 40 steps, as in a year of use
-    plans     1,000 staged plans of 65,200 bytes
+    plans     1,000 staged plans of 65,200 bytes; `apart` is an opening by a process in whose environment
+              MALLOC_MMAP_THRESHOLD_ is 32768
 
 An opening is timed by a run of `once` with no request: the process starts, opens the database, and ends. A run over a
 new desk tells what starting takes by itself, and is taken away. `SQLite` reads all rows of all tables, by Python. With
@@ -38,6 +39,8 @@ LINES_A_PLAN = 200
 ARRAYS, TARGETS = 16, 4
 YEAR_HOSTS, YEAR_PLANS = 200, 1013
 PLANS = 1000
+# With this glibc takes each block of 32 KiB and more from the system by itself, and gives it back when it is let go.
+APART = {"MALLOC_MMAP_THRESHOLD_": "32768"}
 
 
 # ---- worlds
@@ -208,7 +211,8 @@ def plan_text(turn):
 
 
 def plans(timed, _):
-    print(f"\n{'memory, MiB':<36}{'a new desk':>12}{'1,000 plans':>12}{'opened':>12}{'most':>12}{'a plan, bytes':>15}")
+    print(f"\n{'memory, MiB':<36}{'a new desk':>12}{'1,000 plans':>12}{'opened':>12}{'most':>12}{'a plan, bytes':>15}"
+          f"{'apart':>12}{'most':>12}")
     for name, path in timed.programs.items():
         database = timed.folder / f"plans-{name}.db"
         subprocess.run([path, "init", "--db", database], check=True)
@@ -222,8 +226,10 @@ def plans(timed, _):
             staged = resident(served.process)
         with desk.Desk(database, timed.policy, f"{database}.log", executable=path) as served:
             opened, highest = resident(served.process), served.peak()
-        told = "".join(f"{value / 2**20:>12.1f}" for value in (small, staged, opened, highest))
-        print(f"{name + f', {size / PLANS:.0f} bytes each':<36}{told}{(opened - small) / PLANS:>15.0f}", flush=True)
+        with desk.Desk(database, timed.policy, f"{database}.log", executable=path, env={**os.environ, **APART}) as served:
+            apart = resident(served.process), served.peak()
+        told, last = ("".join(f"{value / 2**20:>12.1f}" for value in them) for them in ((small, staged, opened, highest), apart))
+        print(f"{name + f', {size / PLANS:.0f} bytes each':<36}{told}{(opened - small) / PLANS:>15.0f}{last}", flush=True)
 
 
 CASES = {"groups": groups, "year": year, "plans": plans}

@@ -507,6 +507,26 @@ says 'a dry run tells the path that it would give' 0 '{"gained":['"$first"'],"lo
     dryrun --db "$db" --policy "$policy" --token t-ada --plan p1 --now 0
 says 'a dry run of a plan that is not there' 1 "$not_found"$'\n' '' \
     dryrun --db "$db" --policy "$policy" --token t-ada --plan p9 --now 0
+changed='revision 7
+- meta active.A -
++ meta active.A s1
+'"+ zoning A alias disk wwpn=$t1
++ zoning A zone z1 wwpn=$i1
++ zoning A zone z1 alias=disk
++ zoning A set s1 z1
++ active A z1 wwpn=$i1
++ active A z1 wwpn=$t1"'
++ groups host hosts1 blue
++ groups storage g1 blue arr1 exposed
++ group_parts host hosts1 host db1
++ group_parts storage g1 hostgroup hosts1
+'"+ group_parts storage g1 target $t1"'
++ group_parts storage g1 unit 0 v1
+paths: 0 lost, 1 gained; hosts left on one fabric: none; hosts left without a path: none'
+says 'the rows that it would change' 0 "$changed"$'\n' '' \
+    diff --db "$db" --policy "$policy" --token t-ada --plan p1
+says 'eve may not try it, and is told no row' 1 "$(denied role 6 reviewers)"$'\n' '' \
+    diff --db "$db" --policy "$policy" --token t-eve --plan p1
 asks 'bob, who is to approve it, tries it too' t-bob GET /plans/p1/dryrun 200 \
     '{"gained":['"$first"'],"lost":[],"plan":"p1"}'
 asks 'eve may not try it' t-eve GET /plans/p1/dryrun 403 "$(denied role 6 reviewers)"
@@ -560,17 +580,19 @@ way=$(printf 'host %s\n' "$(row db1 blue 2)"
     printf 'port %s\n' "$(row $i1 $node A)" "$(row $i4 $node B)"
     printf 'volume %s\n' "$(row v1 blue arr1 1073741824)"
     printf 'group %s\n' "$(row g1 blue arr1 exposed)")
-looks 'why db1 reaches v1' 0 "$way"$'\n'"path A $i1 -> $t1 unit 0"$'\n''YES  1 path' t-cyd \
+looks 'why db1 reaches v1' 0 \
+    "$way"$'\n'"pair A $i1 -> $t1  zone z1"$'\n'"path A $i1 -> $t1 unit 0"$'\n''YES  1 path: A 1, B 0' t-cyd \
     why --host db1 --volume v1
 looks 'a host and a volume that are not there' 1 \
-    '{"found":[],"host":"db2","missing":"host","reaches":false,"volume":"v9"}' t-cyd \
+    '{"found":[],"host":"db2","missing":"host","pairs":[],"reaches":false,"volume":"v9"}' t-cyd \
     why --host db2 --volume v9 --json
 looks 'cyd is told of another host as of none' 1 \
     "$(printf '%s\n' "$way" | tail -n 2)"$'\n''NO  there is no such host, or it is not yours' t-cyd \
     why --host db2 --volume v1
-looks 'who reaches v1' 0 "$(row HOST A B; row db1 1 0)" t-cyd who --volume v1
-looks 'eve is told of nobody' 0 "$(row HOST A B)" t-eve who --volume v1
-looks 'the same as JSON' 0 '[{"a":1,"b":0,"host":"db1"}]' t-ada who --volume v1 --json
+looks 'who reaches v1, and by what' 0 "$(row HOST TENANT UNIT A B GROUPS; row db1 blue 0 1 0 g1)" t-cyd who --volume v1
+looks 'eve is told of nobody' 0 "$(row HOST TENANT UNIT A B GROUPS)" t-eve who --volume v1
+looks 'the same as JSON' 0 \
+    '[{"a":1,"b":0,"groups":["g1"],"host":"db1","tenant":"blue","units":[0]}]' t-ada who --volume v1 --json
 looks 'what is around a target' 0 \
     "$(printf 'port %s\n' "$(row $t1 50:00:00:00:00:00:00:00 A)"
     printf 'zone %s\n' "$(row A z1 2)"
@@ -594,6 +616,12 @@ looks 'the active ones as JSON' 0 \
     t-eve list plans --state active --json
 looks 'the zones of both fabrics' 0 "$(row FABRIC NAME MEMBERS; row A z1 2)" t-eve list zones
 looks 'nobody has this token' 1 '{"code":1,"error":"no-caller"}' t-zed list hosts
+gone='ports: 0 listed, 0 new, 0 moved, 5 logged out
+paths: 0 gained, 1 lost (1 host); over A alone or B alone afterwards: none; without a path afterwards: 1 host: db1'
+looks 'what an import would lose' 0 "$gone" t-ada tryimport --fabric A --file "$here/no-ports.csv"
+looks 'as much as it may' 0 "$gone" t-ada tryimport --fabric A --file "$here/no-ports.csv" --most-lost 1
+looks 'more than it may' 1 "$gone"$'\n''refused: 1 > 0' t-ada \
+    tryimport --fabric A --file "$here/no-ports.csv" --most-lost 0
 says 'there is no such kind' 2 '' $'sandesk: words\n' \
     list --db "$db" --policy "$policy" --token t-ada switches
 says 'only plans are in a state' 2 '' $'sandesk: words\n' \
@@ -672,6 +700,23 @@ asks 'and what named it can not be put back' t-ada POST /plans/p7/rollback 409 \
     '{"code":18,"error":"gone","name":"v1"}'
 replies 'v1 comes back' "$here/put-v1.http" 200 '{"revision":16}'
 takes_back 'and its paths with it' t-ada p7 "$first,$second" '' 17
+
+part 'three plans taken back in turn, each by a desk that is opened anew, in a copy'
+
+lasting=$db
+db=$work/back.db
+cp "$lasting" "$db"
+if [ -e "$lasting-wal" ]; then cp "$lasting-wal" "$db-wal"; fi
+takes_back 'the last one in force' t-ada p5 '' "$green" 18
+asks 'p1 has to wait for the one on fabric B' t-ada POST /plans/p1/rollback 409 \
+    '{"code":17,"error":"not-last","last":"q1"}'
+takes_back 'the one on fabric B' t-ada q1 '' "$second" 19
+takes_back 'the first' t-ada p1 '' "$first" 20
+asks 'nothing is left of it' t-ada GET /groups/g1 404 "$not_found"
+asks 'nor of its zone' t-ada GET /zones/A/z1 404 "$not_found"
+asks 'and it stays as it is' t-ada POST /plans/p1/rollback 409 \
+    '{"code":16,"error":"wrong-state","state":"rolled-back"}'
+db=$lasting
 
 part 'the default zone, in a desk of its own'
 

@@ -1,16 +1,22 @@
 #!/usr/bin/env python3
-"""Makes the worlds that crates/fab_looks_conformance plays: 100 random worlds as text, and for each pair of a
-host and a volume, and for each volume, what two callers have to be told who ask `why` and `who`. The answers
+"""Makes the worlds that crates/fab_looks_conformance plays: a few that were written by hand with their answers,
+and 100 random worlds as text, and for each pair of a host and a volume, and for each volume, what two callers
+have to be told who ask `why` and `who`: the answer, the pairs of ports, and by what storage groups. The answers
 follow from the definitions alone, by sets and loops over all there is, and nothing here calls the desk.
 
     python3 tools/looks_worlds.py > crates/fab_looks_conformance/data/worlds.txt
 
 The form of a line is told in crates/fab_looks_conformance/src/main.rt."""
+import os
 import random
 
 WORLDS = 100
 TENANTS = ["blue", "green"]
 CALLERS = {"all": TENANTS + ["store"], "blue": ["blue"]}
+
+# The worlds that were written by hand. At A the ports are in no zone and the default zone joins them, at B a zone
+# does; then no zone has both, and the default zone denies; then the storage group is another's, as is the host group.
+BY_HAND = os.path.join(os.path.dirname(os.path.realpath(__file__)), "looks_by_hand.txt")
 
 
 def wwn(number):
@@ -130,8 +136,9 @@ class World:
         for i in range(rng.randint(1, 5)):
             array = rng.choice(sorted(self.arrays))
             group = {"hosts": [], "targets": [], "units": {}, "exposed": rng.random() < 0.8}
+            group["tenant"] = rng.choice(TENANTS)
             self.groups[f"g{i}"] = group
-            self.plan(f"sg.new g{i} {rng.choice(TENANTS)} {array}")
+            self.plan(f"sg.new g{i} {group['tenant']} {array}")
             for name in sorted(self.host_groups):
                 if rng.random() < 0.7:
                     group["hosts"].append(name)
@@ -253,17 +260,64 @@ class World:
                     told.append(f"{host} {sum(it[0] == 'A' for it in paths)} {sum(it[0] == 'B' for it in paths)}")
         self.say("who", caller, volume, "=", " ".join(told) or "nobody")
 
+    def is_own(self, caller, host, volume):
+        hosts = host in self.hosts and self.sees(caller, self.hosts[host])
+        return hosts and volume in self.volumes and self.sees(caller, self.volumes[volume][0])
+
+    def zoned(self, name, fabric):
+        """The zones of a port: none, one by its name, or how many."""
+        zones = sorted(self.zones_of(name, fabric))
+        return f"1:{zones[0]}" if len(zones) == 1 else str(len(zones))
+
+    def tie(self, p, q, fabric):
+        """Why two ports may communicate, or the zones of each."""
+        if not self.are_joined(p, q, fabric):
+            return f"apart {self.zoned(p, fabric)} {self.zoned(q, fabric)}"
+        both = sorted(self.zones_of(p, fabric) & self.zones_of(q, fabric))
+        return f"zone {both[0]}" if both else "default"
+
+    def ask_pairs(self, caller, host, volume):
+        pairs = {
+            (f, p, q)
+            for g in (self.serving(host) if self.is_own(caller, host, volume) else [])
+            if volume in g["units"].values() and self.sees(caller, g["tenant"])
+            for f, p in self.logins(host)
+            for q in g["targets"]
+            if self.is_at(q, f)
+        }
+        told = [f"{f} {wwn(p)} {wwn(q)} {self.tie(p, q, f)}" for f, p, q in sorted(pairs)]
+        self.say("pairs", caller, host, volume, "=", ", ".join(told) or "none")
+
+    def ask_by(self, caller, volume):
+        told = []
+        for host in sorted(self.hosts):
+            if not self.is_own(caller, host, volume) or not self.paths(host, volume):
+                continue
+            serving = self.serving(host)
+            own = {
+                name: [u for u, there in g["units"].items() if there == volume]
+                for name, g in self.groups.items()
+                if g in serving and g["exposed"] and volume in g["units"].values() and self.sees(caller, g["tenant"])
+            }
+            units = ",".join(map(str, sorted({u for us in own.values() for u in us}))) or "-"
+            told.append(f"{host} {self.hosts[host]} {units} {','.join(sorted(own)) or '-'}")
+        self.say("by", caller, volume, "=", ", ".join(told) or "nobody")
+
     def ask(self):
         for caller in CALLERS:
             # all there is; and names that are not there, or are an array's
             for volume in [*sorted(self.volumes), "v9"]:
                 for host in [*sorted(self.hosts), *(["h9", "r0"] if volume == "v0" else [])]:
                     self.ask_why(caller, host, volume)
+                    self.ask_pairs(caller, host, volume)
                 self.ask_who(caller, volume)
+                self.ask_by(caller, volume)
 
 
 if __name__ == "__main__":
-    print("# 100 random worlds, and what callers are told of them: made by tools/looks_worlds.py")
+    print("# worlds by hand and 100 random ones, and what callers are told of them: made by tools/looks_worlds.py")
+    with open(BY_HAND, encoding="utf-8") as worlds:
+        print(worlds.read())
     for number in range(WORLDS):
         world = World(random.Random(f"looks {number}"))
         world.make()

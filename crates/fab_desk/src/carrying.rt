@@ -4,7 +4,7 @@ ghost use Rattle.fab_desk_base.specs.Answers.{IsMove};
 ghost use Rattle.fab_desk_base.specs.declared.fault.DeskFault.TheVariants as faults;
 ghost use Rattle.fab_desk_base.specs.declared.reply.Reply.TheVariants as replies;
 ghost use Rattle.fab_desk_machine.specs.Reports.{reply_of};
-ghost use Rattle.fab_desk_machine.specs.Trials.{IsStepReady};
+ghost use Rattle.fab_desk_trials.specs.Trials.{IsStepReady};
 ghost use Rattle.fab_desk_commands.specs.Nexts.{next_world, with_room, Suits};
 ghost use Rattle.fab_reach_base.specs.declared.book.Delta.{Delta};
 ghost use Rattle.fab_store_base.specs.Calls.{Rises};

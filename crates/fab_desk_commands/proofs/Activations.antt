@@ -134,20 +134,20 @@ changed_by w n c Same h = absurd h
 changed_by w n c (Stock v d) h = absurd h
 changed_by w n c (Staged m p) h = absurd h
 changed_by w n c (Turned m t) h = absurd h
-changed_by w n c (Reconfigured config m Withdrawn order) h = absurd h.2
-changed_by w n c (Reconfigured config m (Approved given) order) h = absurd h.2
-changed_by w n c (Reconfigured config m (RolledBack d) order) h = absurd h.2
-changed_by {A} w n c (Reconfigured config m (Activated d) order) h = (change_in d, h.2, world)
+changed_by w n c (Reconfigured config m Withdrawn) h = absurd h.2
+changed_by w n c (Reconfigured config m (Approved given)) h = absurd h.2
+changed_by w n c (Reconfigured config m (RolledBack d)) h = absurd h.2
+changed_by {A} w n c (Reconfigured config m (Activated d)) h = (change_in d, h.2, world)
   where
-    world : (p : PlanRecord) → IsPlan w n p → placed config order.items (turned_at m (Activated d) w) ≡ after w n p c (change_in d)
-    world p is = (λ i. placed (h.0 i) (h.3 i) (turned_at (h.1 i) (Activated d) w)) ∙ ap (λ o. placed c (w.order ++ (n ∷ [])) (with_turn n (Activated d) o w)) is
+    world : (p : PlanRecord) → IsPlan w n p → placed config (w.order ++ m ∷ []) (turned_at m (Activated d) w) ≡ after w n p c (change_in d)
+    world p is = (λ i. placed (h.0 i) (w.order ++ h.1 i ∷ []) (turned_at (h.1 i) (Activated d) w)) ∙ ap (λ o. placed c (w.order ++ (n ∷ [])) (with_turn n (Activated d) o w)) is
 
 pub is_reconfiguration : {A : Type 0} (w : WorldRows) (n : List ℕ) (c : ConfigRows) (next : Next A) → IsActivation w n c next → IsReconfiguration n next
 is_reconfiguration w n c Same h = absurd h
 is_reconfiguration w n c (Stock v d) h = absurd h
 is_reconfiguration w n c (Staged m p) h = absurd h
 is_reconfiguration w n c (Turned m t) h = absurd h
-is_reconfiguration w n c (Reconfigured config m t order) h = h.1
+is_reconfiguration w n c (Reconfigured config m t) h = h.1
 
 -- it tells what it changed
 pub activation_tells : {A : Type 0} (w : WorldRows) (n : List ℕ) (c : ConfigRows) (next : Next A) → IsActivation w n c next → TellsRows w next
@@ -155,17 +155,17 @@ activation_tells w n c Same h = absurd h
 activation_tells w n c (Stock v d) h = absurd h
 activation_tells w n c (Staged m p) h = absurd h
 activation_tells w n c (Turned m t) h = absurd h
-activation_tells w n c (Reconfigured config m Withdrawn order) h = absurd h.2
-activation_tells w n c (Reconfigured config m (Approved given) order) h = absurd h.2
-activation_tells w n c (Reconfigured config m (RolledBack d) order) h = absurd h.2
-activation_tells w n c (Reconfigured config m (Activated d) order) h = subst (λ k. IsDifference w.config k d.taken.items d.added.items) (sym h.0) h.2
+activation_tells w n c (Reconfigured config m Withdrawn) h = absurd h.2
+activation_tells w n c (Reconfigured config m (Approved given)) h = absurd h.2
+activation_tells w n c (Reconfigured config m (RolledBack d)) h = absurd h.2
+activation_tells w n c (Reconfigured config m (Activated d)) h = subst (λ k. IsDifference w.config k d.taken.items d.added.items) (sym h.0) h.2
 
 pub activation_suits : {A : Type 0} (w : WorldRows) (n : List ℕ) (p : PlanRecord) → IsPlan w n p → state_of p.standing ≡ state.Staged → (c : ConfigRows) (next : Next A) → IsActivation w n c next → w.revision < MOST_CHANGES → Suits w next
 activation_suits w n p is waits c Same h few = absurd h
 activation_suits w n p is waits c (Stock v d) h few = absurd h
 activation_suits w n p is waits c (Staged m q) h few = absurd h
 activation_suits w n p is waits c (Turned m t) h few = absurd h
-activation_suits w n p is waits c (Reconfigured config m Withdrawn order) h few = absurd h.2
-activation_suits w n p is waits c (Reconfigured config m (Approved given) order) h few = absurd h.2
-activation_suits w n p is waits c (Reconfigured config m (RolledBack d) order) h few = absurd h.2
-activation_suits w n p is waits c (Reconfigured config m (Activated d) order) h few = ((p, subst (λ k. IsPlan w k p) (sym h.1) is, waits), few, activation_tells w n c (Reconfigured config m (Activated d) order) h)
+activation_suits w n p is waits c (Reconfigured config m Withdrawn) h few = absurd h.2
+activation_suits w n p is waits c (Reconfigured config m (Approved given)) h few = absurd h.2
+activation_suits w n p is waits c (Reconfigured config m (RolledBack d)) h few = absurd h.2
+activation_suits w n p is waits c (Reconfigured config m (Activated d)) h few = ((p, subst (λ k. IsPlan w k p) (sym h.1) is, waits), few, activation_tells w n c (Reconfigured config m (Activated d)) h)

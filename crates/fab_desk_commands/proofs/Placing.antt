@@ -1,17 +1,21 @@
 -- Room for the parts of a change: over it they make the same world, and given back it leaves the world
 -- as it was.
-use Rattle.std.proofs.Common.{◌≡◌, ℕ, List, Bool, true, false, cond, Option, None, Some, is_some, refl, sym, ap, ◌∙◌}
+use Rattle.std.proofs.Common.{◌≡◌, ◌-◌, ℕ, List, [], ◌∷◌, ◌++◌, length, Bool, true, false, cond, Option, None, Some, is_some, refl, sym, ap, ◌∙◌, arith}
 use mathlib.Core.Bool.{true≢false}
 use Rattle.std.specs.Cmp.{Equal-is, tied_itself}
 use Rattle.std.specs.FinMap as map
 use Rattle.std.specs.Ordering.{eq_by_cmp, is_eq}
+use Rattle.std.proofs.lemmas.List.{length-append, take_at}
 use Rattle.fab_names.specs.Orders.{name_cmp}
 use Rattle.fab_names.proofs.OrderLaws.{name_total, name_exact}
 use Rattle.fab_world.specs.PlanRecords.{PlanRecord}
 use Rattle.fab_world.specs.Worlds.{WorldRows, records_of}
-use Rattle.fab_desk_commands.specs.Nexts.{blank_plan, next_world, with_room, without_room, IsReadyFor, Suits}
+use Rattle.fab_desk_base.specs.Effects.{with_plan}
+use Rattle.fab_desk_commands.specs.Nexts.{all_but_last, blank_plan, next_world, order_with_room, order_without_room, with_room, without_room, Suits}
 use Rattle.fab_desk_commands.specs.declared.next.Next.{Next}
 use Rattle.fab_desk_commands.specs.declared.next.Next.TheVariants.{Same, Stock, Staged, Turned, Reconfigured}
+use Rattle.fab_desk_commands.specs.declared.next.Turn.{Turn}
+use Rattle.fab_desk_commands.specs.declared.next.Turn.TheVariants.{Withdrawn, Approved, Activated, RolledBack}
 
 abbrev Plans : Type 0
 Plans = map.FinMap name_cmp PlanRecord
@@ -45,11 +49,30 @@ taken_back plans n p absent = map.same_map name_total name_exact _ _ (λ k.
     ∙ put_and_taken (eq_by_cmp name_cmp k n) p (map.get plans k) none)
 
 -- a plan that is put is there
-put_there : (plans : Plans) (n : List ℕ) (p : PlanRecord) → map.contains_key (map.insert plans n p) n ≡ true
+pub put_there : (plans : Plans) (n : List ℕ) (p : PlanRecord) → map.contains_key (map.insert plans n p) n ≡ true
 put_there plans n p = ap is_some (map.get-insert name_total plans n p n ∙ ap (λ b. cond b (Some p) (map.get plans n)) (ap is_eq (tied_itself name_total n)))
 
 abbrev with_plans : WorldRows → Plans → WorldRows
 with_plans w plans = record w { plans = plans }
+
+-- ---- the order
+
+-- names with one more behind them, without the last
+pub without_last : (rest : List (List ℕ)) (n : List ℕ) → all_but_last (rest ++ n ∷ []) ≡ rest
+without_last rest n = let grown = length-append rest (n ∷ []) in take_at rest (n ∷ []) (length (rest ++ n ∷ []) - 1) (omega (arith, grown))
+
+module _ {A : Type 0} (n : List ℕ) (order : List (List ℕ)) where
+  order_back : (t : Turn A) → order_without_room t (order_with_room t n order) ≡ order
+  order_back Withdrawn = refl
+  order_back (Approved given) = refl
+  order_back (Activated change) = without_last order n
+  order_back (RolledBack change) = refl
+
+-- ---- the world
+
+-- a plan that is put in the place made for it is as one that is put
+pub placed_over : (w : WorldRows) (n : List ℕ) (p : PlanRecord) → with_plan n p (with_plan n (blank_plan n) w) ≡ with_plan n p w
+placed_over w n p = ap (with_plans w) (twice w.plans n (blank_plan n) p)
 
 module _ {A : Type 0} (w : WorldRows) where
   -- room is no port, no holder, no volume, and nothing of the configuration
@@ -58,23 +81,15 @@ module _ {A : Type 0} (w : WorldRows) where
   records_stay (Stock v d) = refl
   records_stay (Staged n p) = refl
   records_stay (Turned n t) = refl
-  records_stay (Reconfigured c n t order) = refl
+  records_stay (Reconfigured c n t) = refl
 
-  -- over the room the parts make the same world
-  pub same_next : (next : Next A) → next_world (with_room w next) next ≡ next_world w next
-  same_next Same = refl
-  same_next (Stock v d) = refl
-  same_next (Staged n p) = ap (with_plans w) (twice w.plans n (blank_plan n) p)
-  same_next (Turned n t) = refl
-  same_next (Reconfigured c n t order) = refl
-
-  -- the parts are for the world with room for them
-  pub room_made : (next : Next A) → Suits w next → IsReadyFor (with_room w next) next
-  room_made Same h = h
-  room_made (Stock v d) h = h
-  room_made (Staged n p) h = put_there w.plans n (blank_plan n)
-  room_made (Turned n t) h = h
-  room_made (Reconfigured c n t order) h = h
+  -- over the room the parts make a world of the same inventory and configuration
+  pub records_led : (next : Next A) → records_of (next_world (with_room w next) next) ≡ records_of (next_world w next)
+  records_led Same = refl
+  records_led (Stock v d) = refl
+  records_led (Staged n p) = refl
+  records_led (Turned n t) = refl
+  records_led (Reconfigured c n t) = refl
 
   -- room that is given back
   pub given_back : (next : Next A) → Suits w next → without_room (with_room w next) next ≡ w
@@ -82,4 +97,4 @@ module _ {A : Type 0} (w : WorldRows) where
   given_back (Stock v d) h = refl
   given_back (Staged n p) h = ap (with_plans w) (taken_back w.plans n (blank_plan n) h)
   given_back (Turned n t) h = refl
-  given_back (Reconfigured c n t order) h = refl
+  given_back (Reconfigured c n t) h = ap (λ (order : List (List ℕ)). let v : WorldRows = record w { order = order } in v) (order_back n w.order t)

@@ -33,7 +33,7 @@ use Rattle.fab_desk_base.specs.Trying.{IsMade, IsTryFault}
 use Rattle.fab_desk_base.specs.declared.command.Command.TheVariants.{Rollback}
 use Rattle.fab_desk_base.specs.declared.fault.DeskFault.{DeskFault}
 use Rattle.fab_desk_base.specs.declared.fault.DeskFault.TheVariants as fault
-use Rattle.fab_desk_commands.specs.Nexts.{next_world, turned_at, with_turn, Suits, TellsRows}
+use Rattle.fab_desk_commands.specs.Nexts.{all_but_last, next_world, turned_at, with_turn, Suits, TellsRows}
 use Rattle.fab_desk_commands.specs.declared.next.Next.{Next}
 use Rattle.fab_desk_commands.specs.declared.next.Next.TheVariants.{Same, Stock, Staged, Turned, Reconfigured}
 use Rattle.fab_desk_commands.specs.declared.next.Turn.TheVariants.{Withdrawn, Approved, Activated, RolledBack}
@@ -42,6 +42,7 @@ use Rattle.fab_desk_commands.specs.Trials.{HasEarlier, IsBeforePlan, IsRollback,
 use Rattle.fab_desk_commands.proofs.Activations.{placed}
 use Rattle.fab_desk_commands.proofs.PlanChecks.{rollback_passes, gone_refused}
 use Rattle.fab_desk_commands.proofs.Orders.{absent_before, absent_reversed, changes_beside, last_first, listing_without}
+use Rattle.fab_desk_commands.proofs.Placing.{without_last}
 use Rattle.fab_desk_commands.proofs.PlanTurns.{in_state, one_plan, there}
 use Rattle.fab_desk_commands.proofs.Undos.{undo_at, active_undone, put_there, put_beside}
 
@@ -174,44 +175,46 @@ module _ (A : Type 0) (w : WorldRows) (caller n : List ℕ) (p : PlanRecord) (is
 
 -- ---- the parts of the world after it
 
-pub rolled_world : {A : Type 0} (w : WorldRows) (n : List ℕ) (c : ConfigRows) (rest : List (List ℕ)) (next : Next A) → IsRollback w n c rest next → (p : PlanRecord) → IsPlan w n p → next_world w next ≡ after w n p c rest
-rolled_world w n c rest Same h p is = absurd h
-rolled_world w n c rest (Stock v d) h p is = absurd h
-rolled_world w n c rest (Staged m q) h p is = absurd h
-rolled_world w n c rest (Turned m t) h p is = absurd h
-rolled_world w n c rest (Reconfigured config m Withdrawn order) h p is = absurd h
-rolled_world w n c rest (Reconfigured config m (Approved given) order) h p is = absurd h
-rolled_world w n c rest (Reconfigured config m (Activated d) order) h p is = absurd h
-rolled_world {A} w n c rest (Reconfigured config m (RolledBack d) order) h p is =
-    (λ i. placed (h.0 i) (h.3 i) (turned_at (h.1 i) (RolledBack d) w)) ∙ ap (λ o. placed c rest (with_turn n (RolledBack d) o w)) is
+pub rolled_world : {A : Type 0} (w : WorldRows) (n : List ℕ) (c : ConfigRows) (rest : List (List ℕ)) → IsLastAfter w rest n → (next : Next A) → IsRollback w n c next → (p : PlanRecord) → IsPlan w n p → next_world w next ≡ after w n p c rest
+rolled_world w n c rest last Same h p is = absurd h
+rolled_world w n c rest last (Stock v d) h p is = absurd h
+rolled_world w n c rest last (Staged m q) h p is = absurd h
+rolled_world w n c rest last (Turned m t) h p is = absurd h
+rolled_world w n c rest last (Reconfigured config m Withdrawn) h p is = absurd h
+rolled_world w n c rest last (Reconfigured config m (Approved given)) h p is = absurd h
+rolled_world w n c rest last (Reconfigured config m (Activated d)) h p is = absurd h
+rolled_world {A} w n c rest last (Reconfigured config m (RolledBack d)) h p is =
+    (λ i. placed (h.0 i) (all_but_last (last i)) (turned_at (h.1 i) (RolledBack d) w))
+    ∙ ap (λ (order : List (List ℕ)). placed c order (turned_at {A = A} n (RolledBack d) w)) (without_last rest n)
+    ∙ ap (λ o. placed c rest (with_turn n (RolledBack d) o w)) is
 
-pub is_reconfiguration : {A : Type 0} (w : WorldRows) (n : List ℕ) (c : ConfigRows) (rest : List (List ℕ)) (next : Next A) → IsRollback w n c rest next → IsReconfiguration n next
-is_reconfiguration w n c rest Same h = absurd h
-is_reconfiguration w n c rest (Stock v d) h = absurd h
-is_reconfiguration w n c rest (Staged m q) h = absurd h
-is_reconfiguration w n c rest (Turned m t) h = absurd h
-is_reconfiguration w n c rest (Reconfigured config m Withdrawn order) h = absurd h
-is_reconfiguration w n c rest (Reconfigured config m (Approved given) order) h = absurd h
-is_reconfiguration w n c rest (Reconfigured config m (Activated d) order) h = absurd h
-is_reconfiguration w n c rest (Reconfigured config m (RolledBack d) order) h = h.1
+pub is_reconfiguration : {A : Type 0} (w : WorldRows) (n : List ℕ) (c : ConfigRows) (next : Next A) → IsRollback w n c next → IsReconfiguration n next
+is_reconfiguration w n c Same h = absurd h
+is_reconfiguration w n c (Stock v d) h = absurd h
+is_reconfiguration w n c (Staged m q) h = absurd h
+is_reconfiguration w n c (Turned m t) h = absurd h
+is_reconfiguration w n c (Reconfigured config m Withdrawn) h = absurd h
+is_reconfiguration w n c (Reconfigured config m (Approved given)) h = absurd h
+is_reconfiguration w n c (Reconfigured config m (Activated d)) h = absurd h
+is_reconfiguration w n c (Reconfigured config m (RolledBack d)) h = h.1
 
 -- it tells what it changed
-pub rollback_tells : {A : Type 0} (w : WorldRows) (n : List ℕ) (c : ConfigRows) (rest : List (List ℕ)) (next : Next A) → IsRollback w n c rest next → TellsRows w next
-rollback_tells w n c rest Same h = absurd h
-rollback_tells w n c rest (Stock v d) h = absurd h
-rollback_tells w n c rest (Staged m q) h = absurd h
-rollback_tells w n c rest (Turned m t) h = absurd h
-rollback_tells w n c rest (Reconfigured config m Withdrawn order) h = absurd h
-rollback_tells w n c rest (Reconfigured config m (Approved given) order) h = absurd h
-rollback_tells w n c rest (Reconfigured config m (Activated d) order) h = absurd h
-rollback_tells w n c rest (Reconfigured config m (RolledBack d) order) h = subst (λ k. IsDifference w.config k d.taken.items d.added.items) (sym h.0) h.2
+pub rollback_tells : {A : Type 0} (w : WorldRows) (n : List ℕ) (c : ConfigRows) (next : Next A) → IsRollback w n c next → TellsRows w next
+rollback_tells w n c Same h = absurd h
+rollback_tells w n c (Stock v d) h = absurd h
+rollback_tells w n c (Staged m q) h = absurd h
+rollback_tells w n c (Turned m t) h = absurd h
+rollback_tells w n c (Reconfigured config m Withdrawn) h = absurd h
+rollback_tells w n c (Reconfigured config m (Approved given)) h = absurd h
+rollback_tells w n c (Reconfigured config m (Activated d)) h = absurd h
+rollback_tells w n c (Reconfigured config m (RolledBack d)) h = subst (λ k. IsDifference w.config k d.taken.items d.added.items) (sym h.0) h.2
 
-pub rollback_suits : {A : Type 0} (w : WorldRows) (n : List ℕ) (p : PlanRecord) → IsPlan w n p → state_of p.standing ≡ state.Active → (c : ConfigRows) (rest : List (List ℕ)) (next : Next A) → IsRollback w n c rest next → w.revision < MOST_CHANGES → Suits w next
-rollback_suits w n p is works c rest Same h few = absurd h
-rollback_suits w n p is works c rest (Stock v d) h few = absurd h
-rollback_suits w n p is works c rest (Staged m q) h few = absurd h
-rollback_suits w n p is works c rest (Turned m t) h few = absurd h
-rollback_suits w n p is works c rest (Reconfigured config m Withdrawn order) h few = absurd h
-rollback_suits w n p is works c rest (Reconfigured config m (Approved given) order) h few = absurd h
-rollback_suits w n p is works c rest (Reconfigured config m (Activated d) order) h few = absurd h
-rollback_suits w n p is works c rest (Reconfigured config m (RolledBack d) order) h few = ((p, subst (λ k. IsPlan w k p) (sym h.1) is, works), few, rollback_tells w n c rest (Reconfigured config m (RolledBack d) order) h)
+pub rollback_suits : {A : Type 0} (w : WorldRows) (n : List ℕ) (p : PlanRecord) → IsPlan w n p → state_of p.standing ≡ state.Active → (c : ConfigRows) (next : Next A) → IsRollback w n c next → w.revision < MOST_CHANGES → Suits w next
+rollback_suits w n p is works c Same h few = absurd h
+rollback_suits w n p is works c (Stock v d) h few = absurd h
+rollback_suits w n p is works c (Staged m q) h few = absurd h
+rollback_suits w n p is works c (Turned m t) h few = absurd h
+rollback_suits w n p is works c (Reconfigured config m Withdrawn) h few = absurd h
+rollback_suits w n p is works c (Reconfigured config m (Approved given)) h few = absurd h
+rollback_suits w n p is works c (Reconfigured config m (Activated d)) h few = absurd h
+rollback_suits w n p is works c (Reconfigured config m (RolledBack d)) h few = ((p, subst (λ k. IsPlan w k p) (sym h.1) is, works), few, rollback_tells w n c (Reconfigured config m (RolledBack d)) h)

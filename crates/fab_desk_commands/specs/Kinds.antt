@@ -10,5 +10,5 @@ IsTurn n _ = ⊥
 
 -- the configuration changes, and the plan of this name is turned
 abbrev pub IsReconfiguration : {A : Type 0} → List ℕ → Next A → Type 0
-IsReconfiguration n (Reconfigured config m turn order) = m ≡ n
+IsReconfiguration n (Reconfigured config m turn) = m ≡ n
 IsReconfiguration n _ = ⊥

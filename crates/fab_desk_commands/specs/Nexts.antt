@@ -1,5 +1,5 @@
 -- Which world the parts of a change make, and when they suit a world.
-use Rattle.std.specs.Prelude.{ℕ, ◌≡◌, ◌<◌, List, [], Option, None, Some, true, false}
+use Rattle.std.specs.Prelude.{ℕ, ◌≡◌, ◌<◌, ◌-◌, List, [], ◌∷◌, ◌++◌, length, take, Option, None, Some, false}
 use Rattle.std.specs.FinMap as map
 use Rattle.fab_names.specs.Orders.{name_cmp}
 use Rattle.fab_reach_base.specs.Records.{ConfigRows}
@@ -39,13 +39,24 @@ with_turn n t found w = record w { plans = plans_turned n t found w.plans }
 abbrev pub turned_at : {A : Type 0} → List ℕ → Turn A → WorldRows → WorldRows
 turned_at n t w = with_turn n t (map.get w.plans n) w
 
+-- all but the last of the activations in force
+abbrev pub all_but_last : List (List ℕ) → List (List ℕ)
+all_but_last order = take (length order - 1) order
+
+-- the activations in force after the turn of the plan: an activated one is the last of them, and the
+-- last is rolled back
+abbrev pub order_after : {A : Type 0} → Turn A → List ℕ → List (List ℕ) → List (List ℕ)
+order_after (Activated change) n order = order ++ n ∷ []
+order_after (RolledBack change) n order = all_but_last order
+order_after _ n order = order
+
 -- the world that the parts make of this one
 abbrev pub next_world : {A : Type 0} → WorldRows → Next A → WorldRows
 next_world w Same = w
 next_world w (Stock v change) = counted (with_inventory v w)
 next_world w (Staged n p) = with_plan n p w
 next_world w (Turned n t) = turned_at n t w
-next_world w (Reconfigured c n t order) = counted (record (turned_at n t w) { config = c; order = order.items })
+next_world w (Reconfigured c n t) = counted (record (turned_at n t w) { config = c; order = order_after t n w.order })
 
 -- ---- when they suit it
 
@@ -67,7 +78,7 @@ TellsChange before after _ = ⊥
 -- another inventory comes with the rows in which it differs, and another configuration too
 abbrev pub TellsRows : {A : Type 0} → WorldRows → Next A → Type 0
 TellsRows w (Stock v change) = IsInventoryDifference w.inventory v change
-TellsRows w (Reconfigured c n t order) = TellsChange w.config c t
+TellsRows w (Reconfigured c n t) = TellsChange w.config c t
 TellsRows w _ = Unit {0}
 
 -- the parts are for this world: it may take them over, once there is room for them
@@ -76,7 +87,7 @@ Suits w Same = Unit {0}
 Suits w (Stock v change) = (w.revision < MOST_CHANGES) × IsInventoryDifference w.inventory v change
 Suits w (Staged n p) = map.contains_key w.plans n ≡ false
 Suits w (Turned n t) = LeadsAt w n t
-Suits w (Reconfigured c n t order) = LeadsAt w n t × (w.revision < MOST_CHANGES) × TellsChange w.config c t
+Suits w (Reconfigured c n t) = LeadsAt w n t × (w.revision < MOST_CHANGES) × TellsChange w.config c t
 
 -- ---- room for them
 
@@ -84,17 +95,34 @@ Suits w (Reconfigured c n t order) = LeadsAt w n t × (w.revision < MOST_CHANGES
 abbrev pub blank_plan : List ℕ → PlanRecord
 blank_plan n = staged_plan n []
 
--- the world with room for the parts: a plan that is new has a place in it
+-- the order with room for the turn of the plan: one that is activated is the last in it already
+abbrev pub order_with_room : {A : Type 0} → Turn A → List ℕ → List (List ℕ) → List (List ℕ)
+order_with_room (Activated change) n order = order ++ n ∷ []
+order_with_room _ n order = order
+
+-- the order without the room for the turn
+abbrev pub order_without_room : {A : Type 0} → Turn A → List (List ℕ) → List (List ℕ)
+order_without_room (Activated change) order = all_but_last order
+order_without_room _ order = order
+
+-- the order after the turn, from the one with room for it: a plan that is rolled back leaves it
+abbrev pub order_from_room : {A : Type 0} → Turn A → List (List ℕ) → List (List ℕ)
+order_from_room (RolledBack change) order = all_but_last order
+order_from_room _ order = order
+
+-- the world with room for the parts: a plan that is new has a place in it, and one that is activated
+-- has its place in the order
 abbrev pub with_room : {A : Type 0} → WorldRows → Next A → WorldRows
 with_room w (Staged n p) = with_plan n (blank_plan n) w
+with_room w (Reconfigured c n t) = record w { order = order_with_room t n w.order }
 with_room w _ = w
 
--- the world without the place of a plan that is new
+-- the world without the room for the parts
 abbrev pub without_room : {A : Type 0} → WorldRows → Next A → WorldRows
 without_room w (Staged n p) = record w { plans = map.remove w.plans n }
+without_room w (Reconfigured c n t) = record w { order = order_without_room t w.order }
 without_room w _ = w
 
--- the parts are for this world, and it has room for them
+-- the world is one that the parts are for, with room for them
 abbrev pub IsReadyFor : {A : Type 0} → WorldRows → Next A → Type 0
-IsReadyFor w (Staged n p) = map.contains_key w.plans n ≡ true
-IsReadyFor w next = Suits w next
+IsReadyFor w next = (before : WorldRows) × Suits before next × (w ≡ with_room before next)

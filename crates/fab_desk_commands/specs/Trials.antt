@@ -1,5 +1,5 @@
 -- What the calls that try a command give one another.
-use Rattle.std.specs.Prelude.{ℕ, ◌≡◌, ◌++◌, List, [], ◌∷◌, Some}
+use Rattle.std.specs.Prelude.{ℕ, ◌≡◌, List, Some}
 use Rattle.fab_mapping.specs.Gone.{IsFirstGone}
 use Rattle.fab_reach_base.specs.Records.{ConfigRows}
 use Rattle.fab_reach_base.specs.Serving.{IsServing}
@@ -43,7 +43,7 @@ Activates before after _ = ⊥
 
 -- the parts are those of an activation that leads to the configuration
 abbrev pub IsActivation : {A : Type 0} → WorldRows → List ℕ → ConfigRows → Next A → Type 0
-IsActivation w n c (Reconfigured config m turn order) = (config ≡ c) × (m ≡ n) × Activates w.config c turn × (order.items ≡ w.order ++ (n ∷ []))
+IsActivation w n c (Reconfigured config m turn) = (config ≡ c) × (m ≡ n) × Activates w.config c turn
 IsActivation w n c _ = ⊥
 
 -- ---- rollback
@@ -56,10 +56,10 @@ HasEarlier w p = (change : Change) × (undo_of p.standing ≡ Some change) × ((
 abbrev pub IsBeforePlan : WorldRows → PlanRecord → ConfigRows → Type 0
 IsBeforePlan w p before = (change : Change) × (undo_of p.standing ≡ Some change) × IsOnlyEarlier w.config change before
 
--- the parts are those of a rollback that leads to the configuration, and leaves these in force
-abbrev pub IsRollback : {A : Type 0} → WorldRows → List ℕ → ConfigRows → List (List ℕ) → Next A → Type 0
-IsRollback w n c rest (Reconfigured config m (RolledBack change) order) = (config ≡ c) × (m ≡ n) × IsDifference w.config c change.taken.items change.added.items × (order.items ≡ rest)
-IsRollback w n c rest _ = ⊥
+-- the parts are those of a rollback that leads to the configuration
+abbrev pub IsRollback : {A : Type 0} → WorldRows → List ℕ → ConfigRows → Next A → Type 0
+IsRollback w n c (Reconfigured config m (RolledBack change)) = (config ≡ c) × (m ≡ n) × IsDifference w.config c change.taken.items change.added.items
+IsRollback w n c _ = ⊥
 
 -- why there is no way back: something is gone that the configuration from before the plan names, or
 -- there is no memory

@@ -1,5 +1,5 @@
 //! The activation of a staged plan.
-ghost use Rattle.std.specs.Prelude.{◌≡◌, ◌<◌, ◌++◌, ℕ, List, [], ◌∷◌, IfOk, IfErr};
+ghost use Rattle.std.specs.Prelude.{◌<◌, ℕ, List, IfOk, IfErr};
 ghost use Rattle.fab_reach_base.specs.Soundness.{IsSoundBeside};
 ghost use Rattle.fab_plans.specs.Outcomes.{IsOutcome};
 ghost use Rattle.fab_world.specs.Soundness.{IsSound};
@@ -46,20 +46,6 @@ fn outcome<A: Allocator + Copy>(
     }
 }
 
-/// The names of the plans in force, and this one behind them.
-fn order_with<A: Allocator + Copy>(
-    alloc: A,
-    world: &World<A>,
-    plan: &Name,
-) -> Result<Vec<Name, A>, AllocError>
-    ensures { IfOk result (λ order. order.items ≡ world.now.order ++ (plan.now ∷ [])) }
-{
-    let mut order = Vec::new(alloc);
-    order.extend_from_slice(world.order.as_slice())?;
-    order.push(*plan)?;
-    Ok(order)
-}
-
 /// The parts of the world after the activation of the plan, which makes this configuration.
 fn activation<A: Allocator + Copy>(
     alloc: A,
@@ -70,12 +56,10 @@ fn activation<A: Allocator + Copy>(
     ensures { IfOk result (IsActivation world.now plan.now config) }
 {
     let change = difference(alloc, &world.config, &config)?;
-    let order = order_with(alloc, world, plan)?;
     Ok(Next::Reconfigured {
         config,
         name: *plan,
         turn: Turn::Activated(change),
-        order,
     })
 }
 

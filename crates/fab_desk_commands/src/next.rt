@@ -3,9 +3,10 @@ ghost use Rattle.std.specs.Prelude.{◌≡◌, ◌<◌, OnOk, OnErr, true};
 ghost use Rattle.std.specs.FinMap as map;
 ghost use Rattle.fab_world.specs.declared.limits.TheConstants.{MOST_CHANGES};
 ghost use Rattle.fab_desk_base.specs.Effects.{counted, with_inventory, with_plan};
-ghost use Rattle.fab_desk_commands.specs.Nexts.{blank_plan, next_world, turned_at, with_room, without_room, IsReadyFor, LeadsAt};
+ghost use Rattle.fab_world.specs.Worlds.{WorldRows};
+ghost use Rattle.fab_desk_commands.specs.Nexts.{blank_plan, next_world, order_from_room, order_with_room, order_without_room, turned_at, with_room, without_room, IsReadyFor, LeadsAt};
 
-use crate::rooms::{make_place, put_in_place, remove_place};
+use crate::rooms::{make_place, pop_last, push_last, put_in_place, remove_place};
 use crate::turns::turn_at;
 use fab_inventory::Inventory;
 use fab_names::Name;
@@ -30,7 +31,8 @@ pub enum Turn<A: Allocator + Copy> {
 }
 
 /// The parts of the world that a change leaves others than they were. All memory for them is taken,
-/// but for the place of a plan that is new: `make_room` takes that.
+/// but for the place of a plan that is new, and that of an activated one in the order: `make_room`
+/// takes that.
 pub enum Next<A: Allocator + Copy> {
     /// The world stays as it is.
     Same,
@@ -49,13 +51,12 @@ pub enum Next<A: Allocator + Copy> {
         name: Name,
         turn: Turn<A>,
     },
-    /// Another configuration, by one change more: the plan that led to it, or from it, and the
-    /// plans whose activation is in force then, the oldest first.
+    /// Another configuration, by one change more, and the plan that led to it, or from it. A plan
+    /// that is activated is the last in force then, and it is the last in force that is rolled back.
     Reconfigured {
         config: Config<A>,
         name: Name,
         turn: Turn<A>,
-        order: Vec<Name, A>,
     },
 }
 
@@ -74,7 +75,6 @@ impl<A: Allocator + Copy> Drop for Next<A> {
                 config: _,
                 name: _,
                 turn: _,
-                order: _,
             } => {}
         }
     }
@@ -97,13 +97,12 @@ fn stock<A: Allocator + Copy>(world: &mut World<A>, inventory: Inventory<A>)
     count(world);
 }
 
-/// Takes over a configuration and an order, by one change more.
-fn reconfigure<A: Allocator + Copy>(world: &mut World<A>, config: Config<A>, order: Vec<Name, A>)
+/// Takes over a configuration, by one change more.
+fn reconfigure<A: Allocator + Copy>(world: &mut World<A>, config: Config<A>)
     requires { world.old.revision < MOST_CHANGES }
-    ensures { world.new ≡ counted (record world.old { config = config; order = order.items }) }
+    ensures { world.new ≡ counted (record world.old { config = config }) }
 {
     world.config = config;
-    world.order = order;
     count(world);
 }
 
@@ -138,9 +137,63 @@ fn turn_in<A: Allocator + Copy>(alloc: A, world: &mut World<A>, name: &Name, tur
     turn_at(alloc, &mut world.plans, name, turn);
 }
 
+/// Makes room in the order for the turn of a plan: one that is activated is the last in force.
+fn make_last<A: Allocator + Copy>(
+    world: &mut World<A>,
+    name: &Name,
+    turn: &Turn<A>,
+) -> Result<(), AllocError>
+    ensures ok { OnOk result (world.new ≡ record world.old { order = order_with_room turn.now name.now world.old.order }) }
+    ensures err { OnErr result (world.new ≡ world.old) }
+{
+    match turn {
+        Turn::Activated(_) => push_last(&mut world.order, *name),
+        Turn::Withdrawn | Turn::Approved(_) | Turn::RolledBack(_) => Ok(()),
+    }
+}
+
+/// Gives the room in the order back that was made for a turn.
+fn unmake_last<A: Allocator + Copy>(world: &mut World<A>, turn: &Turn<A>)
+    ensures { world.new ≡ record world.old { order = order_without_room turn.now world.old.order } }
+{
+    match turn {
+        Turn::Activated(_) => pop_last(&mut world.order),
+        Turn::Withdrawn | Turn::Approved(_) | Turn::RolledBack(_) => {}
+    }
+}
+
+/// Takes over the order after a turn, for which there is room: a plan that is rolled back leaves it.
+fn reorder<A: Allocator + Copy>(world: &mut World<A>, turn: &Turn<A>)
+    ensures { world.new ≡ record world.old { order = order_from_room turn.now world.old.order } }
+{
+    match turn {
+        Turn::RolledBack(_) => pop_last(&mut world.order),
+        Turn::Withdrawn | Turn::Approved(_) | Turn::Activated(_) => {}
+    }
+}
+
+/// Takes over a configuration to which the turn of a plan leads, with the plan and the order after the
+/// turn, by one change more. There is room in the order.
+fn reconfigure_by<A: Allocator + Copy>(
+    alloc: A,
+    world: &mut World<A>,
+    config: Config<A>,
+    name: &Name,
+    turn: Turn<A>,
+)
+    requires few { world.old.revision < MOST_CHANGES }
+    requires leads { LeadsAt world.old name.now turn }
+    ensures { world.new ≡ counted (record (turned_at name.now turn world.old) { config = config; order = order_from_room turn world.old.order }) }
+{
+    reorder(world, &turn);
+    turn_in(alloc, world, name, turn);
+    reconfigure(world, config);
+}
+
 impl<A: Allocator + Copy> Next<A> {
     /// Makes room for the parts: a plan that is new has its place then, where a plan without steps
-    /// stands until it is taken over, or the room is given back.
+    /// stands until it is taken over, or the room is given back; and a plan that is activated is the
+    /// last in the order.
     ///
     /// # Errors
     /// `AllocError` where there is no memory: the world is as it was.
@@ -150,7 +203,8 @@ impl<A: Allocator + Copy> Next<A> {
     {
         match self {
             Next::Staged { name, .. } => place(alloc, world, *name),
-            _ => Ok(()),
+            Next::Reconfigured { name, turn, .. } => make_last(world, name, turn),
+            Next::Same | Next::Stock { .. } | Next::Turned { .. } => Ok(()),
         }
     }
 
@@ -160,17 +214,19 @@ impl<A: Allocator + Copy> Next<A> {
     {
         match self {
             Next::Staged { name, .. } => displace(world, name),
-            _ => {}
+            Next::Reconfigured { turn, .. } => unmake_last(world, turn),
+            Next::Same | Next::Stock { .. } | Next::Turned { .. } => {}
         }
     }
 
-    /// Takes over the parts: the world is the next one then. It asks that the parts are for this
-    /// world, which has room for them: a plan that is new has its place, one that takes a turn is
-    /// there, in the state that the turn leads from, and one change more may be counted where one
-    /// is. It takes no memory and can not fail.
+    /// Takes over the parts: the world is the one that they make of the world before there was room
+    /// for them. It asks that the parts are for that world: a plan that is new is not there, one that
+    /// takes a turn is there, in the state that the turn leads from, and one change more may be
+    /// counted where one is; and that there is room for them in this one. It takes no memory and can
+    /// not fail.
     pub fn take_over(self, alloc: A, world: &mut World<A>)
         requires { IsReadyFor world.old self }
-        ensures { world.new ≡ next_world world.old self }
+        ensures { (before : WorldRows) → world.old ≡ with_room before self → world.new ≡ next_world before self }
     {
         match self {
             Next::Same => {}
@@ -180,14 +236,8 @@ impl<A: Allocator + Copy> Next<A> {
             } => stock(world, inventory),
             Next::Staged { name, plan } => put_plan(world, &name, plan),
             Next::Turned { name, turn } => turn_in(alloc, world, &name, turn),
-            Next::Reconfigured {
-                config,
-                name,
-                turn,
-                order,
-            } => {
-                turn_in(alloc, world, &name, turn);
-                reconfigure(world, config, order);
+            Next::Reconfigured { config, name, turn } => {
+                reconfigure_by(alloc, world, config, &name, turn);
             }
         }
     }

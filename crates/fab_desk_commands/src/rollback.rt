@@ -1,5 +1,5 @@
 //! The rollback of the last plan in force.
-ghost use Rattle.std.specs.Prelude.{◌<◌, ℕ, List, length, IfOk, IfErr, MatchOption};
+ghost use Rattle.std.specs.Prelude.{◌<◌, ℕ, List, length, IfOk, IfErr, OnOk, MatchOption};
 ghost use Rattle.fab_reach_base.specs.Records.{ConfigRows};
 ghost use Rattle.fab_store_rows.specs.Differences.{IsDifference};
 ghost use Rattle.fab_mapping.specs.Gone.{IsFirstGone};
@@ -29,26 +29,23 @@ use fab_store_rows::RowDifference;
 use fab_world::{KeptPlan, World};
 use std::alloc::{AllocError, Allocator};
 
-/// The plans in force before this one, where it is the last of them; some plan is.
+/// Sees that the plan is the last in force; some plan is.
 ///
 /// # Errors
 /// `NotLast` with the last one, where it is another.
-fn plans_before<'a, A: Allocator + Copy>(
-    world: &'a World<A>,
-    plan: &Name,
-) -> Result<&'a [Name], DeskFault>
+fn judge_last<A: Allocator + Copy>(world: &World<A>, plan: &Name) -> Result<(), DeskFault>
     requires { 0 < length world.now.order }
-    ensures ok { IfOk result (λ rest. IsLastAfter world.now rest.now plan.now) }
+    ensures ok { OnOk result ((rest : List (List ℕ)) × IsLastAfter world.now rest plan.now) }
     ensures err { IfErr result (λ r. (last : List ℕ) × FailsWith (fault.NotLast last) (IsOtherLast world.now plan.now last) r) }
 {
     let Some(pair) = world.order.as_slice().split_last() else {
         unreachable!();
     };
-    let (last, rest) = pair;
+    let (last, _rest) = pair;
     if last != plan {
         return Err(DeskFault::NotLast(*last));
     }
-    Ok(rest)
+    Ok(())
 }
 
 /// The configuration from before the activation of the plan, which is there: the rows that it took
@@ -136,28 +133,23 @@ fn change_back<A: Allocator + Copy>(
     turned_round(alloc, undo)
 }
 
-/// The parts of the world after the rollback of the plan, which leads to this configuration and
-/// leaves these plans in force.
+/// The parts of the world after the rollback of the plan, which leads to this configuration.
 fn parts_before<A: Allocator + Copy>(
     alloc: A,
     world: &World<A>,
     kept: &KeptPlan<A>,
     plan: &Name,
     config: Config<A>,
-    rest: &[Name],
 ) -> Result<Next<A>, AllocError>
     requires earlier { HasEarlier world.now kept.now }
     requires before { IsBeforePlan world.now kept.now config }
-    ensures { IfOk result (IsRollback world.now plan.now config rest.now) }
+    ensures { IfOk result (IsRollback world.now plan.now config) }
 {
     let change = change_back(alloc, world, kept)?;
-    let mut order = Vec::new(alloc);
-    order.extend_from_slice(rest)?;
     Ok(Next::Reconfigured {
         config,
         name: *plan,
         turn: Turn::RolledBack(change),
-        order,
     })
 }
 
@@ -186,15 +178,14 @@ pub fn rolled_back<A: Allocator + Copy>(
         Ok(kept) => kept,
         Err(fault) => return Err(fault),
     };
-    let rest = match plans_before(world, plan) {
-        Ok(rest) => rest,
-        Err(fault) => return Err(fault),
-    };
+    if let Err(fault) = judge_last(world, plan) {
+        return Err(fault);
+    }
     let config = match restored(alloc, world, kept) {
         Ok(config) => config,
         Err(fault) => return Err(fault),
     };
-    match parts_before(alloc, world, kept, plan, config, rest) {
+    match parts_before(alloc, world, kept, plan, config) {
         Ok(next) => Ok(next),
         Err(_) => Err(DeskFault::Memory),
     }

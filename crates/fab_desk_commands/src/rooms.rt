@@ -1,9 +1,10 @@
-//! Places of plans: made before a plan comes, so that it needs no memory then.
-ghost use Rattle.std.specs.Prelude.{◌≡◌, OnOk, OnErr, IsSome};
+//! Places of plans, and of names in an order: made before a plan comes, or is activated, so that it
+//! needs no memory then.
+ghost use Rattle.std.specs.Prelude.{◌≡◌, ◌++◌, [], ◌∷◌, OnOk, OnErr, IsSome};
 ghost use Rattle.std.specs.BTreeMap.{get};
 ghost use Rattle.std.specs.FinMap as map;
 ghost use Rattle.fab_names.specs.Orders.{name_cmp};
-ghost use Rattle.fab_desk_commands.specs.Nexts.{blank_plan};
+ghost use Rattle.fab_desk_commands.specs.Nexts.{all_but_last, blank_plan};
 
 use fab_names::Name;
 use fab_plans::{PlanText, Staged};
@@ -55,4 +56,26 @@ pub fn put_in_place<A: Allocator + Copy>(
     if let Some(place) = plans.get_mut(name) {
         *place = plan;
     }
+}
+
+/// Puts a name behind those of an order.
+///
+/// # Errors
+/// `AllocError` where there is no memory: the order is as it was.
+pub fn push_last<A: Allocator + Copy>(
+    order: &mut Vec<Name, A>,
+    name: Name,
+) -> Result<(), AllocError>
+    ensures ok { OnOk result (order.new.items ≡ order.old.items ++ name ∷ []) }
+    ensures err { OnErr result (order.new.items ≡ order.old.items) }
+{
+    order.push(name)?;
+    Ok(())
+}
+
+/// Takes the last name of an order away, if there is one. It takes no memory.
+pub fn pop_last<A: Allocator + Copy>(order: &mut Vec<Name, A>)
+    ensures { order.new.items ≡ all_but_last order.old.items }
+{
+    let _last = order.pop();
 }

@@ -31,9 +31,10 @@ use Rattle.fab_desk_base.specs.declared.reply.Reply.{Reply}
 use Rattle.fab_desk_base.specs.declared.reply.Reply.TheVariants as reply
 use Rattle.fab_desk_machine.specs.Proposals.{IsChangeFor, IsProposalFor, IsEffectOf, IsEnd, IsSenderOf, query_in, request_of}
 use Rattle.fab_desk_machine.specs.Reports.{reply_of, TellsOf, Tells}
-use Rattle.fab_desk_machine.proofs.TriedEffects.{no_policy}
-use Rattle.fab_desk_machine.specs.Trials.{effect_world, HasEffect, IsNewPlan, IsStepReady, dry_run_plan_of}
-use Rattle.fab_desk_machine.specs.declared.effects.Effect.{Effect}
+use Rattle.fab_desk_trials.proofs.TriedEffects.{no_policy}
+use Rattle.fab_desk_machine.specs.Outcomes.{dry_run_plan_of}
+use Rattle.fab_desk_trials.specs.Trials.{effect_world, HasEffect, IsNewPlan, IsStepReady}
+use Rattle.fab_desk_trials.specs.declared.effects.Effect.{Effect}
 use Rattle.fab_desk_machine.specs.declared.proposing.Proposal.{Proposal}
 use Rattle.fab_desk_machine.specs.declared.proposing.Proposal.TheVariants.{Answer, Ready}
 use Rattle.fab_desk_machine.specs.declared.report.Report.{Report}
@@ -242,10 +243,6 @@ plan_there w (DropHolder kind m) h n e = absurd (none-some n e)
 plan_there w (DropVolume m) h n e = absurd (none-some n e)
 plan_there w (Stage m steps) h n e = absurd (none-some n e)
 plan_there w (Show q) h n e = absurd (none-some n e)
-
--- what holds of what is there
-pub something : {X : Type 0} (P : Type 0) (Q : X → Type 0) (o : Option X) (x : X) → o ≡ Some x → MatchOption o P Q → Q x
-something P Q o x some h = subst (λ y. MatchOption y P Q) some h
 
 -- what holds where there is nothing
 pub nothing : {X : Type 0} (P : Type 0) (Q : X → Type 0) (o : Option X) → o ≡ None → MatchOption o P Q → P

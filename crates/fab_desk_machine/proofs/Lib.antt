@@ -1,9 +1,7 @@
-pub mod StockLists
-pub mod TriedEffects
-pub mod WithinLimits
 pub mod Moving
 pub mod PathLists
 pub mod Reported
 pub mod Ends
 pub mod Answered
 pub mod Rooms
+pub mod Foreseen

@@ -13,8 +13,8 @@ use Rattle.fab_desk_base.specs.declared.command.Command.{Command}
 use Rattle.fab_desk_base.specs.declared.fault.DeskFault.{DeskFault}
 use Rattle.fab_desk_base.proofs.Confined.{still}
 use Rattle.fab_desk_base.proofs.Tried.{done_not_refused, one_done}
-use Rattle.fab_desk_machine.specs.Trials.{effect_world, HasEffect}
-use Rattle.fab_desk_machine.specs.declared.effects.Effect.{Effect}
+use Rattle.fab_desk_trials.specs.Trials.{effect_world, HasEffect}
+use Rattle.fab_desk_trials.specs.declared.effects.Effect.{Effect}
 
 -- an empty set has just the tenants of which there is none
 pub has_none : (s : BTreeSet (List ℕ)) (P : List ℕ → Type 0) → s.keys ≡ [] → ((t : List ℕ) → ¬ P t) → (t : List ℕ) → Has s t ↔ P t

@@ -5,7 +5,7 @@ use Rattle.fab_reach_base.specs.Books.{IsGained, IsDelta}
 use Rattle.fab_reach_base.specs.Orders.{IsListOf}
 use Rattle.fab_reach_base.specs.Records.{Records}
 use Rattle.fab_reach_base.specs.declared.path.Path.{Path}
-use Rattle.fab_desk_machine.specs.Trials.{IsStepReady}
+use Rattle.fab_desk_trials.specs.Trials.{IsStepReady}
 
 nowhere : {k : ℕ} → ¬ (k < 0)
 nowhere h = omega (arith, h)

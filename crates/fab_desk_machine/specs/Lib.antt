@@ -1,4 +1,4 @@
-pub mod Limits
+pub mod Foreseen
+pub mod Outcomes
 pub mod Proposals
 pub mod Reports
-pub mod Trials

@@ -17,7 +17,7 @@ use Rattle.fab_desk_base.specs.declared.fault.DeskFault.TheVariants as fault
 use Rattle.fab_desk_base.specs.declared.reply.Reply.{Reply}
 use Rattle.fab_desk_base.specs.declared.reply.Reply.TheVariants as reply
 use Rattle.fab_desk_machine.specs.Reports.{reply_of}
-use Rattle.fab_desk_machine.specs.Trials.{IsStepReady}
+use Rattle.fab_desk_trials.specs.Trials.{IsStepReady}
 use Rattle.fab_desk_machine.specs.declared.answers.Asked.{Asked}
 use Rattle.fab_desk_machine.specs.declared.change.Change.{Change}
 use Rattle.fab_desk_machine.specs.declared.proposing.Proposal.{Proposal}

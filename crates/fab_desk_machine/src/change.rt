@@ -3,12 +3,12 @@ ghost use Rattle.std.specs.Prelude.{◌≡◌, ◌⊎◌, IfOk};
 ghost use Rattle.fab_reach_base.specs.Books.{IsDelta};
 ghost use Rattle.fab_reach_base.specs.Records.{Records};
 ghost use Rattle.fab_reach_base.specs.declared.book.Delta.{Delta};
-ghost use Rattle.fab_world.specs.Worlds.{records_of};
-ghost use Rattle.fab_desk_commands.specs.Nexts.{next_world, IsReadyFor, Suits};
+ghost use Rattle.fab_world.specs.Worlds.{WorldRows, records_of};
+ghost use Rattle.fab_desk_commands.specs.Nexts.{next_world, with_room, IsReadyFor, Suits};
 ghost use Rattle.fab_desk_base.specs.Answers.{IsMove};
 ghost use Rattle.fab_desk_machine.specs.Proposals.{IsMemory};
 ghost use Rattle.fab_desk_machine.specs.Reports.{reply_of};
-ghost use Rattle.fab_desk_machine.specs.Trials.{IsStepReady};
+ghost use Rattle.fab_desk_trials.specs.Trials.{IsStepReady};
 
 use crate::report::{Report, reply_with};
 use fab_desk_base::{DeskFault, Reply};
@@ -72,7 +72,7 @@ pub fn lists_of<A: Allocator + Copy, B: PathBook<A>>(
 }
 
 /// Has a book take its step, if there is one. It takes no memory.
-fn adopt<A: Allocator + Copy, B: PathBook<A>>(
+pub fn adopt<A: Allocator + Copy, B: PathBook<A>>(
     alloc: A,
     book: &mut B,
     step: Option<B::Ready>,
@@ -87,9 +87,9 @@ fn adopt<A: Allocator + Copy, B: PathBook<A>>(
     }
 }
 
-/// Takes over a change: the world is the next one, the book stands at it, and this is answered. It
-/// takes no memory and can not fail. The change has to be one that was proposed for this world and
-/// this book, and the world has room for it.
+/// Takes over a change: the world is the one that the change makes of the world before there was room
+/// for it, the book stands at it, and this is answered. It takes no memory and can not fail. The
+/// change has to be one that was proposed for that world and this book.
 pub fn take_over<A: Allocator + Copy, B: PathBook<A>>(
     alloc: A,
     change: Change<A, B::Ready>,
@@ -99,7 +99,7 @@ pub fn take_over<A: Allocator + Copy, B: PathBook<A>>(
     requires room { IsReadyFor world.old change.next }
     requires step { IsStepReady (B.leads book.old) (records_of world.old) (records_of (next_world world.old change.next)) change.step }
     requires stands { B.stands book.old (records_of world.old) }
-    ensures world { world.new ≡ next_world world.old change.next }
+    ensures world { (before : WorldRows) → world.old ≡ with_room before change.next → world.new ≡ next_world before change.next }
     ensures stands { B.stands book.new (records_of world.new) }
     ensures reply { (delta : Delta A) × (result ≡ reply_of change.report delta) × IsMove world.old world.new delta }
     ensures uncounted { B.count book.new ≡ B.count book.old }

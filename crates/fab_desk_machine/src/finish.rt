@@ -12,17 +12,18 @@ ghost use Rattle.fab_desk_base.specs.Answers.{IsCarriedOut, IsDeniedWith, IsTher
 ghost use Rattle.fab_desk_base.specs.Commands.{action_of, tried};
 ghost use Rattle.fab_desk_base.specs.Refusals.{IsFirstFault};
 ghost use Rattle.fab_desk_base.specs.declared.reply.Reply.TheVariants as reply;
+ghost use Rattle.fab_desk_machine.specs.Foreseen.{IsStopped};
 ghost use Rattle.fab_desk_machine.specs.Proposals.{IsAccepted, IsEnd, IsMemory, IsProposalFor};
-ghost use Rattle.fab_desk_machine.specs.Trials.{EffectSuits, IsNewPlan, IsPrepared, IsStepReady, dry_run_plan_of, effect_world, planned};
+ghost use Rattle.fab_desk_machine.specs.Outcomes.{dry_run_plan_of};
+ghost use Rattle.fab_desk_trials.specs.Trials.{EffectSuits, IsNewPlan, IsPrepared, IsStepReady, effect_world, planned};
 
 use crate::change::{Change, lists_of};
-use crate::effects::Effect;
 use crate::proposing::Proposal;
 use crate::report::report_of;
-use crate::steps::Prepared;
 use crate::verdicts::{Sender, denial, moved_by};
 use fab_desk_base::{Command, DeskFault, Reply};
 use fab_desk_commands::{Next, staged_next};
+use fab_desk_trials::{Effect, Prepared};
 use fab_names::Name;
 use fab_plans::PlanText;
 use fab_policy_base::Policy;
@@ -30,6 +31,28 @@ use fab_reach_books::PathBook;
 use fab_world::World;
 use std::alloc::{AllocError, Allocator};
 use std::collections::BTreeSet;
+
+/// The fault of a refused command: that of the policy's denial, or the refusal.
+pub fn refusal<A: Allocator + Copy>(
+    alloc: A,
+    world: &World<A>,
+    policy: &Policy,
+    sender: &Sender,
+    command: &Command<A>,
+    fault: DeskFault,
+) -> DeskFault
+    requires refused { IsFirstFault world.now sender.now.name (tried command.now) fault }
+    requires there { (p : PolicyRows) (i : ℕ) → IsThere p world.now i command.now }
+    requires change { IsSome (action_of command.now) }
+    ensures { IsStopped policy.now world.now sender.now.id sender.now.name sender.now.moment command.now result }
+{
+    let moved = BTreeSet::new(alloc);
+    match denial(alloc, policy, world, sender, command, &moved) {
+        Ok(None) => fault,
+        Ok(Some(denied)) => denied,
+        Err(_) => DeskFault::Memory,
+    }
+}
 
 /// What a refused command comes to: the policy's denial, or the refusal.
 pub fn turn_down<A: Allocator + Copy>(
@@ -46,12 +69,7 @@ pub fn turn_down<A: Allocator + Copy>(
     ensures end { IsMemory result ⊎ IsEnd policy.now world.now sender.now.id sender.now.name sender.now.moment command.now result world.now }
     ensures refused { ¬ IsAccepted result }
 {
-    let moved = BTreeSet::new(alloc);
-    match denial(alloc, policy, world, sender, command, &moved) {
-        Ok(None) => Reply::Refused(fault),
-        Ok(Some(denied)) => Reply::Refused(denied),
-        Err(_) => Reply::Refused(DeskFault::Memory),
-    }
+    Reply::Refused(refusal(alloc, world, policy, sender, command, fault))
 }
 
 /// The parts of the world with the plan that a command stages, which is kept as its printed form.
@@ -170,7 +188,7 @@ fn allowed<A: Allocator + Copy, B: PathBook<A>>(
 ///
 /// # Errors
 /// `AllocError` where there is no memory.
-fn denied<A: Allocator + Copy, B: PathBook<A>>(
+pub fn denied<A: Allocator + Copy, B: PathBook<A>>(
     alloc: A,
     world: &World<A>,
     book: &B,

@@ -3,23 +3,21 @@
 //!
 //! `propose` is lent the world and changes nothing. What it hands out is the answer, or a change that
 //! is ready. Once there is room for it in the world, a store may stand between the two: `take_over`
-//! needs no memory and can not fail.
+//! needs no memory and can not fail. `foresee` tells what a request would change, and hands out no change.
 #![tactic(auto)]
 
 mod answers;
 mod bodies;
 mod change;
-mod effects;
 mod finish;
-mod limits;
-mod moves;
+mod foreseeing;
 mod proposing;
 mod report;
-mod steps;
 mod verdicts;
 
 pub use answers::{Asked, answer, answer_all};
-pub use change::{Change, carry_through, lists_of, take_over};
+pub use change::{Change, adopt, carry_through, lists_of, take_over};
+pub use foreseeing::foresee;
 pub use proposing::{Proposal, propose, sender_of};
 pub use report::Report;
 pub use verdicts::Sender;

@@ -14,10 +14,10 @@ ghost use Rattle.fab_desk_machine.specs.Proposals.{CountsStep, IsAccepted, IsEff
 use crate::bodies::{is_given, is_there};
 use crate::change::Change;
 use crate::finish::{carry_out, turn_down};
-use crate::steps::try_out;
 use crate::verdicts::Sender;
 use fab_desk_base::{Command, DeskFault, Query, Reply};
 use fab_desk_reads::shown;
+use fab_desk_trials::try_out;
 use fab_policy_base::Policy;
 use fab_reach_books::PathBook;
 use fab_world::World;
@@ -33,7 +33,7 @@ pub enum Proposal<A: Allocator + Copy, R> {
 }
 
 /// Whether it is the want of memory.
-fn is_memory(fault: &DeskFault) -> bool
+pub fn is_memory(fault: &DeskFault) -> bool
     ensures { IsTrue result ↔ (fault.now ≡ faults.Memory) }
 {
     match fault {

@@ -7,12 +7,11 @@ ghost use Rattle.fab_desk_base.specs.Answers.{IsDeniedWith, IsMove, IsThere};
 ghost use Rattle.fab_desk_base.specs.Commands.{action_of};
 ghost use Rattle.fab_desk_base.specs.Tenants.{Has};
 ghost use Rattle.fab_desk_base.specs.Touching.{MovesTenant};
-ghost use Rattle.fab_desk_machine.specs.Trials.{HasEffect, IsPrepared, denied_of, effect_world};
+ghost use Rattle.fab_desk_machine.specs.Outcomes.{denied_of};
+ghost use Rattle.fab_desk_trials.specs.Trials.{HasEffect, IsPrepared, effect_world};
 
-use crate::effects::Effect;
-use crate::moves::moved_view;
-use crate::steps::Prepared;
 use fab_desk_base::{Command, DeskFault};
+use fab_desk_trials::{Effect, Prepared, moved_view};
 use fab_desk_verdicts::{judged, moved_tenants};
 use fab_names::Name;
 use fab_policy::Verdict;

@@ -4,7 +4,7 @@
 ghost use Rattle.fab_world.specs.Soundness.{IsSound};
 ghost use Rattle.fab_world.specs.Worlds.{records_of};
 ghost use Rattle.fab_desk_commands.specs.Nexts.{next_world, Suits};
-ghost use Rattle.fab_desk_machine.specs.Trials.{IsStepReady};
+ghost use Rattle.fab_desk_trials.specs.Trials.{IsStepReady};
 
 use crate::small::{
     Came, Heap, Means, Order, ask, came_of, carry_out, command, filled, is_made_by,
@@ -57,13 +57,30 @@ const MOVED: &[Order] = &[
     Order::Moved,
 ];
 
-/// An activation by which the host gains a path, and an import by which it loses it.
+/// The plan is rolled back, and the host has no path.
+const ROLLED_BACK: &[Order] = &[
+    Order::Ports,
+    Order::Host,
+    Order::Array,
+    Order::Volume,
+    Order::Stage,
+    Order::Activate,
+    Order::Rollback,
+];
+
+/// An activation by which the host gains a path, and a rollback and an import by which it loses it.
 const CASES: &[Case<'static>] = &[
     Case {
         order: Order::Activate,
         came: Came::Reconfigured(1, 0, 5),
         before: (STAGED, 0),
         after: (ACTIVE, 1),
+    },
+    Case {
+        order: Order::Rollback,
+        came: Came::Reconfigured(0, 1, 6),
+        before: (ACTIVE, 1),
+        after: (ROLLED_BACK, 0),
     },
     Case {
         order: Order::Moved,

@@ -35,6 +35,7 @@ pub enum Order {
     /// A plan that gives the host the volume.
     Stage,
     Activate,
+    Rollback,
     /// The target, and another initiator in place of the first.
     Moved,
     /// What the host reaches.
@@ -130,6 +131,9 @@ pub fn command<'a, R: Abort + AllocGlobal>(
         Order::Volume => put_volume(rt),
         Order::Stage => stage(rt, heap),
         Order::Activate => Command::Activate {
+            plan: named(rt, "p1"),
+        },
+        Order::Rollback => Command::Rollback {
             plan: named(rt, "p1"),
         },
         Order::Moved => import(rt, heap, MOVED),

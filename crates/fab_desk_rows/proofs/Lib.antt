@@ -4,12 +4,12 @@ pub mod InventoriesTold
 pub mod Listed
 pub mod Sorted
 pub mod OnePlan
-pub mod Prefixes
+pub mod OrderEnds
 pub mod PathsTold
 pub mod UndoRows
 pub mod Quiet
 pub mod Given
-pub mod PlanPlaces
 pub mod PlansPut
+pub mod PlanPlaces
 pub mod PlansTurned
 pub mod Together

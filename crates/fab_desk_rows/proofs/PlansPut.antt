@@ -24,7 +24,7 @@ use Rattle.fab_desk_rows.specs.Places.{HasOnePosition, row_at}
 use Rattle.fab_desk_rows.specs.declared.plan_rows.Place.{Place}
 use Rattle.fab_desk_rows.proofs.Listed.{none_listed, one_listed}
 use Rattle.fab_desk_rows.proofs.OnePlan.{name_decides, told_apart}
-use Rattle.fab_desk_rows.proofs.PlanPlaces.{one_position}
+use Rattle.fab_desk_rows.proofs.OrderEnds.{one_position}
 
 -- ---- look-ups
 
@@ -116,21 +116,30 @@ module _ (w v : WorldRows) (n : List ℕ) (p : PlanRecord) (none : map.get w.pla
         by false e = absurd (h.1 ((stayed s (told_apart s.name n e)).1 h.0))
 
     -- its row is the only one that comes
-    pub row_comes : (row : PlanEntry) (xs ys : List PlanEntry) → xs ≡ [] → ys ≡ row ∷ [] → row ≡ row_at n p place → Spells (plan_text p.steps) p.steps → AreMoved plan_order IsPlanRow w v xs ys
-    row_comes row xs ys no_x ys_are is spelt = record {
+    pub row_comes : (xs ys : List PlanEntry) → xs ≡ [] → ys ≡ row_at n p place ∷ [] → Spells (plan_text p.steps) p.steps → AreMoved plan_order IsPlanRow w v xs ys
+    row_comes xs ys no_x ys_are spelt = record {
       removed = none_listed plan_order (Lacking IsPlanRow v w) xs no_x none_removed;
-      added = subst (IsListOf plan_order (Lacking IsPlanRow w v)) (sym (ys_are ∙ ap (λ r. r ∷ []) is)) (one_listed plan_order (Lacking IsPlanRow w v) (row_at n p place) (added_row spelt) only_row);
+      added = subst (IsListOf plan_order (Lacking IsPlanRow w v)) (sym ys_are) (one_listed plan_order (Lacking IsPlanRow w v) (row_at n p place) (added_row spelt) only_row);
     }
 
--- a plan that is new is not active in a sound world: the order has its name neither before nor after
-is_active : (s : Standing) → state_of s ≡ state.Active → is_some (undo_of s) ≡ true
+-- something undoes an active plan, and no other
+pub is_active : (s : Standing) → state_of s ≡ state.Active → is_some (undo_of s) ≡ true
 is_active (active taken added) h = refl
 is_active staged h = absurd cc
 is_active rolled_back h = absurd cc
 is_active withdrawn h = absurd cc
 
+pub active_state : (s : Standing) → is_some (undo_of s) ≡ true → state_of s ≡ state.Active
+active_state (active taken added) h = refl
+active_state staged h = absurd (true≢false (sym h))
+active_state rolled_back h = absurd (true≢false (sym h))
+active_state withdrawn h = absurd (true≢false (sym h))
+
+-- a plan that is new is not active in a sound world: the order has its name neither before nor after
+pub not_in_force : (w : WorldRows) (n : List ℕ) → map.get w.plans n ≡ None → IsSound w → ¬ Contains w.order n
+not_in_force w n none sound h = let was = (sound.order.lists n).0 h in let no : ◌≡◌ {A = Option PlanRecord} None (Some was.0) = sym none ∙ was.1 in absurd cc
+
 pub new_idle : (w v : WorldRows) (n : List ℕ) (p : PlanRecord) → map.get w.plans n ≡ None → IsStagedTo w n p v → IsSound w → IsSound v → ¬ (state_of p.standing ≡ state.Active)
 new_idle w v n p none more sound next_sound h =
     let listed = (next_sound.order.lists n).1 (p, more_there w v n p none more, is_active p.standing h) in
-    let was = (sound.order.lists n).0 (subst (λ ns. Contains ns n) more.order listed) in
-    let no : ◌≡◌ {A = Option PlanRecord} None (Some was.0) = sym none ∙ was.1 in absurd cc
+    not_in_force w n none sound (subst (λ ns. Contains ns n) more.order listed)

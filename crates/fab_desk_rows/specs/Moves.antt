@@ -10,7 +10,7 @@ use Rattle.fab_world.specs.PlanRecords.{PlanRecord}
 use Rattle.fab_world.specs.Worlds.{WorldRows, records_of}
 use Rattle.fab_store_world.specs.Keys.{plan_order, approval_order, undo_order}
 use Rattle.fab_store_world.specs.Standing.{IsPlanRow, IsApprovalRow, IsUndoRow, Lacking}
-use Rattle.fab_desk_commands.specs.Nexts.{plans_turned}
+use Rattle.fab_desk_commands.specs.Nexts.{order_after, plans_turned}
 use Rattle.fab_desk_commands.specs.declared.next.Turn.{Turn}
 use Rattle.fab_desk_rows.specs.declared.parts.Parts.{Parts}
 use Rattle.fab_desk_rows.specs.declared.plans.PlanTables.{PlanTables}
@@ -44,7 +44,7 @@ pub record IsStagedTo (before : WorldRows) (n : List ℕ) (p : PlanRecord) (afte
   pub plans : after.plans ≡ map.insert before.plans n p
   pub order : after.order ≡ before.order
 
--- a plan took a turn, and this is the order
-pub record IsTurnedTo {A : Type 0} (before : WorldRows) (n : List ℕ) (t : Turn A) (ns : List (List ℕ)) (after : WorldRows) : Type 0 where
+-- a plan took a turn, and the order went with it
+pub record IsTurnedTo {A : Type 0} (before : WorldRows) (n : List ℕ) (t : Turn A) (after : WorldRows) : Type 0 where
   pub plans : after.plans ≡ plans_turned n t (map.get before.plans n) before.plans
-  pub order : after.order ≡ ns
+  pub order : after.order ≡ order_after t n before.order

@@ -6,7 +6,6 @@ mod approvals;
 mod changes;
 mod counts;
 mod moved;
-mod orders;
 mod parts;
 mod paths;
 mod plan_rows;

@@ -1,21 +1,19 @@
-//! The rows of plans that have another state or another position after a change.
-ghost use Rattle.std.specs.Prelude.{◌≡◌, ◌↔◌, IsTrue, IfOk, OnOk};
-ghost use Rattle.std.specs.BTreeMap.{get};
-ghost use Rattle.fab_lemmas.specs.Lists.{IsListOf};
-ghost use Rattle.fab_names.specs.Orders.{name_cmp};
+//! The row of a plan that comes to another state, or to another position.
+ghost use Rattle.std.specs.Prelude.{◌≡◌, ◌↔◌, ℕ, List, [], ◌∷◌, IsTrue, IfOk, OnOk};
 ghost use Rattle.fab_plans_base.specs.Plans.{Spells, IsWithinLimits, plan_text};
-ghost use Rattle.fab_world.specs.Worlds.{WorldRows};
+ghost use Rattle.fab_store_rows.specs.declared.record_row.PlanState.TheVariants as states;
 ghost use Rattle.fab_store_world.specs.Keys.{plan_order};
 ghost use Rattle.fab_store_world.specs.Positions.{IsPosition};
 ghost use Rattle.fab_store_world.specs.Standing.{IsPlanRow};
+ghost use Rattle.fab_world.specs.Worlds.{WorldRows};
+ghost use Rattle.fab_desk_rows.specs.Moves.{AreMoved};
 ghost use Rattle.fab_desk_rows.specs.Places as spec;
 
-use crate::orders::position_of;
+use crate::moved::{Moved, none_moved};
 use fab_names::Name;
 use fab_store_rows::{PlanRow, PlanState};
 use fab_world::KeptPlan;
 use std::alloc::{AllocError, Allocator};
-use std::collections::{BTreeMap, BTreeSet};
 
 /// A plan's state, and its position among the activations in force.
 #[derive(Clone, Copy, PartialEq, Eq)]
@@ -24,34 +22,29 @@ pub struct Place {
     pub position: u64,
 }
 
-/// Plans by name, of which this one is in this state, and the order of the activations in force.
-#[derive(Clone, Copy)]
-pub struct PlansAt<'a, A: Allocator + Copy> {
-    pub plans: &'a BTreeMap<Name, KeptPlan<A>, A>,
-    pub turned: Name,
-    pub state: PlanState,
-    pub order: &'a [Name],
-}
-
-/// The state of the plan of this name.
-fn state_at<A: Allocator + Copy>(at: &PlansAt<'_, A>, name: &Name, kept: &KeptPlan<A>) -> PlanState
-    ensures { result ≡ spec.state_at at.now name.now kept.now }
+/// Whether the activation of a plan in this state is in force.
+fn is_active(state: PlanState) -> bool
+    ensures { IsTrue result ↔ (state ≡ states.Active) }
 {
-    if *name == at.turned {
-        at.state
-    } else {
-        kept.state()
-    }
+    state == PlanState::Active
 }
 
-/// The state of the plan of this name, and its position.
-fn place_of<A: Allocator + Copy>(at: &PlansAt<'_, A>, name: &Name, kept: &KeptPlan<A>) -> Place
-    ensures state { result.state ≡ spec.state_at at.now name.now kept.now }
-    ensures position { IsPosition at.now.order.now name.now result.position }
+/// The position of a plan in this state, where an active one is the last of so many in force: 1 for
+/// the first, or 0 where it is not in force.
+fn position_in(state: PlanState, in_force: u64) -> u64
+    ensures { (order : List (List ℕ)) (n : List ℕ) → spec.IsLastIfActive order in_force n state → IsPosition order n result }
+{
+    if is_active(state) { in_force } else { 0 }
+}
+
+/// The place of a plan in this state, where an active one is the last of so many in force.
+pub fn place_in(state: PlanState, in_force: u64) -> Place
+    ensures state { result.state ≡ state }
+    ensures position { (order : List (List ℕ)) (n : List ℕ) → spec.IsLastIfActive order in_force n state → IsPosition order n result.position }
 {
     Place {
-        state: state_at(at, name, kept),
-        position: position_of(at.order, name),
+        state,
+        position: position_in(state, in_force),
     }
 }
 
@@ -63,10 +56,7 @@ fn is_same_place(place: &Place, other: &Place) -> bool
 }
 
 /// The row of the plan of this name at this place.
-///
-/// # Errors
-/// `AllocError` where there is no memory.
-pub fn row_of<A: Allocator + Copy>(
+fn row_of<A: Allocator + Copy>(
     alloc: A,
     name: &Name,
     kept: &KeptPlan<A>,
@@ -86,46 +76,43 @@ pub fn row_of<A: Allocator + Copy>(
     })
 }
 
-/// Puts the row of the plan of this name behind the others, if there is one, and it has another place
-/// among the others.
-fn push_row<A: Allocator + Copy>(
-    alloc: A,
-    rows: &mut Vec<PlanRow<A>, A>,
-    at: &PlansAt<'_, A>,
-    other: &PlansAt<'_, A>,
-    name: &Name,
-) -> Result<(), AllocError>
-    ensures { OnOk result ((w v : WorldRows) → spec.AreTold at.now other.now w v → spec.IsPut (spec.IsOnlyRow w v) name.now rows.old.items rows.new.items) }
-{
-    let Some(kept) = at.plans.get(name) else {
-        return Ok(());
-    };
-    let place = place_of(at, name, kept);
-    let other_place = place_of(other, name, kept);
-    if is_same_place(&place, &other_place) {
-        return Ok(());
-    }
-    let row = row_of(alloc, name, kept, place)?;
-    rows.push(row)?;
-    Ok(())
-}
-
-/// The rows of the plans of these names that have another place among the others.
+/// The row of the plan of this name at this place, and no other.
 ///
 /// # Errors
 /// `AllocError` where there is no memory.
-pub fn rows_only_at<A: Allocator + Copy>(
+pub fn one_row<A: Allocator + Copy>(
     alloc: A,
-    names: &BTreeSet<Name, A>,
-    at: &PlansAt<'_, A>,
-    other: &PlansAt<'_, A>,
+    name: &Name,
+    kept: &KeptPlan<A>,
+    place: Place,
 ) -> Result<Vec<PlanRow<A>, A>, AllocError>
-    ensures { IfOk result (λ rows. (w v : WorldRows) → spec.AreTold at.now other.now w v → spec.AreListedIn (spec.IsOnlyRow w v) (spec.HasName names.now) rows.items) }
+    ensures row { IfOk result (λ rows. rows.items ≡ spec.row_at name.now kept.now place ∷ []) }
+    ensures spelt { OnOk result (IsWithinLimits kept.now.steps → Spells (plan_text kept.now.steps) kept.now.steps) }
 {
-    let _count = names.len();
+    let row = row_of(alloc, name, kept, place)?;
     let mut rows = Vec::new(alloc);
-    for name in names {
-        push_row(alloc, &mut rows, at, other, name)?;
-    }
+    rows.push(row)?;
     Ok(rows)
+}
+
+/// The rows of plans where one comes from a place to another: its row there goes, and its row here
+/// comes, unless the places are one.
+///
+/// # Errors
+/// `AllocError` where there is no memory.
+pub fn row_moved<A: Allocator + Copy>(
+    alloc: A,
+    name: &Name,
+    kept: &KeptPlan<A>,
+    before: Place,
+    after: Place,
+) -> Result<Moved<PlanRow<A>, A>, AllocError>
+    ensures { IfOk result (λ m. (w v : WorldRows) → spec.ComesTo w v name.now kept.now before after → AreMoved plan_order IsPlanRow w v m.removed.items m.added.items) }
+{
+    if is_same_place(&before, &after) {
+        return Ok(none_moved(alloc));
+    }
+    let removed = one_row(alloc, name, kept, before)?;
+    let added = one_row(alloc, name, kept, after)?;
+    Ok(Moved { removed, added })
 }

@@ -13,8 +13,7 @@ ghost use Rattle.fab_desk_rows.specs.Moves.{AreMoved, ArePlanTablesMoved, IsStag
 
 use crate::approvals::{staged_approvals, turned_approvals};
 use crate::moved::{Moved, none_moved};
-use crate::orders::{movable, position_of};
-use crate::plan_rows::{Place, PlansAt, row_of, rows_only_at};
+use crate::plan_rows::{Place, one_row, place_in, row_moved};
 use crate::undo::turned_undo;
 use fab_desk_commands::{Next, Turn};
 use fab_names::Name;
@@ -51,13 +50,12 @@ fn staged_rows<A: Allocator + Copy>(
     requires { map.contains_key world.now.plans name.now ≡ false }
     ensures { IfOk result (λ m. (v : WorldRows) → IsStagedTo world.now name.now kept.now v → IsSound world.now → IsSound v → AreMoved plan_order IsPlanRow world.now v m.removed.items m.added.items) }
 {
+    let _world = world;
     let place = Place {
         state: kept.state(),
-        position: position_of(world.order.as_slice(), name),
+        position: 0,
     };
-    let row = row_of(alloc, name, kept, place)?;
-    let mut added = Vec::new(alloc);
-    added.push(row)?;
+    let added = one_row(alloc, name, kept, place)?;
     Ok(Moved {
         removed: Vec::new(alloc),
         added,
@@ -111,49 +109,36 @@ fn state_after<A: Allocator + Copy>(turn: &Turn<A>) -> PlanState
     }
 }
 
-/// The rows of plans where one takes a turn, and this is the order of the activations in force then.
+/// The rows of plans where one takes a turn. An activated one is the last in force then, and it was
+/// the last that is rolled back.
 fn turned_rows<A: Allocator + Copy>(
     alloc: A,
     world: &World<A>,
     name: &Name,
     turn: &Turn<A>,
-    order: &[Name],
 ) -> Result<Moved<PlanRow<A>, A>, AllocError>
     requires { LeadsAt world.now name.now turn.now }
-    ensures { IfOk result (λ m. (v : WorldRows) → IsTurnedTo world.now name.now turn.now order.now v → IsSound world.now → IsSound v → AreMoved plan_order IsPlanRow world.now v m.removed.items m.added.items) }
+    ensures { IfOk result (λ m. (v : WorldRows) → IsTurnedTo world.now name.now turn.now v → IsSound world.now → IsSound v → AreMoved plan_order IsPlanRow world.now v m.removed.items m.added.items) }
 {
-    let before = PlansAt {
-        plans: &world.plans,
-        turned: *name,
-        state: plan_at(world, name, turn).state(),
-        order: world.order.as_slice(),
-    };
-    let after = PlansAt {
-        plans: &world.plans,
-        turned: *name,
-        state: state_after(turn),
-        order,
-    };
-    let names = movable(alloc, name, before.order, after.order)?;
-    let removed = rows_only_at(alloc, &names, &before, &after)?;
-    let added = rows_only_at(alloc, &names, &after, &before)?;
-    Ok(Moved { removed, added })
+    let kept = plan_at(world, name, turn);
+    let in_force = world.order.len() as u64;
+    let before = place_in(kept.state(), in_force);
+    let after = place_in(state_after(turn), in_force + 1);
+    row_moved(alloc, name, kept, before, after)
 }
 
-/// The rows of the three tables where a plan takes a turn, and this is the order of the activations in
-/// force then.
+/// The rows of the three tables where a plan takes a turn.
 fn turned_tables<A: Allocator + Copy>(
     alloc: A,
     world: &World<A>,
     name: &Name,
     turn: &Turn<A>,
-    order: &[Name],
 ) -> Result<PlanTables<A>, AllocError>
     requires { LeadsAt world.now name.now turn.now }
-    ensures { IfOk result (λ t. (v : WorldRows) → IsTurnedTo world.now name.now turn.now order.now v → IsSound world.now → IsSound v → ArePlanTablesMoved world.now v t) }
+    ensures { IfOk result (λ t. (v : WorldRows) → IsTurnedTo world.now name.now turn.now v → IsSound world.now → IsSound v → ArePlanTablesMoved world.now v t) }
 {
     let kept = plan_at(world, name, turn);
-    let plans = turned_rows(alloc, world, name, turn, order)?;
+    let plans = turned_rows(alloc, world, name, turn)?;
     let approvals = turned_approvals(alloc, name, kept, turn)?;
     let undo = turned_undo(alloc, name, kept, turn)?;
     Ok(PlanTables {
@@ -180,14 +165,7 @@ pub fn plan_tables_moved<A: Allocator + Copy>(
     match next {
         Next::Same | Next::Stock { .. } => Ok(no_tables(alloc)),
         Next::Staged { name, plan, .. } => staged_tables(alloc, world, name, plan),
-        Next::Turned { name, turn } => {
-            turned_tables(alloc, world, name, turn, world.order.as_slice())
-        }
-        Next::Reconfigured {
-            name,
-            turn,
-            order,
-            ..
-        } => turned_tables(alloc, world, name, turn, order.as_slice()),
+        Next::Turned { name, turn } => turned_tables(alloc, world, name, turn),
+        Next::Reconfigured { name, turn, .. } => turned_tables(alloc, world, name, turn),
     }
 }

@@ -15,8 +15,9 @@ pub const COUNT_WIDTH: usize = 6;
 /// As many spaces as the widest column has.
 const SPACES: &[u8; NAME_WIDTH] = &[b' '; NAME_WIDTH];
 
-/// The spaces that fill a column beside a text: none where the text is as wide.
-fn spaces_beside<'x>(text: &[u8], width: usize) -> &'x [u8]
+/// The spaces that fill a column of this width, in bytes, beside a text: none where the text is as
+/// wide. No column is wider than `NAME_WIDTH`.
+pub fn spaces_beside<'x>(text: &[u8], width: usize) -> &'x [u8]
     requires { width ≤ 24 }
     ensures { result.now ≡ replicate (width - length text.now) 32 }
 {

@@ -14,7 +14,7 @@ mod printing;
 mod reports;
 
 pub use active::active_text;
-pub use columns::{COUNT_WIDTH, NAME_WIDTH, put_four, put_three};
+pub use columns::{COUNT_WIDTH, NAME_WIDTH, put_four, put_three, spaces_beside};
 pub use fab_wire_requests::port_list::{FileFault, read_ports};
 pub use forms::Form;
 pub use paths::paths_csv;

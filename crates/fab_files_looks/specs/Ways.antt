@@ -1,18 +1,22 @@
 -- Why a host reaches a volume or does not, as texts.
-use Rattle.std.specs.Prelude.{ℕ, List, [], ◌∷◌, ◌++◌, length, Bool, true, false, nat_eq, codes, decimal}
+use Rattle.std.specs.Prelude.{ℕ, List, [], ◌∷◌, ◌++◌, length, Bool, true, false, nat_eq, count_by, codes, decimal}
 use Rattle.std.specs.List.{flat_map}
 use Rattle.serde_json.specs.Data.{Data, boolean}
 use Rattle.fab_names.specs.Fabrics.{fabric_text}
+use Rattle.fab_names.specs.declared.fabric.Fabric.TheVariants.{A, B}
 use Rattle.fab_names.specs.WorldWideNames.{wwn_text}
 use Rattle.fab_inventory.specs.declared.holder.HolderKind.{HolderKind}
 use Rattle.fab_inventory.specs.declared.holder.HolderKind.TheVariants as kind
 use Rattle.fab_reach_base.specs.declared.path.Path.{Path}
 use Rattle.fab_desk_base.specs.declared.reply.Shown.{Shown}
 use Rattle.fab_desk_base.specs.declared.reply.Shown.TheVariants as shown
+use Rattle.fab_looks_base.specs.Reachers.{is_in}
 use Rattle.fab_looks_base.specs.declared.explaining.Why.{Why}
 use Rattle.fab_looks_base.specs.declared.explaining.Why.TheVariants as why
 use Rattle.fab_looks_base.specs.declared.link.Link.{Link}
+use Rattle.fab_looks_ways.specs.declared.pairing.Pair.{Pair}
 use Rattle.fab_files_looks.specs.Lines.{row_line}
+use Rattle.fab_files_looks.specs.Pairs.{pair_data, pair_lines}
 use Rattle.fab_files_looks.specs.Words.{link_word, missing_words}
 use Rattle.fab_wire_answers.specs.Bodies.{shown_body}
 use Rattle.fab_wire_answers.specs.Parts.{word, path_data}
@@ -21,23 +25,23 @@ use Rattle.fab_wire_streams.specs.Values.{record_of, list_data}
 
 -- ---- as JSON
 
--- a host that reaches a volume, and what reads show of the way
-abbrev pub reaches_data : {A : Type 0} → List ℕ → List ℕ → List Path → List (Shown A) → Data
-reaches_data host volume paths found =
-    record_of ((codes "found", list_data shown_body found) ∷ (codes "host", word host) ∷ (codes "paths", list_data path_data paths) ∷ (codes "reaches", boolean true) ∷ (codes "volume", word volume) ∷ [])
+-- a host that reaches a volume, what reads show of the way, and the pairs of ports
+abbrev pub reaches_data : {A : Type 0} → List ℕ → List ℕ → List Path → List (Shown A) → List Pair → Data
+reaches_data host volume paths found pairs =
+    record_of ((codes "found", list_data shown_body found) ∷ (codes "host", word host) ∷ (codes "pairs", list_data pair_data pairs) ∷ (codes "paths", list_data path_data paths) ∷ (codes "reaches", boolean true) ∷ (codes "volume", word volume) ∷ [])
 
 -- one that does not, and the first link that is missing
-abbrev pub missing_data : {A : Type 0} → List ℕ → List ℕ → Link → List (Shown A) → Data
-missing_data host volume link found =
-    record_of ((codes "found", list_data shown_body found) ∷ (codes "host", word host) ∷ (codes "missing", word (link_word link)) ∷ (codes "reaches", boolean false) ∷ (codes "volume", word volume) ∷ [])
+abbrev pub missing_data : {A : Type 0} → List ℕ → List ℕ → Link → List (Shown A) → List Pair → Data
+missing_data host volume link found pairs =
+    record_of ((codes "found", list_data shown_body found) ∷ (codes "host", word host) ∷ (codes "missing", word (link_word link)) ∷ (codes "pairs", list_data pair_data pairs) ∷ (codes "reaches", boolean false) ∷ (codes "volume", word volume) ∷ [])
 
-abbrev pub way_data : {A : Type 0} → List ℕ → List ℕ → Why A → List (Shown A) → Data
-way_data host volume (why.Reaches paths) found = reaches_data host volume paths.items found
-way_data host volume (why.Missing link) found = missing_data host volume link found
+abbrev pub way_data : {A : Type 0} → List ℕ → List ℕ → Why A → List (Shown A) → List Pair → Data
+way_data host volume (why.Reaches paths) found pairs = reaches_data host volume paths.items found pairs
+way_data host volume (why.Missing link) found pairs = missing_data host volume link found pairs
 
 -- the object, and a line feed
-abbrev pub way_json : {A : Type 0} → List ℕ → List ℕ → Why A → List (Shown A) → List ℕ
-way_json host volume answer found = json_text (way_data host volume answer found) ++ 10 ∷ []
+abbrev pub way_json : {A : Type 0} → List ℕ → List ℕ → Why A → List (Shown A) → List Pair → List ℕ
+way_json host volume answer found pairs = json_text (way_data host volume answer found pairs) ++ 10 ∷ []
 
 -- ---- for people
 
@@ -70,18 +74,18 @@ abbrev pub path_lines : List Path → List ℕ
 path_lines paths = flat_map path_line paths
 
 abbrev pub paths_word_if : Bool → List ℕ
-paths_word_if true = codes " path\n"
-paths_word_if false = codes " paths\n"
+paths_word_if true = codes " path: A "
+paths_word_if false = codes " paths: A "
 
 abbrev pub paths_word : ℕ → List ℕ
 paths_word count = paths_word_if (nat_eq count 1)
 
--- how many paths there are
-unfoldable pub yes_line : ℕ → List ℕ
-yes_line count = codes "YES  " ++ (decimal count ++ paths_word count)
+-- how many paths there are, and how many of them at each fabric
+unfoldable pub yes_line : List Path → List ℕ
+yes_line paths = codes "YES  " ++ (decimal (length paths) ++ (paths_word (length paths) ++ (decimal (count_by (is_in A) paths) ++ (codes ", B " ++ (decimal (count_by (is_in B) paths) ++ (10 ∷ []))))))
 
 abbrev pub yes_text : List Path → List ℕ
-yes_text paths = path_lines paths ++ yes_line (length paths)
+yes_text paths = path_lines paths ++ yes_line paths
 
 -- the first link that is missing
 unfoldable pub no_line : Link → List ℕ
@@ -91,6 +95,6 @@ abbrev pub answer_text : {A : Type 0} → Why A → List ℕ
 answer_text (why.Reaches paths) = yes_text paths.items
 answer_text (why.Missing link) = no_line link
 
--- what reads show of the way, the paths, and the answer
-abbrev pub way_text : {A : Type 0} → Why A → List (Shown A) → List ℕ
-way_text answer found = found_lines found ++ answer_text answer
+-- what reads show of the way, the pairs of ports, the paths, and the answer
+abbrev pub way_text : {A : Type 0} → Why A → List (Shown A) → List Pair → List ℕ
+way_text answer found pairs = found_lines found ++ (pair_lines pairs ++ answer_text answer)

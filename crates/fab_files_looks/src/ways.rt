@@ -1,18 +1,22 @@
 //! Why a host reaches a volume or does not, as texts.
-ghost use Rattle.std.specs.Prelude.{◌≡◌};
+ghost use Rattle.std.specs.Prelude.{◌≡◌, count_by};
 ghost use Rattle.fab_files_looks.specs.Ways as ways;
 ghost use Rattle.fab_files_looks.specs.Ways.{found_line, found_lines, missing_data, no_line, path_line, path_lines, reaches_data, way_json, way_text, yes_line};
+ghost use Rattle.fab_looks_base.specs.Reachers.{is_in};
 ghost use Rattle.fab_looks_base.specs.declared.explaining.Why.TheVariants.{Missing, Reaches};
 ghost use Rattle.fab_wire_streams.specs.JsonText.{json_text};
 ghost use Rattle.fab_wire_streams.specs.Taking.{Takes};
 
 use crate::lines::put_row;
+use crate::pairs::put_pairs;
+use crate::pieces::Pieces;
 use crate::words::{link_word, missing_words};
 use fab_desk_base::Shown;
 use fab_files::Printable;
 use fab_inventory::HolderKind;
 use fab_looks_base::{Link, Why};
-use fab_names::Name;
+use fab_looks_ways::Pair;
+use fab_names::{Fabric, Name};
 use fab_reach_base::Path;
 use fab_wire_answers::parts::Parts;
 use fab_wire_streams::object;
@@ -31,13 +35,22 @@ pub struct WayJson<'w, A: Allocator + Copy> {
     pub why: &'w Why<A>,
     /// What reads show of the way.
     pub found: &'w [Shown<A>],
+    /// The pairs of ports.
+    pub pairs: &'w [Pair],
 }
 
 impl<A: Allocator + Copy> Printable for WayJson<'_, A> {
-    ghost text = { λ w. way_json w.host w.volume w.why.now w.found.now };
+    ghost text = { λ w. way_json w.host w.volume w.why.now w.found.now w.pairs.now };
 
     fn put<S: Sink>(&self, sink: &mut S) -> Result<(), WriteFailed> {
-        let Ok(()) = put_data(sink, self.host, self.volume, self.why, self.found) else {
+        let Ok(()) = put_data(
+            sink,
+            self.host,
+            self.volume,
+            self.why,
+            self.found,
+            self.pairs,
+        ) else {
             return Err(WriteFailed);
         };
         sink.take(b"\n")
@@ -51,12 +64,13 @@ fn put_data<S: Sink, A: Allocator + Copy>(
     volume: Name,
     why: &Why<A>,
     found: &[Shown<A>],
+    pairs: &[Pair],
 ) -> Result<(), WriteFailed>
-    ensures { Takes S.took S.cut sink.old (json_text (ways.way_data host volume why.now found.now)) sink.new result }
+    ensures { Takes S.took S.cut sink.old (json_text (ways.way_data host volume why.now found.now pairs.now)) sink.new result }
 {
     match why {
-        Why::Reaches(paths) => put_reaches(sink, host, volume, paths.as_slice(), found),
-        Why::Missing(link) => put_missing(sink, host, volume, *link, found),
+        Why::Reaches(paths) => put_reaches(sink, host, volume, paths.as_slice(), found, pairs),
+        Why::Missing(link) => put_missing(sink, host, volume, *link, found, pairs),
     }
 }
 
@@ -67,12 +81,14 @@ fn put_reaches<S: Sink, A: Allocator + Copy>(
     volume: Name,
     paths: &[Path],
     found: &[Shown<A>],
+    pairs: &[Pair],
 ) -> Result<(), WriteFailed>
-    ensures { Takes S.took S.cut sink.old (json_text (reaches_data host volume paths.now found.now)) sink.new result }
+    ensures { Takes S.took S.cut sink.old (json_text (reaches_data host volume paths.now found.now pairs.now)) sink.new result }
 {
     object! {
         "found": Parts(found),
         "host": host,
+        "pairs": Pieces(pairs),
         "paths": Parts(paths),
         "reaches": true,
         "volume": volume
@@ -87,13 +103,15 @@ fn put_missing<S: Sink, A: Allocator + Copy>(
     volume: Name,
     link: Link,
     found: &[Shown<A>],
+    pairs: &[Pair],
 ) -> Result<(), WriteFailed>
-    ensures { Takes S.took S.cut sink.old (json_text (missing_data host volume link found.now)) sink.new result }
+    ensures { Takes S.took S.cut sink.old (json_text (missing_data host volume link found.now pairs.now)) sink.new result }
 {
     object! {
         "found": Parts(found),
         "host": host,
         "missing": Text(link_word(link)),
+        "pairs": Pieces(pairs),
         "reaches": false,
         "volume": volume
     }
@@ -101,20 +119,25 @@ fn put_missing<S: Sink, A: Allocator + Copy>(
 }
 
 /// Why a host reaches a volume or does not, in words: a line for each thing of the way that a read
-/// shows, a line for each path, and the answer.
+/// shows, a line for each pair of ports, a line for each path, and the answer.
 #[derive(Clone, Copy)]
 pub struct WayText<'w, A: Allocator + Copy> {
     /// The answer.
     pub why: &'w Why<A>,
     /// What reads show of the way.
     pub found: &'w [Shown<A>],
+    /// The pairs of ports.
+    pub pairs: &'w [Pair],
 }
 
 impl<A: Allocator + Copy> Printable for WayText<'_, A> {
-    ghost text = { λ w. way_text w.why.now w.found.now };
+    ghost text = { λ w. way_text w.why.now w.found.now w.pairs.now };
 
     fn put<S: Sink>(&self, sink: &mut S) -> Result<(), WriteFailed> {
         let Ok(()) = put_found(sink, self.found) else {
+            return Err(WriteFailed);
+        };
+        let Ok(()) = put_pairs(sink, self.pairs) else {
             return Err(WriteFailed);
         };
         put_answer(sink, self.why)
@@ -202,7 +225,7 @@ fn put_yes<S: Sink>(sink: &mut S, paths: &[Path]) -> Result<(), WriteFailed>
     let Ok(()) = put_paths(sink, paths) else {
         return Err(WriteFailed);
     };
-    put_count(sink, paths.len())
+    put_count(sink, paths)
 }
 
 /// Puts a line for each path.
@@ -236,22 +259,54 @@ fn put_path<S: Sink>(sink: &mut S, path: &Path) -> Result<(), WriteFailed>
     put_all(sink, &texts)
 }
 
-/// The word for so many paths, and the end of the line.
+/// The word for so many paths, and what stands before the count at the first fabric.
 fn paths_word(count: usize) -> &'static str
     ensures { result.now ≡ ways.paths_word count }
 {
-    if count == 1 { " path\n" } else { " paths\n" }
+    if count == 1 {
+        " path: A "
+    } else {
+        " paths: A "
+    }
 }
 
-/// Puts the last line of a host that reaches a volume by so many paths.
-fn put_count<S: Sink>(sink: &mut S, count: usize) -> Result<(), WriteFailed>
-    ensures { Takes S.took S.cut sink.old (yes_line count) sink.new result }
+/// Whether the path is in the fabric.
+fn is_in(fabric: Fabric, path: &Path) -> bool
+    ensures { result ≡ is_in fabric path.now }
 {
-    let mut digits = Buffer::new();
+    match fabric {
+        Fabric::A => match path.fabric {
+            Fabric::A => true,
+            Fabric::B => false,
+        },
+        Fabric::B => match path.fabric {
+            Fabric::A => false,
+            Fabric::B => true,
+        },
+    }
+}
+
+/// How many of the paths are in the fabric.
+fn count_at(paths: &[Path], fabric: Fabric) -> usize
+    ensures { result ≡ count_by (is_in fabric) paths.now }
+{
+    paths.iter().filter(|path| is_in(fabric, path)).count()
+}
+
+/// Puts the last line of a host that reaches a volume by these paths: how many there are, and how many of
+/// them at each fabric.
+fn put_count<S: Sink>(sink: &mut S, paths: &[Path]) -> Result<(), WriteFailed>
+    ensures { Takes S.took S.cut sink.old (yes_line paths.now) sink.new result }
+{
+    let (mut digits, mut at_a, mut at_b) = (Buffer::new(), Buffer::new(), Buffer::new());
     let texts = [
         b"YES  ".as_slice(),
-        digits.format(count).as_bytes(),
-        paths_word(count).as_bytes(),
+        digits.format(paths.len()).as_bytes(),
+        paths_word(paths.len()).as_bytes(),
+        at_a.format(count_at(paths, Fabric::A)).as_bytes(),
+        b", B ".as_slice(),
+        at_b.format(count_at(paths, Fabric::B)).as_bytes(),
+        b"\n".as_slice(),
     ];
     put_all(sink, &texts)
 }

@@ -80,7 +80,11 @@ fn has_host<A: Allocator + Copy>(mapping: &Mapping<A>, hosts: &Name, host: &Name
 }
 
 /// Whether one of the storage group's host groups has the host.
-fn serves<A: Allocator + Copy>(mapping: &Mapping<A>, group: &StorageGroup<A>, host: &Name) -> bool
+pub fn serves<A: Allocator + Copy>(
+    mapping: &Mapping<A>,
+    group: &StorageGroup<A>,
+    host: &Name,
+) -> bool
     ensures { IsTrue result ↔ Serves mapping.now group.now host.now }
 {
     for hosts in group.host_groups() {

@@ -1,7 +1,7 @@
-//! Plays worlds whose looks are known. Its word names the file, `data/worlds.txt`, which has 100 random worlds, and of each what
-//! two callers have to be told of every pair of a host and a volume, and of every volume. It is made by
-//! `tools/looks_worlds.py` from the definitions alone, and never by what is played here. Nothing here is
-//! part of the product.
+//! Plays worlds whose looks are known. Its word names the file, `data/worlds.txt`, which has a few worlds that
+//! were written by hand and 100 random ones, and of each what two callers have to be told of every pair of a
+//! host and a volume, and of every volume. It is made by `tools/looks_worlds.py` from the definitions alone,
+//! and never by what is played here. Nothing here is part of the product.
 //!
 //! A line is a word, a space, and a text:
 //!
@@ -17,6 +17,8 @@
 //! | `plan` | none: the plan is done, and begins anew |
 //! | `why` | a caller, a host and a volume, ` = `, and `FABRIC INITIATOR TARGET UNIT` of each path in order, or the word of the missing link |
 //! | `who` | a caller and a volume, ` = `, and `HOST A B` of each host in order, or `nobody` |
+//! | `pairs` | a caller, a host and a volume, ` = `, and `FABRIC INITIATOR TARGET` with `zone NAME`, `default`, or `apart` and the zones of each port (`0`, `1:NAME`, or how many), or `none` |
+//! | `by` | a caller and a volume, ` = `, and `HOST TENANT UNITS GROUPS` of each host in order, or `nobody` |
 //!
 //! What differs is told on standard output with the number of its line, and the status is then 1; a line
 //! that is not of this form, or that can not be done, is told on standard error and ends it with status 3.

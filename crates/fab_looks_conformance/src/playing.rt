@@ -61,7 +61,9 @@ fn play_line(
             *making = Making::new(rt.alloc());
             Some(None)
         }
-        "why" | "who" => Some(Some(is_told(rt, policy, making, number, word, text)?)),
+        "why" | "who" | "pairs" | "by" => Some(Some(is_told(
+            rt, policy, making, number, word, text,
+        )?)),
         _ => {
             making.make(word, text)?;
             Some(None)

@@ -1,6 +1,7 @@
 //! Command lines, and what they ask for.
 use clap::error::ErrorKind;
-use fab_program_options::{SUBCOMMANDS, Subcommand, Words, WordsFault, read_words};
+use fab_program_options::{SUBCOMMANDS, Subcommand, WordsFault, read_words};
+use fab_program_words::Words;
 use std::process::Abort;
 
 /// What words come to.
@@ -257,6 +258,84 @@ const CASES: &[Case] = &[
     (
         "explain --caller ada --action stage",
         Outcome::Refused(ErrorKind::MissingRequiredArgument),
+    ),
+    (
+        "tryimport --db d --policy p --token t --fabric A --file f.csv",
+        Outcome::Asks(
+            "TryImport(TryImport { access: Access { db: \"d\", policy: \"p\", token: \"t\" }, fabric: A, file: \"f.csv\", most_lost: None, is_json: false })",
+        ),
+    ),
+    (
+        "tryimport --json --most-lost 0 --file f.csv --fabric B --token t --policy p --db d",
+        Outcome::Asks(
+            "TryImport(TryImport { access: Access { db: \"d\", policy: \"p\", token: \"t\" }, fabric: B, file: \"f.csv\", most_lost: Some(0), is_json: true })",
+        ),
+    ),
+    (
+        "tryimport --db d --policy p --token t --fabric A --file f.csv --most-lost=18446744073709551615",
+        Outcome::Asks(
+            "TryImport(TryImport { access: Access { db: \"d\", policy: \"p\", token: \"t\" }, fabric: A, file: \"f.csv\", most_lost: Some(18446744073709551615), is_json: false })",
+        ),
+    ),
+    (
+        "tryimport --db d --policy p --token t --fabric A --file f.csv --most-lost 18446744073709551616",
+        Outcome::BadText,
+    ),
+    (
+        "tryimport --db d --policy p --token t --fabric A --file f.csv --most-lost=-1",
+        Outcome::BadText,
+    ),
+    (
+        "tryimport --db d --policy p --token t --fabric A --file f.csv --most-lost=",
+        Outcome::BadText,
+    ),
+    (
+        "tryimport --db d --policy p --token t --fabric C --file f.csv",
+        Outcome::BadText,
+    ),
+    (
+        "tryimport --db d --policy p --token t --fabric A --file f.csv --most-lost",
+        Outcome::Refused(ErrorKind::InvalidValue),
+    ),
+    (
+        "tryimport --db d --policy p --token t --fabric A",
+        Outcome::Refused(ErrorKind::MissingRequiredArgument),
+    ),
+    (
+        "tryimport --db d --policy p --token t --fabric A --file f.csv --now 7",
+        Outcome::Refused(ErrorKind::UnknownArgument),
+    ),
+    (
+        "import --db d --policy p --token t --fabric A --file f.csv --most-lost 0",
+        Outcome::Refused(ErrorKind::UnknownArgument),
+    ),
+    (
+        "diff --db d --policy p --token t --plan p1",
+        Outcome::Asks(
+            "Diff(Diff { access: Access { db: \"d\", policy: \"p\", token: \"t\" }, plan: \"p1\", is_json: false })",
+        ),
+    ),
+    (
+        "diff --plan=p1 --json --db d --policy p --token t",
+        Outcome::Asks(
+            "Diff(Diff { access: Access { db: \"d\", policy: \"p\", token: \"t\" }, plan: \"p1\", is_json: true })",
+        ),
+    ),
+    (
+        "diff --db d --policy p --token t --plan p/1",
+        Outcome::BadText,
+    ),
+    (
+        "diff --db d --policy p --token= --plan p1",
+        Outcome::BadText,
+    ),
+    (
+        "diff --db d --policy p --token t",
+        Outcome::Refused(ErrorKind::MissingRequiredArgument),
+    ),
+    (
+        "diff --db d --policy p --token t --plan p1 --now 5",
+        Outcome::Refused(ErrorKind::UnknownArgument),
     ),
     ("", Outcome::Refused(ErrorKind::MissingSubcommand)),
     ("serv", Outcome::Refused(ErrorKind::InvalidSubcommand)),

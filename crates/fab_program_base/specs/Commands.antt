@@ -13,9 +13,9 @@ use Rattle.fab_program_outside.specs.Contents.{HasContent, IsPolicyAt, IsUnread}
 use Rattle.fab_program_outside.specs.declared.faults.Fault.{Fault}
 use Rattle.fab_program_outside.specs.declared.files.Files as files
 use Rattle.fab_store.specs.declared.Store as store
-use Rattle.fab_program_options.specs.declared.words.Access.{Access}
-use Rattle.fab_program_options.specs.declared.words.DryRun.{DryRun}
-use Rattle.fab_program_options.specs.declared.words.Import.{Import}
+use Rattle.fab_program_words.specs.declared.words.Access.{Access}
+use Rattle.fab_program_words.specs.declared.words.DryRun.{DryRun}
+use Rattle.fab_program_words.specs.declared.words.Import.{Import}
 use Rattle.fab_program_base.specs.Desks.{ProgramDesk}
 use Rattle.fab_program_base.specs.Tasks.{ComesOver, ImportsAt, Replies}
 use Rattle.fab_program_base.specs.declared.database.Databases as databases

@@ -6,6 +6,7 @@ pub mod Exits
 pub mod Fronts
 pub mod Once
 pub mod Prints
+pub mod Tries
 pub mod Runs
 pub mod Servings
 pub mod Tasks

@@ -5,12 +5,12 @@ use Rattle.fab_files.specs.declared.printing.End.{End}
 use Rattle.fab_program_looks.specs.Looks.{LooksOver}
 use Rattle.fab_program_looks.specs.declared.looks.Look.{Look}
 use Rattle.fab_program_looks.specs.declared.looks.Look.TheVariants as look
-use Rattle.fab_program_options.specs.declared.words.Access.{Access}
-use Rattle.fab_program_options.specs.declared.words.Names.{Names}
-use Rattle.fab_program_options.specs.declared.words.Who.{Who}
-use Rattle.fab_program_options.specs.declared.words.WhoOf.{WhoOf}
-use Rattle.fab_program_options.specs.declared.words.WhoOf.TheVariants as of
-use Rattle.fab_program_options.specs.declared.words.Why.{Why}
+use Rattle.fab_program_words.specs.declared.words.Access.{Access}
+use Rattle.fab_program_words.specs.declared.words.Names.{Names}
+use Rattle.fab_program_words.specs.declared.words.Who.{Who}
+use Rattle.fab_program_words.specs.declared.words.WhoOf.{WhoOf}
+use Rattle.fab_program_words.specs.declared.words.WhoOf.TheVariants as of
+use Rattle.fab_program_words.specs.declared.words.Why.{Why}
 use Rattle.fab_program_outside.specs.Coming.{Then}
 use Rattle.fab_program_outside.specs.Contents.{IsPolicyAt}
 use Rattle.fab_program_outside.specs.declared.faults.Fault.{Fault}

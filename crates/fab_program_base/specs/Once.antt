@@ -12,8 +12,8 @@ use Rattle.fab_program_outside.specs.declared.files.Files as files
 use Rattle.fab_store.specs.declared.Store as store
 use Rattle.fab_wire.specs.Serving.{Side, side, Serves}
 use Rattle.fab_wire.specs.declared.outcome.Outcome.{Outcome}
-use Rattle.fab_program_options.specs.declared.words.Over.{Over}
-use Rattle.fab_program_options.specs.declared.words.Over.TheVariants as over
+use Rattle.fab_program_words.specs.declared.words.Over.{Over}
+use Rattle.fab_program_words.specs.declared.words.Over.TheVariants as over
 use Rattle.fab_program_base.specs.Databases.{IsDeskOver}
 use Rattle.fab_program_base.specs.Desks.{ProgramDesk}
 use Rattle.fab_program_base.specs.Exits.{ended}

@@ -1,5 +1,5 @@
 -- What the words of the command line come to.
-use Rattle.std.specs.Prelude.{ℕ, ◌≡◌, List, Option, Result, Ok, Err}
+use Rattle.std.specs.Prelude.{ℕ, ◌≡◌, List, Option, None, Result, Ok, Err}
 use Rattle.std.specs.declared.alloc.Global.{Global}
 use Rattle.fab_desk_base.specs.declared.command.Query.TheVariants as query
 use Rattle.fab_files.specs.declared.forms.Form.TheVariants as form
@@ -16,8 +16,8 @@ use Rattle.fab_store.specs.declared.OpenFault.{OpenFault}
 use Rattle.fab_store.specs.declared.Store as store
 use Rattle.fab_program_options.specs.declared.reading.WordsFault.{WordsFault}
 use Rattle.fab_program_options.specs.declared.reading.WordsFault.TheVariants as wrong
-use Rattle.fab_program_options.specs.declared.words.Words.{Words}
-use Rattle.fab_program_options.specs.declared.words.Words.TheVariants as words
+use Rattle.fab_program_words.specs.declared.words.Words.{Words}
+use Rattle.fab_program_words.specs.declared.words.Words.TheVariants as words
 use Rattle.fab_program_checks.specs.Checks.{CheckComes}
 use Rattle.fab_program_checks.specs.declared.modes.Modes as modes
 use Rattle.fab_program_explains.specs.Explains.{ExplainComes, now_in}
@@ -28,6 +28,7 @@ use Rattle.fab_program_base.specs.Exits.{end_of_making, end_only}
 use Rattle.fab_program_base.specs.Looks.{WhyComes, WhoComes, NamesComes}
 use Rattle.fab_program_base.specs.Once.{ComesOnce}
 use Rattle.fab_program_base.specs.Servings.{ComesServing}
+use Rattle.fab_program_base.specs.Tries.{DiffComes, TryImportComes}
 use Rattle.fab_program_base.specs.declared.addresses.Addresses as addresses
 use Rattle.fab_program_base.specs.declared.database.Databases as databases
 
@@ -70,3 +71,5 @@ module _ {O F T M D Reader Writer : Type 0} (f : files.Ghosts O F) (known : F �
   Comes outside (words.Names asked) reader writer ended = EndsLike (NamesComes f known d t contents outside asked writer) ended
   Comes outside (words.Check asked) reader writer ended = EndsLike (CheckComes f known v contents outside asked writer) ended
   Comes outside (words.Explain asked) reader writer ended = EndsAt (now_in asked.of) Tells (λ moment. ExplainComes f known contents outside asked moment writer) ended
+  Comes outside (words.TryImport asked) reader writer ended = EndsAt None Tells (λ moment. TryImportComes f known d t contents outside asked moment writer) ended
+  Comes outside (words.Diff asked) reader writer ended = EndsAt None Tells (λ moment. DiffComes f known d t contents outside asked moment writer) ended

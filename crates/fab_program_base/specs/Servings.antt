@@ -17,7 +17,7 @@ use Rattle.fab_wire_serving.specs.declared.serving.ServeFault.{ServeFault}
 use Rattle.fab_wire.specs.declared.outcome.Outcome.{Outcome}
 use Rattle.fab_store.specs.declared.OpenFault.{OpenFault}
 use Rattle.fab_store.specs.declared.Store as store
-use Rattle.fab_program_options.specs.declared.words.Serve.{Serve}
+use Rattle.fab_program_words.specs.declared.words.Serve.{Serve}
 use Rattle.fab_program_base.specs.Databases.{IsDeskOver}
 use Rattle.fab_program_base.specs.Desks.{ProgramDesk}
 use Rattle.fab_program_base.specs.Exits.{served}

@@ -12,8 +12,8 @@ use crate::tasks::{Call, Task, do_over};
 use fab_desk_base::Query;
 use fab_files::{End, Form};
 use fab_policy_base::Policy;
-use fab_program_options::{Access, DryRun, Export, Import, Paths};
 use fab_program_outside::{Fault, Files, bytes_of, policy_of};
+use fab_program_words::{Access, DryRun, Export, Import, Paths};
 use std::alloc::Global;
 use std::io::Write;
 

@@ -13,6 +13,7 @@ mod running;
 mod serving;
 mod starting;
 mod tasks;
+mod tries;
 
 pub use addresses::Addresses;
 pub use database::Databases;

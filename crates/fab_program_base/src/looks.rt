@@ -9,8 +9,8 @@ use crate::database::Databases;
 use fab_files::End;
 use fab_policy_base::Policy;
 use fab_program_looks::{Asked, Look, look_over};
-use fab_program_options::{Access, Names, Who, WhoOf, Why};
 use fab_program_outside::{Fault, Files, policy_of};
+use fab_program_words::{Access, Names, Who, WhoOf, Why};
 use std::alloc::Global;
 use std::io::Write;
 

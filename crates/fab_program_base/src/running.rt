@@ -7,7 +7,7 @@ ghost use Rattle.fab_store_sql.specs.NewDesk.{IsNewDesk};
 ghost use Rattle.fab_store_sql.specs.Trees.{tables_of};
 ghost use Rattle.fab_wire_streams.specs.Sinks.{Wrote, WroteSome};
 ghost use Rattle.fab_program_options.specs.Asking.{Asks};
-ghost use Rattle.fab_program_options.specs.declared.words.Words.{Words};
+ghost use Rattle.fab_program_words.specs.declared.words.Words.{Words};
 ghost use Rattle.fab_program_base.specs.Exits.{IsExitStatus, end_of_making, end_only, status_of, words_status};
 ghost use Rattle.fab_wire_serving.specs.Turns.{Gives};
 ghost use Rattle.fab_program_base.specs.Once.{ComesOnce};
@@ -20,11 +20,13 @@ use crate::front::Front;
 use crate::looks::{names, who, why};
 use crate::once::once;
 use crate::serving::serve;
+use crate::tries::{diff, try_import};
 use fab_files::End;
 use fab_program_checks::{Modes, check};
 use fab_program_explains::{explain, now_in};
-use fab_program_options::{Once, Words, WordsFault, read_words};
+use fab_program_options::{WordsFault, read_words};
 use fab_program_outside::{Fault, Files, Machine, fail, moment_of, refuse_text};
+use fab_program_words::{Once, Words};
 use fab_store::{SqlStore, Store};
 use fab_wire_serving::Server;
 use fab_wire_streams::counted::Counted;
@@ -99,7 +101,7 @@ pub fn run_over<
 }
 
 /// Does what the words ask for: `import`, `dryrun`, `once` and `explain` at the moment that they give, or
-/// else the clock's, and the others with no moment.
+/// else the clock's, `tryimport` and `diff` at the clock's, and the others with no moment.
 fn carry_out<
     O: Files + Databases + Addresses + Modes,
     N: FnMut() -> Option<u64>,
@@ -139,6 +141,14 @@ fn carry_out<
         Words::Explain(asked) => {
             let moment = moment_of(now_in(&asked.of), now);
             without_writer(explain(alloc, outside, asked, moment, writer))
+        }
+        Words::TryImport(asked) => {
+            let moment = moment_of(None, now);
+            without_writer(try_import(alloc, outside, asked, moment, writer))
+        }
+        Words::Diff(asked) => {
+            let moment = moment_of(None, now);
+            without_writer(diff(alloc, outside, asked, moment, writer))
         }
     }
 }

@@ -7,8 +7,8 @@ use Rattle.fab_program_checks.specs.Lines.{finding_text}
 use Rattle.fab_program_checks.specs.declared.findings.Finding.{Finding}
 use Rattle.fab_program_checks.specs.declared.findings.Finding.TheVariants as finding
 use Rattle.fab_program_checks.specs.declared.modes.Modes as modes
-use Rattle.fab_program_options.specs.declared.words.Check.{Check}
-use Rattle.fab_program_options.specs.declared.words.Check.TheVariants as check
+use Rattle.fab_program_words.specs.declared.words.Check.{Check}
+use Rattle.fab_program_words.specs.declared.words.Check.TheVariants as check
 use Rattle.fab_program_outside.specs.Coming.{Then}
 use Rattle.fab_program_outside.specs.Contents.{HasContent, IsUnread}
 use Rattle.fab_program_outside.specs.Printing.{Prints}

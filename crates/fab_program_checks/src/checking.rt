@@ -9,8 +9,8 @@ use crate::findings::{Finding, find_plan, find_policy, find_ports};
 use crate::lines::FindingText;
 use crate::modes::Modes;
 use fab_files::End;
-use fab_program_options::Check;
 use fab_program_outside::{Fault, Files, bytes_of, print_as};
+use fab_program_words::Check;
 use std::alloc::Global;
 use std::io::Write;
 

@@ -7,14 +7,14 @@ use Rattle.fab_policy_base.specs.Policies.{PolicyRows}
 use Rattle.fab_policy.specs.declared.act.Act.{Act}
 use Rattle.fab_policy.specs.declared.act.PlanApprovals.{PlanApprovals}
 use Rattle.fab_policy_looks.specs.Flaws.{is_of_plan}
-use Rattle.fab_program_options.specs.Lists.{SpellsApproval}
+use Rattle.fab_program_words.specs.Lists.{SpellsApproval}
 use Rattle.fab_policy_base.specs.declared.policy.Action.{Action}
 use Rattle.fab_policy_base.specs.declared.policy.Action.TheVariants as action
-use Rattle.fab_program_options.specs.declared.words.ActionWord.{ActionWord}
-use Rattle.fab_program_options.specs.declared.words.ActionWord.TheVariants as word
-use Rattle.fab_program_options.specs.declared.words.Deed.{Deed}
-use Rattle.fab_program_options.specs.declared.words.NamedFabrics.{NamedFabrics}
-use Rattle.fab_program_options.specs.declared.words.NamedFabrics.TheVariants as named
+use Rattle.fab_program_words.specs.declared.words.ActionWord.{ActionWord}
+use Rattle.fab_program_words.specs.declared.words.ActionWord.TheVariants as word
+use Rattle.fab_program_words.specs.declared.words.Deed.{Deed}
+use Rattle.fab_program_words.specs.declared.words.NamedFabrics.{NamedFabrics}
+use Rattle.fab_program_words.specs.declared.words.NamedFabrics.TheVariants as named
 use Rattle.fab_program_deeds.specs.Parts.{AreReadIn}
 
 -- the caller at the place has the name

@@ -1,6 +1,6 @@
 -- What the parts of a list spell.
 use Rattle.std.specs.Prelude.{◌≡◌, ◌⊎◌, ℕ, List, [], ◌∷◌, ◌++◌, Option, Some, None}
-use Rattle.fab_program_options.specs.Lists.{parts_of}
+use Rattle.fab_program_words.specs.Lists.{parts_of}
 
 -- what the parts spell, in their order: each part that spells something has its place
 abbrev pub AreRead : {X : Type 0} → (List ℕ → X → Type 0) → List (List ℕ) → List X → Type 0

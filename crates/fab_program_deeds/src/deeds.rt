@@ -3,14 +3,14 @@ ghost use Rattle.std.specs.Prelude.{◌≡◌, ℕ, IfNone, IfSome, IsSomeAnd, o
 ghost use Rattle.fab_policy_base.specs.Callers.{HasToken, IsOnlyWith, is_same};
 ghost use Rattle.fab_names.specs.Names.{SpellsName};
 ghost use Rattle.fab_policy_looks.specs.Flaws as flaws;
-ghost use Rattle.fab_program_options.specs.Lists.{SpellsApproval};
+ghost use Rattle.fab_program_words.specs.Lists.{SpellsApproval};
 ghost use Rattle.fab_program_deeds.specs.Deeds as deeds;
 ghost use Rattle.fab_program_deeds.specs.Deeds.{IsActOf, IsCallerNamed, IsPlanOf};
 ghost use Rattle.fab_program_deeds.specs.Parts.{AreReadIn};
 
 use fab_names::{Fabric, Name};
 use fab_policy::{Act, Action, Approval, Caller, CallerId, PlanApprovals, Policy};
-use fab_program_options::{ActionWord, Deed, NamedFabrics};
+use fab_program_words::{ActionWord, Deed, NamedFabrics};
 
 /// Whether the caller has the name.
 fn is_named(caller: &Caller, name: &Name) -> bool

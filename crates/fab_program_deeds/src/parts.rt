@@ -1,12 +1,12 @@
 //! The parts of lists in the words of the command line.
 ghost use Rattle.std.specs.Prelude.{◌≡◌, OnOk, IfOk, map, option_map};
 ghost use Rattle.fab_names.specs.Names.{SpellsName};
-ghost use Rattle.fab_program_options.specs.Lists.{SpellsApproval, parts_of};
+ghost use Rattle.fab_program_words.specs.Lists.{SpellsApproval, parts_of};
 ghost use Rattle.fab_program_deeds.specs.Parts.{AddsRead, AreRead, AreReadIn};
 
 use fab_names::Name;
 use fab_policy::Approval;
-use fab_program_options::approval_of;
+use fab_program_words::approval_of;
 use std::alloc::{AllocError, Global};
 
 /// What stands between commas.

@@ -11,10 +11,10 @@ use Rattle.fab_policy.specs.declared.act.Verdict.{Verdict}
 use Rattle.fab_policy.specs.declared.act.Verdict.TheVariants.{Allowed, Denied}
 use Rattle.fab_policy_looks.specs.Findings.{AreFindings}
 use Rattle.fab_policy_looks.specs.declared.found.RuleFinding.{RuleFinding}
-use Rattle.fab_program_options.specs.declared.words.Deed.{Deed}
-use Rattle.fab_program_options.specs.declared.words.Explain.{Explain}
-use Rattle.fab_program_options.specs.declared.words.ExplainOf.{ExplainOf}
-use Rattle.fab_program_options.specs.declared.words.ExplainOf.TheVariants as of
+use Rattle.fab_program_words.specs.declared.words.Deed.{Deed}
+use Rattle.fab_program_words.specs.declared.words.Explain.{Explain}
+use Rattle.fab_program_words.specs.declared.words.ExplainOf.{ExplainOf}
+use Rattle.fab_program_words.specs.declared.words.ExplainOf.TheVariants as of
 use Rattle.fab_program_outside.specs.Coming.{After, Then}
 use Rattle.fab_program_outside.specs.Contents.{IsPolicyAt}
 use Rattle.fab_program_outside.specs.Printing.{Prints}

@@ -1,4 +1,3 @@
-pub mod Loading
 pub mod Telling
 pub mod Lists
 pub mod Looks

@@ -6,7 +6,7 @@ use Rattle.fab_files.specs.declared.printing.End.{End}
 use Rattle.fab_policy_base.specs.Callers.{IsOnlyWith}
 use Rattle.fab_policy_base.specs.Policies.{PolicyRows}
 use Rattle.fab_program_looks.specs.Lists.{TellsList}
-use Rattle.fab_program_looks.specs.Loading.{IsLoaded}
+use Rattle.fab_program_loading.specs.Loading.{IsLoaded}
 use Rattle.fab_program_looks.specs.Telling.{IsTurnedAway, TellsPort, TellsWay, TellsWho}
 use Rattle.fab_program_looks.specs.declared.looks.Asked.{Asked}
 use Rattle.fab_program_looks.specs.declared.looks.Look.{Look}

@@ -1,6 +1,5 @@
 -- What a caller who looks is told, and what is printed of it.
-use Rattle.std.specs.Prelude.{ℕ, ◌≡◌, ◌⊎◌, List, [], ◌∷◌, map, Bool, true, false, Option, Result, Err}
-use Rattle.std.specs.BTreeMap.{BTreeMap}
+use Rattle.std.specs.Prelude.{ℕ, ◌≡◌, ◌⊎◌, List, [], ◌∷◌, Bool, true, false, Option, Result, Err}
 use Rattle.std.specs.declared.alloc.Global.{Global}
 use Rattle.fab_desk_base.specs.declared.fault.DeskFault.TheVariants as refusal
 use Rattle.fab_desk_base.specs.declared.reply.Reply.TheVariants as reply
@@ -8,17 +7,18 @@ use Rattle.fab_desk_base.specs.declared.reply.Shown.{Shown}
 use Rattle.fab_files.specs.Printed.{json_line}
 use Rattle.fab_files.specs.declared.printing.End.{End}
 use Rattle.fab_files.specs.declared.printing.End.TheVariants.{Done, Refused}
-use Rattle.fab_files_looks.specs.Reachers.{reacher_of, reachers_json, reachers_text}
+use Rattle.fab_files_looks.specs.Reachers.{reachers_json, reachers_text}
 use Rattle.fab_files_looks.specs.Lists.{rows_json}
 use Rattle.fab_files_looks.specs.Ways.{found_lines, way_json, way_text}
-use Rattle.fab_files_looks.specs.declared.reachers.Reacher.{Reacher}
 use Rattle.fab_looks.specs.PortWays.{ArePortWay}
-use Rattle.fab_looks.specs.Seeing.{AreTold}
 use Rattle.fab_looks.specs.Told.{IsTold}
 use Rattle.fab_looks.specs.Ways.{AreWayRows}
 use Rattle.fab_looks_base.specs.declared.explaining.Why.{Why}
 use Rattle.fab_looks_base.specs.declared.explaining.Why.TheVariants as why
-use Rattle.fab_looks_base.specs.declared.reaching.Counts.{Counts}
+use Rattle.fab_looks_ways.specs.Offers.{AreToldReachers}
+use Rattle.fab_looks_ways.specs.Pairs.{ArePairs}
+use Rattle.fab_looks_ways.specs.declared.pairing.Pair.{Pair}
+use Rattle.fab_looks_ways.specs.declared.reachers.Reacher.{Reacher}
 use Rattle.fab_policy_base.specs.Policies.{PolicyRows}
 use Rattle.fab_program_outside.specs.Printing.{Prints}
 use Rattle.fab_program_outside.specs.declared.faults.Fault.{Fault}
@@ -41,27 +41,29 @@ abbrev pub end_of_why : {A : Type 0} → Why A → End
 end_of_why (why.Reaches paths) = Done
 end_of_why (why.Missing link) = Refused
 
-abbrev pub way_output : {A : Type 0} → Bool → List ℕ → List ℕ → Why A → List (Shown A) → List ℕ
-way_output true host volume told found = way_json host volume told found
-way_output false host volume told found = way_text told found
+abbrev pub way_output : {A : Type 0} → Bool → List ℕ → List ℕ → Why A → List (Shown A) → List Pair → List ℕ
+way_output true host volume told found pairs = way_json host volume told found pairs
+way_output false host volume told found pairs = way_text told found pairs
 
 module _ {W : Type 0} (contents : W → Option (List ℕ)) (w : WorldRows) (p : PolicyRows) (id : ℕ) where
   -- there was no memory; or the answer that the caller is told is printed, with what it may read of the way
+  -- and with the pairs of ports
   abbrev pub TellsWay : List ℕ → List ℕ → Bool → W → Result (W × End) Fault → Type 0
   TellsWay host volume json writer came = (came ≡ Err fault.Memory)
-      ⊎ ((told : Why Global) × (found : List (Shown Global)) × IsTold p w id host volume told × AreWayRows p w id host volume found × Prints contents writer (way_output json host volume told found) (end_of_why told) came)
+      ⊎ ((told : Why Global) × (found : List (Shown Global)) × (pairs : List Pair) × IsTold p w id host volume told × AreWayRows p w id host volume found × ArePairs p w id host volume pairs × Prints contents writer (way_output json host volume told found pairs) (end_of_why told) came)
 
 -- ---- who
 
-abbrev pub who_output : Bool → List Reacher → List ℕ
+abbrev pub who_output : {A : Type 0} → Bool → List (Reacher A) → List ℕ
 who_output true rs = reachers_json rs
 who_output false rs = reachers_text rs
 
 module _ {W : Type 0} (contents : W → Option (List ℕ)) (w : WorldRows) (p : PolicyRows) (id : ℕ) where
-  -- there was no memory; or the hosts that the caller is told are printed, with their counts
+  -- there was no memory; or the hosts that the caller is told are printed, with their counts and by what they
+  -- reach the volume
   abbrev pub TellsWho : List ℕ → Bool → W → Result (W × End) Fault → Type 0
   TellsWho volume json writer came = (came ≡ Err fault.Memory)
-      ⊎ ((m : BTreeMap (List ℕ) Counts) × AreTold p w id volume m × Prints contents writer (who_output json (map reacher_of m.entries)) Done came)
+      ⊎ ((reachers : List (Reacher Global)) × AreToldReachers p w id volume reachers × Prints contents writer (who_output json reachers) Done came)
 
 -- ---- a port
 

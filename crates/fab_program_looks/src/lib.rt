@@ -5,9 +5,7 @@
 #![tactic(auto)]
 
 mod lists;
-mod loading;
 mod looks;
 mod printing;
 
-pub use loading::of_opening;
 pub use looks::{Asked, Look, look_over};

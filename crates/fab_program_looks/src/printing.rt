@@ -1,17 +1,15 @@
 //! Looks whose answers are printed.
 ghost use Rattle.std.specs.Prelude.{◌≡◌};
-ghost use Rattle.fab_files_looks.specs.Reachers.{reacher_of};
 ghost use Rattle.fab_program_looks.specs.Telling.{IsTurnedAway, TellsPort, TellsWay, TellsWho, end_of_port, end_of_why, port_output, way_output, who_output};
 ghost use Rattle.fab_program_outside.specs.Printing.{Prints};
 ghost use Rattle.fab_world.specs.Soundness.{IsSound};
 
 use fab_desk_base::{DeskFault, Reply, Shown};
 use fab_files::{End, Form, print};
-use fab_files_looks::{
-    FoundText, Reacher, ReachersJson, ReachersText, RowsJson, WayJson, WayText, reachers_of,
-};
-use fab_looks::{port_way, told, way_rows, who_told};
+use fab_files_looks::{FoundText, ReachersJson, ReachersText, RowsJson, WayJson, WayText};
+use fab_looks::{port_way, told, way_rows};
 use fab_looks_base::Why;
+use fab_looks_ways::{Pair, Reacher, pairs_told, reachers_told};
 use fab_names::{Name, Wwn};
 use fab_policy::{CallerId, Policy};
 use fab_program_outside::{Fault, of_printing, print_as};
@@ -49,9 +47,10 @@ fn print_way<W: Write + Drop>(
     volume: Name,
     why: &Why<Global>,
     found: &[Shown<Global>],
+    pairs: &[Pair],
     is_json: bool,
 ) -> Result<(W, End), Fault>
-    ensures { Prints W.contents writer (way_output is_json host volume why.now found.now) (end_of_why why.now) result }
+    ensures { Prints W.contents writer (way_output is_json host volume why.now found.now pairs.now) (end_of_why why.now) result }
 {
     let end = end_of_why(why);
     if is_json {
@@ -60,10 +59,11 @@ fn print_way<W: Write + Drop>(
             volume,
             why,
             found,
+            pairs,
         };
         print_as(alloc, writer, &text, end)
     } else {
-        print_as(alloc, writer, &WayText { why, found }, end)
+        print_as(alloc, writer, &WayText { why, found, pairs }, end)
     }
 }
 
@@ -90,14 +90,17 @@ pub fn why_at<W: Write + Drop>(
     let Ok(found) = way_rows(alloc, policy, world, id, &host, &volume) else {
         return Err(Fault::Memory);
     };
-    print_way(alloc, writer, host, volume, &why, &found, is_json)
+    let Ok(pairs) = pairs_told(alloc, policy, world, id, &host, &volume) else {
+        return Err(Fault::Memory);
+    };
+    print_way(alloc, writer, host, volume, &why, &found, &pairs, is_json)
 }
 
 /// Prints who reaches a volume.
 fn print_reachers<W: Write + Drop>(
     alloc: Global,
     writer: W,
-    reachers: &[Reacher],
+    reachers: &[Reacher<Global>],
     is_json: bool,
 ) -> Result<(W, End), Fault>
     ensures { Prints W.contents writer (who_output is_json reachers.now) End.Done result }
@@ -124,10 +127,7 @@ pub fn who_at<W: Write + Drop>(
 ) -> Result<(W, End), Fault>
     ensures { TellsWho W.contents world.now policy.now id volume is_json writer result }
 {
-    let Ok(counts) = who_told(alloc, policy, world, id, &volume) else {
-        return Err(Fault::Memory);
-    };
-    let Ok(reachers) = reachers_of(alloc, &counts) else {
+    let Ok(reachers) = reachers_told(alloc, policy, world, id, &volume) else {
         return Err(Fault::Memory);
     };
     print_reachers(alloc, writer, &reachers, is_json)

@@ -8,7 +8,7 @@ use Rattle.clap.specs.declared.builder.action.ArgAction.TheVariants.{Set, SetTru
 use Rattle.clap.specs.declared.builder.arg.Arg.{Arg}
 use Rattle.clap.specs.declared.builder.command.Command.{Command}
 use Rattle.clap.specs.declared.builder.command.Command.TheViews.{out-Command}
-use Rattle.fab_program_options.specs.declared.options.OptionKind.{OptionKind}
+use Rattle.fab_program_words.specs.declared.options.OptionKind.{OptionKind}
 use Rattle.fab_program_options.specs.declared.subcommands.Subcommand.{Subcommand}
 use Rattle.fab_program_options.specs.CommandLine.{option_rule, option_rules, subcommand_app, with_subcommands}
 use Rattle.fab_program_options.specs.Building.{Gains, with_rules}

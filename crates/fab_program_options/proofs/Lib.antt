@@ -1,3 +1,2 @@
 mod Grown
-mod Parts
 mod Reasons

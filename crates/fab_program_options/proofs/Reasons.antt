@@ -11,7 +11,7 @@ use Rattle.fab_program_options.specs.Asking.{AreUnderstood, Asks, IsAsked, IsRea
 use Rattle.fab_program_options.specs.Reading.{IsFaultOf}
 use Rattle.fab_program_options.specs.declared.reading.WordsFault.{WordsFault}
 use Rattle.fab_program_options.specs.declared.reading.WordsFault.TheVariants.{Refused, BadText, Memory}
-use Rattle.fab_program_options.specs.declared.words.Words.{Words}
+use Rattle.fab_program_words.specs.declared.words.Words.{Words}
 
 -- clap's faults of the words say all that can be wrong
 pub is_whole : is_simple_and_free desk_app ≡ true

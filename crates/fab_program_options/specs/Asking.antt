@@ -4,39 +4,42 @@ use Rattle.clap.specs.Words.{Row, Text, fault_of, subcommand_of}
 use Rattle.fab_names.specs.Names.{SpellsName}
 use Rattle.fab_names.specs.Fabrics.{SpellsFabric}
 use Rattle.fab_names.specs.WorldWideNames.{SpellsWwn}
-use Rattle.fab_program_options.specs.CommandLine.{desk_app, subcommand_name, value_of}
-use Rattle.fab_program_options.specs.Values.{Has, MayHave, SpellsText, SpellsToken, SpellsNumber64, SpellsKind, SpellsState, SpellsFabrics, SpellsAction, is_given}
-use Rattle.fab_program_options.specs.Lists.{SpellsList}
-use Rattle.fab_program_options.specs.declared.lists.Part.TheVariants as part
-use Rattle.fab_program_options.specs.declared.options.OptionKind.TheVariants as option
+use Rattle.fab_program_options.specs.CommandLine.{desk_app, subcommand_name}
+use Rattle.fab_program_words.specs.Options.{value_of}
+use Rattle.fab_program_words.specs.Values.{Has, MayHave, SpellsText, SpellsToken, SpellsNumber64, SpellsKind, SpellsState, SpellsFabrics, SpellsAction, is_given}
+use Rattle.fab_program_words.specs.Lists.{SpellsList}
+use Rattle.fab_program_words.specs.declared.lists.Part.TheVariants as part
+use Rattle.fab_program_words.specs.declared.options.OptionKind.TheVariants as option
 use Rattle.fab_program_options.specs.declared.subcommands.Subcommand.{Subcommand}
 use Rattle.fab_program_options.specs.declared.subcommands.Subcommand.TheVariants as subcommand
 use Rattle.fab_program_options.specs.declared.reading.WordsFault.{WordsFault}
 use Rattle.fab_program_options.specs.declared.reading.WordsFault.TheVariants.{Refused, BadText, Memory}
-use Rattle.fab_program_options.specs.declared.words.Access.{Access}
-use Rattle.fab_program_options.specs.declared.words.Init.{Init}
-use Rattle.fab_program_options.specs.declared.words.Serve.{Serve}
-use Rattle.fab_program_options.specs.declared.words.Over.{Over}
-use Rattle.fab_program_options.specs.declared.words.Over.TheVariants as over
-use Rattle.fab_program_options.specs.declared.words.Once.{Once}
-use Rattle.fab_program_options.specs.declared.words.Import.{Import}
-use Rattle.fab_program_options.specs.declared.words.Paths.{Paths}
-use Rattle.fab_program_options.specs.declared.words.Export.{Export}
-use Rattle.fab_program_options.specs.declared.words.DryRun.{DryRun}
-use Rattle.fab_program_options.specs.declared.words.Why.{Why}
-use Rattle.fab_program_options.specs.declared.words.Who.{Who}
-use Rattle.fab_program_options.specs.declared.words.WhoOf.{WhoOf}
-use Rattle.fab_program_options.specs.declared.words.WhoOf.TheVariants as of
-use Rattle.fab_program_options.specs.declared.words.Names.{Names}
-use Rattle.fab_program_options.specs.declared.words.ListKind.TheVariants as list
-use Rattle.fab_program_options.specs.declared.words.Deed.{Deed}
-use Rattle.fab_program_options.specs.declared.words.Explain.{Explain}
-use Rattle.fab_program_options.specs.declared.words.ExplainOf.{ExplainOf}
-use Rattle.fab_program_options.specs.declared.words.ExplainOf.TheVariants as explain
-use Rattle.fab_program_options.specs.declared.words.Check.{Check}
-use Rattle.fab_program_options.specs.declared.words.Check.TheVariants as check
-use Rattle.fab_program_options.specs.declared.words.Words.{Words}
-use Rattle.fab_program_options.specs.declared.words.Words.TheVariants as words
+use Rattle.fab_program_words.specs.declared.words.Access.{Access}
+use Rattle.fab_program_words.specs.declared.words.Init.{Init}
+use Rattle.fab_program_words.specs.declared.words.Serve.{Serve}
+use Rattle.fab_program_words.specs.declared.words.Over.{Over}
+use Rattle.fab_program_words.specs.declared.words.Over.TheVariants as over
+use Rattle.fab_program_words.specs.declared.words.Once.{Once}
+use Rattle.fab_program_words.specs.declared.words.Import.{Import}
+use Rattle.fab_program_words.specs.declared.words.Paths.{Paths}
+use Rattle.fab_program_words.specs.declared.words.Export.{Export}
+use Rattle.fab_program_words.specs.declared.words.DryRun.{DryRun}
+use Rattle.fab_program_words.specs.declared.words.Why.{Why}
+use Rattle.fab_program_words.specs.declared.words.Who.{Who}
+use Rattle.fab_program_words.specs.declared.words.WhoOf.{WhoOf}
+use Rattle.fab_program_words.specs.declared.words.WhoOf.TheVariants as of
+use Rattle.fab_program_words.specs.declared.words.Names.{Names}
+use Rattle.fab_program_words.specs.declared.words.ListKind.TheVariants as list
+use Rattle.fab_program_words.specs.declared.words.Deed.{Deed}
+use Rattle.fab_program_words.specs.declared.words.Explain.{Explain}
+use Rattle.fab_program_words.specs.declared.words.ExplainOf.{ExplainOf}
+use Rattle.fab_program_words.specs.declared.words.ExplainOf.TheVariants as explain
+use Rattle.fab_program_words.specs.declared.words.TryImport.{TryImport}
+use Rattle.fab_program_words.specs.declared.words.Diff.{Diff}
+use Rattle.fab_program_words.specs.declared.words.Check.{Check}
+use Rattle.fab_program_words.specs.declared.words.Check.TheVariants as check
+use Rattle.fab_program_words.specs.declared.words.Words.{Words}
+use Rattle.fab_program_words.specs.declared.words.Words.TheVariants as words
 
 -- ---- what the values of a subcommand's options ask for
 
@@ -132,6 +135,18 @@ pub record IsExplain (rows : List Row) (w : Explain) : Type 0 where
   pub policy : Has SpellsText (value_of option.Policy rows) w.policy.now
   pub of : IsExplainOf rows w.of
 
+pub record IsTryImport (rows : List Row) (w : TryImport) : Type 0 where
+  pub access : IsAccess rows w.access
+  pub fabric : Has SpellsFabric (value_of option.Fabric rows) w.fabric
+  pub file : Has SpellsText (value_of option.File rows) w.file.now
+  pub most_lost : MayHave SpellsNumber64 (value_of option.MostLost rows) w.most_lost
+  pub json : w.is_json ≡ is_given (value_of option.Json rows)
+
+pub record IsDiff (rows : List Row) (w : Diff) : Type 0 where
+  pub access : IsAccess rows w.access
+  pub plan : Has SpellsName (value_of option.Plan rows) w.plan
+  pub json : w.is_json ≡ is_given (value_of option.Json rows)
+
 -- ---- what the words ask for
 
 abbrev pub subcommand_in : Words → Subcommand
@@ -148,6 +163,8 @@ subcommand_in (words.Who w) = subcommand.Who
 subcommand_in (words.Names w) = subcommand.Names
 subcommand_in (words.Check w) = subcommand.Check
 subcommand_in (words.Explain w) = subcommand.Explain
+subcommand_in (words.TryImport w) = subcommand.TryImport
+subcommand_in (words.Diff w) = subcommand.Diff
 
 abbrev pub HasValues : List Row → Words → Type 0
 HasValues rows (words.Init w) = IsInit rows w
@@ -163,6 +180,8 @@ HasValues rows (words.Who w) = IsWho rows w
 HasValues rows (words.Names w) = IsNames rows w
 HasValues rows (words.Check w) = IsCheck rows w
 HasValues rows (words.Explain w) = IsExplain rows w
+HasValues rows (words.TryImport w) = IsTryImport rows w
+HasValues rows (words.Diff w) = IsDiff rows w
 
 -- the subcommand that clap found, and its options, ask for w
 abbrev pub IsAsked : Option (Text × List Row) → Words → Type 0

@@ -1,49 +1,16 @@
 -- The command line of the program: its subcommands and their options.
-use Rattle.std.specs.Prelude.{Bool, true, false, List, [], ◌∷◌, ◌++◌, Option, Some, map, codes}
-use Rattle.clap.specs.Words.{App, Row, Rule, Shape, Text, first_of, new_app, new_rule, with_subcommand}
+use Rattle.std.specs.Prelude.{Bool, true, false, List, [], ◌∷◌, ◌++◌, Some, map, codes}
+use Rattle.clap.specs.Words.{App, Rule, Shape, Text, new_app, new_rule, with_subcommand}
 use Rattle.clap.specs.declared.builder.action.ArgAction.TheVariants.{Set, SetTrue}
-use Rattle.fab_program_options.specs.declared.options.OptionKind.{OptionKind}
-use Rattle.fab_program_options.specs.declared.options.OptionKind.TheVariants.{Db, Policy, Listen, Count, Now, Token, Fabric, File, Host, Plan, Volume, Kind, Json, PlanFile, Ports, State, Port, Rules, Caller, Action, Fabrics, Tenants, Author, Approved, Revision}
-use Rattle.fab_program_options.specs.declared.options.OptionShape.{OptionShape}
-use Rattle.fab_program_options.specs.declared.options.OptionShape.TheVariants as shape
+use Rattle.fab_program_words.specs.declared.options.OptionKind.{OptionKind}
+use Rattle.fab_program_words.specs.declared.options.OptionKind.TheVariants.{Db, Policy, Listen, Count, Now, Token, Fabric, File, Host, Plan, Volume, Kind, Json, PlanFile, Ports, State, Port, Rules, Caller, Action, Fabrics, Tenants, Author, Approved, Revision, MostLost}
+use Rattle.fab_program_words.specs.declared.options.OptionShape.{OptionShape}
+use Rattle.fab_program_words.specs.declared.options.OptionShape.TheVariants as shape
+use Rattle.fab_program_words.specs.Options.{option_name, shape_of}
 use Rattle.fab_program_options.specs.declared.subcommands.Subcommand.{Subcommand}
-use Rattle.fab_program_options.specs.declared.subcommands.Subcommand.TheVariants.{Init, Serve, Once, Import, Paths, Report, Export, DryRun, Why, Who, Names, Check, Explain}
+use Rattle.fab_program_options.specs.declared.subcommands.Subcommand.TheVariants.{Init, Serve, Once, Import, Paths, Report, Export, DryRun, Why, Who, Names, Check, Explain, TryImport, Diff}
 
 -- ---- the words
-
-abbrev pub option_name : OptionKind → Text
-option_name Db = codes "db"
-option_name Policy = codes "policy"
-option_name Listen = codes "listen"
-option_name Count = codes "count"
-option_name Now = codes "now"
-option_name Token = codes "token"
-option_name Fabric = codes "fabric"
-option_name File = codes "file"
-option_name Host = codes "host"
-option_name Plan = codes "plan"
-option_name Volume = codes "volume"
-option_name Kind = codes "kind"
-option_name Json = codes "json"
-option_name PlanFile = codes "plan"
-option_name Ports = codes "ports"
-option_name State = codes "state"
-option_name Port = codes "port"
-option_name Rules = codes "rules"
-option_name Caller = codes "caller"
-option_name Action = codes "action"
-option_name Fabrics = codes "fabric"
-option_name Tenants = codes "tenants"
-option_name Author = codes "author"
-option_name Approved = codes "approved"
-option_name Revision = codes "revision"
-
--- a kind of list stands without a word before it, and JSON and rules are asked for by a word alone
-abbrev pub shape_of : OptionKind → OptionShape
-shape_of Kind = shape.Place
-shape_of Json = shape.Flag
-shape_of Rules = shape.Flag
-shape_of other = shape.Value
 
 abbrev pub subcommand_name : Subcommand → Text
 subcommand_name Init = codes "init"
@@ -59,10 +26,12 @@ subcommand_name Who = codes "who"
 subcommand_name Names = codes "list"
 subcommand_name Check = codes "check"
 subcommand_name Explain = codes "explain"
+subcommand_name TryImport = codes "tryimport"
+subcommand_name Diff = codes "diff"
 
 -- every subcommand
 abbrev pub all_subcommands : List Subcommand
-all_subcommands = Init ∷ Serve ∷ Once ∷ Import ∷ Paths ∷ Report ∷ Export ∷ DryRun ∷ Why ∷ Who ∷ Names ∷ Check ∷ Explain ∷ []
+all_subcommands = Init ∷ Serve ∷ Once ∷ Import ∷ Paths ∷ Report ∷ Export ∷ DryRun ∷ Why ∷ Who ∷ Names ∷ Check ∷ Explain ∷ TryImport ∷ Diff ∷ []
 
 -- the options by which a subcommand asks as a caller at a database
 abbrev pub access_of : Subcommand → List OptionKind
@@ -88,6 +57,8 @@ required_of Who = []
 required_of Names = Kind ∷ []
 required_of Check = []
 required_of Explain = Policy ∷ []
+required_of TryImport = Fabric ∷ File ∷ []
+required_of Diff = Plan ∷ []
 
 -- the options that it may have
 abbrev pub optional_of : Subcommand → List OptionKind
@@ -104,6 +75,8 @@ optional_of Who = Volume ∷ Port ∷ Json ∷ []
 optional_of Names = State ∷ Json ∷ []
 optional_of Check = Policy ∷ PlanFile ∷ Ports ∷ []
 optional_of Explain = Rules ∷ Caller ∷ Action ∷ Fabrics ∷ Tenants ∷ Author ∷ Approved ∷ Revision ∷ Now ∷ []
+optional_of TryImport = MostLost ∷ Json ∷ []
+optional_of Diff = Json ∷ []
 
 -- ---- the same, as clap reads it
 
@@ -135,9 +108,3 @@ with_subcommands app (s ∷ rest) = with_subcommands (with_subcommand app s) res
 
 unfoldable pub desk_app : App
 desk_app = with_subcommands program_app (map (λ s. (subcommand_app s).top) all_subcommands)
-
--- ---- what it finds
-
--- the value of an option
-abbrev pub value_of : OptionKind → List Row → Option Text
-value_of option rows = first_of (option_name option) rows

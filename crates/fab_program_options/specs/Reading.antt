@@ -7,9 +7,9 @@ use Rattle.fab_program_options.specs.Asking.{IsAsked, HasValues, subcommand_in}
 use Rattle.fab_program_options.specs.declared.subcommands.Subcommand.{Subcommand}
 use Rattle.fab_program_options.specs.declared.reading.WordsFault.{WordsFault}
 use Rattle.fab_program_options.specs.declared.reading.WordsFault.TheVariants.{Refused, BadText, Memory}
-use Rattle.fab_program_options.specs.declared.words.Over.{Over}
-use Rattle.fab_program_options.specs.declared.words.Over.TheVariants as over
-use Rattle.fab_program_options.specs.declared.words.Words.{Words}
+use Rattle.fab_program_words.specs.declared.words.Over.{Over}
+use Rattle.fab_program_words.specs.declared.words.Over.TheVariants as over
+use Rattle.fab_program_words.specs.declared.words.Words.{Words}
 
 -- clap's error is handed on, but for want of memory
 abbrev pub IsFaultOf : Error → WordsFault → Type 0

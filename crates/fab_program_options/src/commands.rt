@@ -2,13 +2,14 @@
 ghost use Rattle.std.specs.Prelude.{◌≡◌, false, IfOk};
 ghost use Rattle.clap.specs.Words.{app_of, rule_of};
 ghost use Rattle.clap.specs.declared.builder.command.Command.TheViews.{out-Command};
-ghost use Rattle.fab_program_options.specs.CommandLine.{desk_app, option_name, option_rule, option_rules, program_app, rule_by, subcommand_app};
-ghost use Rattle.fab_program_options.specs.declared.options.OptionShape.TheVariants.{Flag, Place, Value};
+ghost use Rattle.fab_program_options.specs.CommandLine.{desk_app, option_rule, option_rules, program_app, rule_by, subcommand_app};
+ghost use Rattle.fab_program_words.specs.Options.{option_name};
+ghost use Rattle.fab_program_words.specs.declared.options.OptionShape.TheVariants.{Flag, Place, Value};
 ghost use Rattle.fab_program_options.specs.Building.{Gains};
 
-use crate::options::{OptionKind, OptionShape};
 use crate::subcommands::{SUBCOMMANDS, Subcommand};
 use clap::{Arg, ArgAction, Command};
+use fab_program_words::{OptionKind, OptionShape};
 use std::alloc::{AllocError, Global};
 
 /// An option, as an argument of its shape.

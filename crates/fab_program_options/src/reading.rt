@@ -1,41 +1,39 @@
 //! Reads the words of a command line.
 ghost use Rattle.std.specs.Prelude.{MatchOption, IfOk, IfErr, map, option_map, string_bytes};
 ghost use Rattle.clap.specs.Words.{found_of, rows_of, subcommand_rows_of};
-ghost use Rattle.fab_program_options.specs.Asking.{Asks, IsReason, IsAccess, IsInit, IsServe, IsOver, IsOnce, IsImport, IsPaths, IsExport, IsDryRun, IsWhy, IsWho, IsWhoOf, IsNames, IsCheck, IsDeed, IsExplain, IsExplainOf};
+ghost use Rattle.fab_program_options.specs.Asking.{Asks, IsReason, IsAccess, IsInit, IsServe, IsOver, IsOnce, IsImport, IsPaths, IsExport, IsDryRun, IsWhy, IsWho, IsWhoOf, IsNames, IsCheck, IsDeed, IsExplain, IsExplainOf, IsTryImport, IsDiff};
 ghost use Rattle.fab_program_options.specs.Reading.{IsFaultOf, IsFound, IsRead, IsInMemory};
 ghost use Rattle.fab_program_options.specs.declared.subcommands.Subcommand.{Subcommand};
-ghost use Rattle.fab_program_options.specs.declared.words.Access.{Access};
-ghost use Rattle.fab_program_options.specs.declared.words.Init.{Init};
-ghost use Rattle.fab_program_options.specs.declared.words.Serve.{Serve};
-ghost use Rattle.fab_program_options.specs.declared.words.Over.{Over};
-ghost use Rattle.fab_program_options.specs.declared.words.Once.{Once};
-ghost use Rattle.fab_program_options.specs.declared.words.Import.{Import};
-ghost use Rattle.fab_program_options.specs.declared.words.Paths.{Paths};
-ghost use Rattle.fab_program_options.specs.declared.words.Export.{Export};
-ghost use Rattle.fab_program_options.specs.declared.words.DryRun.{DryRun};
-ghost use Rattle.fab_program_options.specs.declared.words.Why.{Why};
-ghost use Rattle.fab_program_options.specs.declared.words.Who.{Who};
-ghost use Rattle.fab_program_options.specs.declared.words.WhoOf.{WhoOf};
-ghost use Rattle.fab_program_options.specs.declared.words.Names.{Names};
-ghost use Rattle.fab_program_options.specs.declared.words.Check.{Check};
-ghost use Rattle.fab_program_options.specs.declared.words.Deed.{Deed};
-ghost use Rattle.fab_program_options.specs.declared.words.Explain.{Explain};
-ghost use Rattle.fab_program_options.specs.declared.words.ExplainOf.{ExplainOf};
+ghost use Rattle.fab_program_words.specs.declared.words.Access.{Access};
+ghost use Rattle.fab_program_words.specs.declared.words.Init.{Init};
+ghost use Rattle.fab_program_words.specs.declared.words.Serve.{Serve};
+ghost use Rattle.fab_program_words.specs.declared.words.Over.{Over};
+ghost use Rattle.fab_program_words.specs.declared.words.Once.{Once};
+ghost use Rattle.fab_program_words.specs.declared.words.Import.{Import};
+ghost use Rattle.fab_program_words.specs.declared.words.Paths.{Paths};
+ghost use Rattle.fab_program_words.specs.declared.words.Export.{Export};
+ghost use Rattle.fab_program_words.specs.declared.words.DryRun.{DryRun};
+ghost use Rattle.fab_program_words.specs.declared.words.Why.{Why};
+ghost use Rattle.fab_program_words.specs.declared.words.Who.{Who};
+ghost use Rattle.fab_program_words.specs.declared.words.WhoOf.{WhoOf};
+ghost use Rattle.fab_program_words.specs.declared.words.Names.{Names};
+ghost use Rattle.fab_program_words.specs.declared.words.Check.{Check};
+ghost use Rattle.fab_program_words.specs.declared.words.Deed.{Deed};
+ghost use Rattle.fab_program_words.specs.declared.words.Explain.{Explain};
+ghost use Rattle.fab_program_words.specs.declared.words.ExplainOf.{ExplainOf};
+ghost use Rattle.fab_program_words.specs.declared.words.TryImport.{TryImport};
+ghost use Rattle.fab_program_words.specs.declared.words.Diff.{Diff};
 
 use crate::commands::command_line;
-use crate::lists::Part;
-use crate::options::OptionKind;
 use crate::subcommands::Subcommand;
-use crate::values::{
-    action_in, fabric_in, fabrics_in, is_given, kind_in, list_in, maybe_name_in, name_in,
-    number_in, state_in, text_in, token_in, wwn_in,
-};
-use crate::words::{
-    Access, Check, Deed, DryRun, Explain, ExplainOf, Export, Import, Init, ListKind, Names, Once,
-    Over, Paths, Serve, Who, WhoOf, Why, Words,
-};
 use clap::error::ErrorKind;
 use clap::{ArgMatches, Error};
+use fab_program_words::{
+    Access, Check, Deed, Diff, DryRun, Explain, ExplainOf, Export, Import, Init, ListKind, Names,
+    Once, OptionKind, Over, Part, Paths, Serve, TryImport, Who, WhoOf, Why, Words, action_in,
+    fabric_in, fabrics_in, is_given, kind_in, list_in, maybe_name_in, name_in, number_in, state_in,
+    text_in, token_in, wwn_in,
+};
 use std::alloc::Global;
 
 /// Why words ask for nothing.
@@ -131,6 +129,8 @@ fn words_of<'a>(subcommand: Subcommand, given: &ArgMatches<'a>) -> Option<Words<
         Subcommand::Names => names_words(given),
         Subcommand::Check => check_words(given),
         Subcommand::Explain => explain_words(given),
+        Subcommand::TryImport => try_import_words(given),
+        Subcommand::Diff => diff_words(given),
     }
 }
 
@@ -200,6 +200,26 @@ fn explain_words<'a>(given: &ArgMatches<'a>) -> Option<Words<'a>>
 {
     match explain_in(given) {
         Some(asked) => Some(Words::Explain(asked)),
+        None => None,
+    }
+}
+
+/// What the matches of `tryimport` ask for.
+fn try_import_words<'a>(given: &ArgMatches<'a>) -> Option<Words<'a>>
+    ensures { IsRead Subcommand.TryImport (rows_of (found_of given.now)) result }
+{
+    match try_import_in(given) {
+        Some(asked) => Some(Words::TryImport(asked)),
+        None => None,
+    }
+}
+
+/// What the matches of `diff` ask for.
+fn diff_words<'a>(given: &ArgMatches<'a>) -> Option<Words<'a>>
+    ensures { IsRead Subcommand.Diff (rows_of (found_of given.now)) result }
+{
+    match diff_in(given) {
+        Some(asked) => Some(Words::Diff(asked)),
         None => None,
     }
 }
@@ -528,4 +548,46 @@ fn explain_in<'a>(given: &ArgMatches<'a>) -> Option<Explain<'a>>
         return None;
     };
     Some(Explain { policy, of })
+}
+
+fn try_import_in<'a>(given: &ArgMatches<'a>) -> Option<TryImport<'a>>
+    ensures { MatchOption result ((w : TryImport) → ¬ IsTryImport (rows_of (found_of given.now)) w)
+        (IsTryImport (rows_of (found_of given.now))) }
+{
+    let Some(access) = access_in(given) else {
+        return None;
+    };
+    let Some(fabric) = fabric_in(given, OptionKind::Fabric) else {
+        return None;
+    };
+    let Some(file) = text_in(given, OptionKind::File) else {
+        return None;
+    };
+    let Some(most_lost) = number_in(given, OptionKind::MostLost) else {
+        return None;
+    };
+    Some(TryImport {
+        access,
+        fabric,
+        file,
+        most_lost,
+        is_json: is_given(given, OptionKind::Json),
+    })
+}
+
+fn diff_in<'a>(given: &ArgMatches<'a>) -> Option<Diff<'a>>
+    ensures { MatchOption result ((w : Diff) → ¬ IsDiff (rows_of (found_of given.now)) w)
+        (IsDiff (rows_of (found_of given.now))) }
+{
+    let Some(access) = access_in(given) else {
+        return None;
+    };
+    let Some(plan) = name_in(given, OptionKind::Plan) else {
+        return None;
+    };
+    Some(Diff {
+        access,
+        plan,
+        is_json: is_given(given, OptionKind::Json),
+    })
 }

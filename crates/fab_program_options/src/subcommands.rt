@@ -3,7 +3,46 @@ ghost use Rattle.std.specs.Prelude.{◌≡◌, ◌≢◌, MatchOption};
 ghost use Rattle.fab_program_options.specs.declared.subcommands.Subcommand.{Subcommand};
 ghost use Rattle.fab_program_options.specs.CommandLine.{subcommand_name, access_of, required_of, optional_of};
 
-use crate::options::OptionKind;
+use fab_program_words::OptionKind;
+
+// The longer examples, which help shows.
+const SERVE: &str =
+    "Example: sandesk serve --db desk.db --policy policy.toml --listen 127.0.0.1:8080";
+
+const IMPORT: &str =
+    "Example: sandesk import --db desk.db --policy policy.toml --token t-ada --fabric A --file \
+     ports.csv";
+
+const PATHS: &str =
+    "Example: sandesk paths --db desk.db --policy policy.toml --token t-ada --host db1";
+
+const REPORT: &str =
+    "Example: sandesk report --db desk.db --policy policy.toml --token t-ada --host db1";
+
+const EXPORT: &str =
+    "Example: sandesk export --db desk.db --policy policy.toml --token t-ada --fabric A";
+
+const DRY_RUN: &str =
+    "Example: sandesk dryrun --db desk.db --policy policy.toml --token t-ada --plan p1";
+
+const WHY: &str =
+    "Example: sandesk why --db desk.db --policy policy.toml --token t-ada --host db1 --volume v1";
+
+const WHO: &str =
+    "Example: sandesk who --db desk.db --policy policy.toml --token t-ada --volume v1";
+
+const LIST: &str = "Example: sandesk list --db desk.db --policy policy.toml --token t-ada hosts";
+
+const EXPLAIN: &str =
+    "Example: sandesk explain --policy policy.toml --caller ada --action activate --fabric B \
+     --approved bob@6 --revision 6";
+
+const TRY_IMPORT: &str =
+    "Example: sandesk tryimport --db desk.db --policy policy.toml --token t-ada --fabric A \
+     --file ports.csv --most-lost 0";
+
+const DIFF: &str =
+    "Example: sandesk diff --db desk.db --policy policy.toml --token t-ada --plan p1";
 
 /// What the program does.
 #[derive(Clone, Copy, PartialEq, Eq)]
@@ -34,10 +73,14 @@ pub enum Subcommand {
     Check,
     /// Tells what a policy says of a command.
     Explain,
+    /// Tells what an import would gain and lose.
+    TryImport,
+    /// Tells what activating a plan would change.
+    Diff,
 }
 
 /// Every subcommand, in the order of the help.
-pub const SUBCOMMANDS: [Subcommand; 13] = [
+pub const SUBCOMMANDS: [Subcommand; 15] = [
     Subcommand::Init,
     Subcommand::Serve,
     Subcommand::Once,
@@ -51,6 +94,8 @@ pub const SUBCOMMANDS: [Subcommand; 13] = [
     Subcommand::Names,
     Subcommand::Check,
     Subcommand::Explain,
+    Subcommand::TryImport,
+    Subcommand::Diff,
 ];
 
 impl Subcommand {
@@ -73,6 +118,8 @@ impl Subcommand {
             "list" => Some(Subcommand::Names),
             "check" => Some(Subcommand::Check),
             "explain" => Some(Subcommand::Explain),
+            "tryimport" => Some(Subcommand::TryImport),
+            "diff" => Some(Subcommand::Diff),
             _ => None,
         }
     }
@@ -95,6 +142,8 @@ impl Subcommand {
             Subcommand::Names => "list",
             Subcommand::Check => "check",
             Subcommand::Explain => "explain",
+            Subcommand::TryImport => "tryimport",
+            Subcommand::Diff => "diff",
         }
     }
 
@@ -120,10 +169,10 @@ impl Subcommand {
             Subcommand::Init => &[OptionKind::Db],
             Subcommand::Serve => &[OptionKind::Db, OptionKind::Policy, OptionKind::Listen],
             Subcommand::Once | Subcommand::Check | Subcommand::Who => &[],
-            Subcommand::Import => &[OptionKind::Fabric, OptionKind::File],
+            Subcommand::Import | Subcommand::TryImport => &[OptionKind::Fabric, OptionKind::File],
             Subcommand::Paths | Subcommand::Report => &[OptionKind::Host],
             Subcommand::Export => &[OptionKind::Fabric],
-            Subcommand::DryRun => &[OptionKind::Plan],
+            Subcommand::DryRun | Subcommand::Diff => &[OptionKind::Plan],
             Subcommand::Why => &[OptionKind::Host, OptionKind::Volume],
             Subcommand::Names => &[OptionKind::Kind],
             Subcommand::Explain => &[OptionKind::Policy],
@@ -139,7 +188,8 @@ impl Subcommand {
             Subcommand::Serve => &[OptionKind::Count],
             Subcommand::Once => &[OptionKind::Policy, OptionKind::Db, OptionKind::Now],
             Subcommand::Import | Subcommand::DryRun => &[OptionKind::Now],
-            Subcommand::Why => &[OptionKind::Json],
+            Subcommand::Why | Subcommand::Diff => &[OptionKind::Json],
+            Subcommand::TryImport => &[OptionKind::MostLost, OptionKind::Json],
             Subcommand::Who => &[OptionKind::Volume, OptionKind::Port, OptionKind::Json],
             Subcommand::Names => &[OptionKind::State, OptionKind::Json],
             Subcommand::Check => &[OptionKind::Policy, OptionKind::PlanFile, OptionKind::Ports],
@@ -188,6 +238,12 @@ impl Subcommand {
                 "Tells what a policy says of a command, rule by rule, and when its windows open; or shows \
                  the policy without its tokens"
             }
+            Subcommand::TryImport => {
+                "Tells which ports and paths an import of a port list would gain and lose, and changes \
+                 nothing"
+            }
+            Subcommand::Diff =>
+                "Tells what activating a staged plan would change, and changes nothing",
         }
     }
 
@@ -195,41 +251,20 @@ impl Subcommand {
     pub fn example<'a>(self) -> &'a str {
         match self {
             Subcommand::Init => "Example: sandesk init --db desk.db",
-            Subcommand::Serve => {
-                "Example: sandesk serve --db desk.db --policy policy.toml --listen 127.0.0.1:8080"
-            }
+            Subcommand::Serve => SERVE,
             Subcommand::Once => "Example: sandesk once --now 349200 < request.http",
-            Subcommand::Import => {
-                "Example: sandesk import --db desk.db --policy policy.toml --token t-ada --fabric A \
-                 --file ports.csv"
-            }
-            Subcommand::Paths => {
-                "Example: sandesk paths --db desk.db --policy policy.toml --token t-ada --host db1"
-            }
-            Subcommand::Report => {
-                "Example: sandesk report --db desk.db --policy policy.toml --token t-ada --host db1"
-            }
-            Subcommand::Export => {
-                "Example: sandesk export --db desk.db --policy policy.toml --token t-ada --fabric A"
-            }
-            Subcommand::DryRun => {
-                "Example: sandesk dryrun --db desk.db --policy policy.toml --token t-ada --plan p1"
-            }
-            Subcommand::Why => {
-                "Example: sandesk why --db desk.db --policy policy.toml --token t-ada --host db1 \
-                 --volume v1"
-            }
-            Subcommand::Who => {
-                "Example: sandesk who --db desk.db --policy policy.toml --token t-ada --volume v1"
-            }
-            Subcommand::Names => {
-                "Example: sandesk list --db desk.db --policy policy.toml --token t-ada hosts"
-            }
+            Subcommand::Import => IMPORT,
+            Subcommand::Paths => PATHS,
+            Subcommand::Report => REPORT,
+            Subcommand::Export => EXPORT,
+            Subcommand::DryRun => DRY_RUN,
+            Subcommand::Why => WHY,
+            Subcommand::Who => WHO,
+            Subcommand::Names => LIST,
             Subcommand::Check => "Example: sandesk check --policy policy.toml",
-            Subcommand::Explain => {
-                "Example: sandesk explain --policy policy.toml --caller ada --action activate \
-                 --fabric B --approved bob@6 --revision 6"
-            }
+            Subcommand::Explain => EXPLAIN,
+            Subcommand::TryImport => TRY_IMPORT,
+            Subcommand::Diff => DIFF,
         }
     }
 }

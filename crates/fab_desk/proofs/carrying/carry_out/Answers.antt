@@ -1,5 +1,5 @@
 use Rattle.std.proofs.Common.{inl, inr, refl, sym, ap, subst, ◌∙◌}
-use Rattle.fab_desk_machine.proofs.Rooms.{same_records, leads_there, room_for, ready_there, moved_there, back_there}
+use Rattle.fab_desk_machine.proofs.Rooms.{same_records, room_for, ready_there, moved_there, back_there}
 use Rattle.fab_desk_commands.specs.Nexts.{next_world}
 use Rattle.fab_store_base.specs.Worlds.{HoldsWorld}
 use Rattle.fab_store_tables.specs.Tables.{Tables, HaveKeys}
@@ -23,7 +23,7 @@ returns-in-Ok-commit-clause-done g c =
     let v = c.make_ready.new.world in
     let next = c.args.change.next in
     let told = c.take_over.ensures.reply in
-    inr (inr (refl, c.take_over.ensures.world ∙ leads_there w v next c.in-Ok.ensures.room, (told.0, told.1, moved_there w v next c.in-Ok.ensures.room c.take_over.new.world told.0 told.2)))
+    inr (inr (refl, c.take_over.ensures.world w c.in-Ok.ensures.room, (told.0, told.1, moved_there w v next c.in-Ok.ensures.room c.take_over.new.world told.0 told.2)))
 
 pub returns-in-Err-commit-clause-done : goal.returns-in-Err-commit-clause-done
 returns-in-Err-commit-clause-done g c = inr (inl (refl, back_there c.args.world.now c.make_ready.new.world c.args.change.next c.in-Ok.ensures.room c.give_back.new.world c.requires.suits c.give_back.ensures, refl))
@@ -40,7 +40,7 @@ returns-in-Ok-commit-clause-tied g c clean tied serves =
     let keys : (u : Tables) → HoldsWorld u w → HaveKeys u = λ u holds. c.holds_keys.ensures u w c.requires.sound holds in
     let may = can w v c.in-Ok.lines c.in-Ok.ensures.lines g.S.Store c.args.store.now c.commit.new.self g.met.S.Store.settled keys tied in
     let after = tied_after w v c.in-Ok.lines c.in-Ok.ensures.lines g.S.Store c.args.store.now c.commit.new.self g.met.S.Store.settled keys tied (c.in-Ok-commit.ensures.ready clean tied.ready may) (c.in-Ok-commit.ensures.done clean tied.ready may) in
-    subst (IsTied g.S.Store c.commit.new.self) {y = c.take_over.new.world} (sym (c.take_over.ensures.world ∙ leads_there w c.make_ready.new.world c.args.change.next c.in-Ok.ensures.room)) after
+    subst (IsTied g.S.Store c.commit.new.self) {y = c.take_over.new.world} (sym (c.take_over.ensures.world w c.in-Ok.ensures.room)) after
 
 pub returns-in-Ok-commit-clause-doubt : goal.returns-in-Ok-commit-clause-doubt
 returns-in-Ok-commit-clause-doubt g c clean tied left leaves =

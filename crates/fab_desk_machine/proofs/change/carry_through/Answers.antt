@@ -1,5 +1,5 @@
-use Rattle.std.proofs.Common.{inr, sym, subst, ◌∙◌}
-use Rattle.fab_desk_machine.proofs.Rooms.{same_records, leads_there, room_for, ready_there, moved_there}
+use Rattle.std.proofs.Common.{inr, sym, subst}
+use Rattle.fab_desk_machine.proofs.Rooms.{same_records, room_for, ready_there, moved_there}
 use Rattle.fab_desk_machine.proofs.change.carry_through.Goals as goal
 
 pub take_over-requires-clause-room : goal.take_over-requires-clause-room
@@ -17,4 +17,4 @@ returns-in-Ok-clause-done g c =
     let v = c.make_room.new.world in
     let next = c.args.change.next in
     let told = c.take_over.ensures.reply in
-    inr (c.take_over.ensures.world ∙ leads_there w v next c.in-Ok.ensures.ok, (told.0, told.1, moved_there w v next c.in-Ok.ensures.ok c.take_over.new.world told.0 told.2))
+    inr (c.take_over.ensures.world w c.in-Ok.ensures.ok, (told.0, told.1, moved_there w v next c.in-Ok.ensures.ok c.take_over.new.world told.0 told.2))

@@ -1,7 +1,7 @@
 use Rattle.std.proofs.Common.{inl, inr, sym, ◌∙◌, subst}
 use Rattle.fab_world.specs.Worlds.{records_of}
 use Rattle.fab_desk_base.specs.Answers.{IsCarriedOut}
-use Rattle.fab_desk_machine.specs.Trials.{effect_world}
+use Rattle.fab_desk_trials.specs.Trials.{effect_world}
 use Rattle.fab_desk_machine.proofs.Ends.{dry_answer}
 use Rattle.fab_desk_machine.proofs.finish.allowed.Goals as goal
 

@@ -3,7 +3,7 @@ use Rattle.fab_plans_base.specs.Plans.{IsWithinLimits}
 use Rattle.fab_plans_base.specs.Steps.{PlanStep}
 use Rattle.fab_world.specs.Soundness.{IsSound}
 use Rattle.fab_desk_base.specs.Effects.{with_plan, staged_plan}
-use Rattle.fab_desk_machine.specs.Trials.{planned}
+use Rattle.fab_desk_trials.specs.Trials.{planned}
 use Rattle.fab_desk_machine.proofs.Ends.{staging_of, staged_within}
 use Rattle.fab_desk_machine.proofs.finish.planned_next.Goals as goal
 

@@ -1,6 +1,6 @@
-use Rattle.std.proofs.Common.{inl, inr, refl}
-use Rattle.fab_desk_machine.proofs.Ends.{nothing}
+use Rattle.std.proofs.Common.{inl, inr, refl, ap}
+use Rattle.fab_desk_base.specs.declared.reply.Reply.TheVariants as reply
 use Rattle.fab_desk_machine.proofs.finish.turn_down.Goals as goal
 
-pub returns-in-Ok-None-clause-end : goal.returns-in-Ok-None-clause-end
-returns-in-Ok-None-clause-end g c = inr (inl (c.args.fault, inr (nothing _ _ c.in-Ok-None.field-0 c.in-Ok-None.field-0-is c.in-Ok-None.ensures, c.requires.refused), (refl, refl)))
+pub returns-clause-end : goal.returns-clause-end
+returns-clause-end g c = elim c.refusal.ensures [ inl m ↦ inl (ap reply.Refused m) | inr s ↦ inr (inl (c.refusal.result, s, (refl, refl))) ]

@@ -2,7 +2,7 @@ use Rattle.std.proofs.Common.{subst}
 use Rattle.fab_world.specs.Worlds.{WorldRows, records_of}
 use Rattle.fab_desk_base.specs.Commands.{tried}
 use Rattle.fab_desk_base.proofs.Tried.{one_done}
-use Rattle.fab_desk_machine.specs.Trials.{effect_world}
+use Rattle.fab_desk_trials.specs.Trials.{effect_world}
 use Rattle.fab_desk_machine.proofs.proposing.end.Goals as goal
 
 pub returns-in-Ok-clause-bounds : goal.returns-in-Ok-clause-bounds

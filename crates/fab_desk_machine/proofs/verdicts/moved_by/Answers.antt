@@ -1,6 +1,6 @@
 use Rattle.std.proofs.Common.{subst}
 use Rattle.fab_world.specs.Worlds.{records_of}
-use Rattle.fab_desk_machine.specs.Trials.{effect_world, IsStepReady}
+use Rattle.fab_desk_trials.specs.Trials.{effect_world, IsStepReady}
 use Rattle.fab_desk_machine.proofs.Moving.{has_none, none_moved}
 use Rattle.fab_desk_machine.proofs.verdicts.moved_by.Goals as goal
 

@@ -1,7 +1,7 @@
 use Rattle.std.proofs.Common.{MatchOption, ap, ◌∙◌, subst}
 use Rattle.fab_reach_base.specs.Views.{seen}
 use Rattle.fab_world.specs.Worlds.{records_of}
-use Rattle.fab_desk_machine.specs.Trials.{KeepsRecords, AreRecordsAfter}
+use Rattle.fab_desk_trials.specs.Trials.{KeepsRecords, AreRecordsAfter}
 use Rattle.fab_world.proofs.WholeWorld.{ok_as}
 use Rattle.fab_desk_machine.proofs.Moving.{has_none, none_moved, tenants_moved}
 use Rattle.fab_desk_machine.proofs.verdicts.moved_with.Goals as goal

@@ -12,7 +12,7 @@ returns-in-Same g c =
       | inl e ↦ ap (λ n. (next_world w n).inventory) e
       | inr more ↦ elim more [
         | inl e ↦ ap (λ n. (next_world w n).inventory) e.2
-        | inr more ↦ elim more [ inl e ↦ ap (λ n. (next_world w n).inventory) e.2 | inr e ↦ ap (λ n. (next_world w n).inventory) e.4 ]
+        | inr more ↦ elim more [ inl e ↦ ap (λ n. (next_world w n).inventory) e.2 | inr e ↦ ap (λ n. (next_world w n).inventory) e.3 ]
       ]
     ] in
     subst (λ (v : InventoryRows). IsInventoryDifference w.inventory v c.same_inventory.result) (sym stays) (c.same_inventory.ensures w.inventory)

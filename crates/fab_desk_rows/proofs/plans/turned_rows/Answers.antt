@@ -1,23 +1,30 @@
-use Rattle.std.proofs.Common.{ℕ, List, refl, ap, ◌∙◌, subst}
+use Rattle.std.proofs.Common.{◌≡◌, ◌+◌, length, sym, ap, ◌∙◌, subst}
 use Rattle.fab_world.specs.Worlds.{WorldRows}
-use Rattle.fab_desk_rows.proofs.WorldPlans.{look}
-use Rattle.fab_desk_rows.specs.Places.{HasName, AreMovable}
-use Rattle.fab_desk_rows.proofs.PlansTurned.{tells_before, tells_after, told_together, all_removed, all_added}
+use Rattle.fab_world.proofs.WholeWorld.{ok_as}
+use Rattle.fab_desk_rows.specs.Places.{IsLastIfActive}
+use Rattle.fab_desk_rows.proofs.PlansTurned.{comes, stands_last, stood_last}
 use Rattle.fab_desk_rows.proofs.plans.turned_rows.Goals as goal
 
 pub returns : goal.returns
-returns g c = λ v turns sound next_sound.
+returns g c =
     let w = c.args.world.now in
     let n = c.args.name.now in
     let t = c.args.turn.now in
-    let ns = c.args.order.now in
-    let p = c.plan_at.result.now in
-    let is = c.plan_at.ensures.plan in
-    let seen = look c.world.inside.plans w (ap (λ (x : WorldRows). x.plans) c.world.view_is) in
-    let order = c.as_slice.ensures.value ∙ ap (λ (x : WorldRows). x.order) c.world.view_is in
-    let before = tells_before w v n t ns p is turns _ seen refl c.state.ensures order sound in
-    let after = tells_after w v n t ns p is turns _ seen refl (c.state_after.ensures p c.plan_at.ensures.leads) refl next_sound in
-    let stay = subst (λ (zs : List (List ℕ)). AreMovable n zs ns (HasName c.in_ok-names.names)) order c.in_ok-names.ensures in record {
-      removed = all_removed w v n t ns p is turns c.in_ok-names.names stay c.in_ok-removed.removed.items (c.in_ok-removed.ensures w v (told_together w v n t ns p is turns _ _ w v seen seen sound before after));
-      added = all_added w v n t ns p is turns c.in_ok-names.names stay c.in_ok-added.added.items (c.in_ok-added.ensures v w (told_together w v n t ns p is turns _ _ v w seen seen sound after before));
-    }
+    let p = c.plan_at-kept.result.now in
+    let is = c.plan_at-kept.ensures.plan in
+    let leads = c.plan_at-kept.ensures.leads in
+    let order = c.world.inside.order in
+    let many : length w.order ≡ c.len-in_force.result = ap (λ (x : WorldRows). length x.order) (sym c.world.view_is) ∙ sym order.ok.0 ∙ sym c.len-in_force.ensures in
+    let before = c.place_in-before in
+    let after = c.place_in-after in
+    let was = before.ensures.state ∙ c.state.ensures in
+    let is_now = after.ensures.state ∙ c.state_after.ensures p leads in
+    ok_as c.row_moved.result
+    (λ m moved v turns sound next_sound.
+    let stood = stood_last w v n t p is turns sound next_sound leads c.len-in_force.result many in
+    let stands = stands_last w v n t p is turns sound next_sound leads (c.len-in_force.result + 1) (ap (λ k. k + 1) many) in
+    moved w v
+    (comes w v n t p is turns sound next_sound leads before.result after.result was is_now
+    (before.ensures.position w.order n (subst (IsLastIfActive w.order c.len-in_force.result n) (sym c.state.ensures) stood))
+    (after.ensures.position v.order n (subst (IsLastIfActive v.order (c.len-in_force.result + 1) n) (sym (c.state_after.ensures p leads)) stands))))
+    c.row_moved.ensures

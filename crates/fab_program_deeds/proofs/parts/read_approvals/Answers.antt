@@ -1,5 +1,5 @@
 use Rattle.std.proofs.Common.{map}
-use Rattle.fab_program_options.specs.Lists.{SpellsApproval}
+use Rattle.fab_program_words.specs.Lists.{SpellsApproval}
 use Rattle.fab_program_deeds.specs.Parts.{AreRead}
 use Rattle.fab_program_deeds.proofs.Gathered.{read_more, read_all}
 use Rattle.fab_program_deeds.proofs.parts.read_approvals.Goals as goal

@@ -1,5 +1,5 @@
 use Rattle.std.proofs.Common.{◌++◌, List, map, drop}
-use Rattle.fab_program_options.specs.Lists.{SpellsApproval}
+use Rattle.fab_program_words.specs.Lists.{SpellsApproval}
 use Rattle.fab_policy.specs.declared.act.Approval.{Approval}
 use Rattle.fab_program_deeds.specs.Parts.{AreRead}
 use Rattle.fab_program_deeds.proofs.parts.read_approvals.Given as goal

@@ -1,7 +1,7 @@
 use Rattle.std.proofs.Common.{IfOk, sym, subst}
 use Rattle.std.proofs.lemmas.Result.{IfOk-weaker}
 use Rattle.fab_program_looks.specs.Lists.{AreListed}
-use Rattle.fab_program_options.specs.declared.words.ListKind.{ListKind}
+use Rattle.fab_program_words.specs.declared.words.ListKind.{ListKind}
 use Rattle.fab_program_looks.proofs.lists.rows_at.Goals as goal
 
 pub returns-in-Ports : goal.returns-in-Ports

@@ -1,6 +1,7 @@
 use Rattle.std.proofs.Common.{◌∙◌, sym, ap}
-use Rattle.fab_program_options.specs.CommandLine.{option_name, option_rule, rule_by}
-use Rattle.fab_program_options.specs.declared.options.OptionShape.{OptionShape}
+use Rattle.fab_program_options.specs.CommandLine.{option_rule, rule_by}
+use Rattle.fab_program_words.specs.Options.{option_name}
+use Rattle.fab_program_words.specs.declared.options.OptionShape.{OptionShape}
 use Rattle.fab_program_options.proofs.commands.argument_of.Goals as goal
 
 pub returns-in-Value-clause-rule : goal.returns-in-Value-clause-rule

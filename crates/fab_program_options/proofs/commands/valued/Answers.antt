@@ -1,7 +1,7 @@
 use Rattle.std.proofs.Common.{◌≡◌, ◌∙◌, ℕ, List, Some, ap}
 use Rattle.clap.specs.Words.{Rule, new_rule, rule_of}
 use Rattle.clap.specs.declared.builder.action.ArgAction.TheVariants.{Set}
-use Rattle.fab_program_options.specs.CommandLine.{option_name}
+use Rattle.fab_program_words.specs.Options.{option_name}
 use Rattle.fab_program_options.proofs.Grown.{option_made}
 use Rattle.fab_program_options.proofs.commands.valued.Goals as goal
 

@@ -1,0 +1,3 @@
+pub mod StockLists
+pub mod TriedEffects
+pub mod WithinLimits

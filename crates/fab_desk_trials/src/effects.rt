@@ -1,0 +1,120 @@
+//! What a command would make of the world, the limits on paths and on changes aside.
+ghost use Rattle.std.specs.Prelude.{◌≡◌, ℕ, IsSome, IfOk, IfErr};
+ghost use Rattle.fab_world.specs.Soundness.{IsSound};
+ghost use Rattle.fab_policy_base.specs.Policies.{PolicyRows};
+ghost use Rattle.fab_desk_base.specs.Answers.{IsThere};
+ghost use Rattle.fab_desk_base.specs.Commands.{IsGiven, action_of, tried};
+ghost use Rattle.fab_desk_base.specs.Trying.{IsTryFault};
+ghost use Rattle.fab_desk_trials.specs.Trials.{IsTried, IsStockEffect, IsStockFault, plan_effect, staging_effect};
+
+use fab_desk_base::{Command, DeskFault};
+use fab_desk_commands::{
+    Next, activated, approved, holder_dropped, holder_put, imported, is_staged_already,
+    rolled_back, volume_dropped, volume_put, withdrawn,
+};
+use fab_inventory::Inventory;
+use fab_names::Name;
+use fab_store_world::inventory_difference;
+use fab_world::World;
+use std::alloc::Allocator;
+
+/// What a command would make of the world.
+#[derive(Drop)]
+pub enum Effect<A: Allocator + Copy> {
+    /// These parts of the world after it.
+    Parts(Next<A>),
+    /// One plan more: that of the command, which stages it. Its steps are still the command's.
+    NewPlan,
+}
+
+/// The effect of a command on the inventory: it tells the rows in which the inventory differs.
+///
+/// # Errors
+/// The refusal, or `Memory`.
+fn of_stock<A: Allocator + Copy>(
+    alloc: A,
+    world: &World<A>,
+    tried: Result<Inventory<A>, DeskFault>,
+) -> Result<Effect<A>, DeskFault>
+    ensures ok { IfOk result (IsStockEffect world.now tried) }
+    ensures err { IfErr result (IsStockFault tried) }
+{
+    let inventory = match tried {
+        Ok(inventory) => inventory,
+        Err(fault) => return Err(fault),
+    };
+    match inventory_difference(alloc, &world.inventory, &inventory) {
+        Ok(change) => Ok(Effect::Parts(Next::Stock { inventory, change })),
+        Err(_) => Err(DeskFault::Memory),
+    }
+}
+
+/// The effect of a command on a plan.
+fn of_plan<A: Allocator + Copy>(tried: Result<Next<A>, DeskFault>) -> Result<Effect<A>, DeskFault>
+    ensures { result ≡ plan_effect tried }
+{
+    match tried {
+        Ok(next) => Ok(Effect::Parts(next)),
+        Err(fault) => Err(fault),
+    }
+}
+
+/// The effect of the staging of a plan.
+fn of_staging<A: Allocator + Copy>(tried: Result<bool, DeskFault>) -> Result<Effect<A>, DeskFault>
+    ensures { result ≡ staging_effect tried }
+{
+    match tried {
+        Ok(true) => Ok(Effect::Parts(Next::Same)),
+        Ok(false) => Ok(Effect::NewPlan),
+        Err(fault) => Err(fault),
+    }
+}
+
+/// What the command would make of the world, the limits on paths and on changes aside. A dry run
+/// is tried as the activation. A read has no effect, and is not asked.
+///
+/// # Errors
+/// The first refusal of the records, or `Memory`.
+pub fn effect_of<A: Allocator + Copy>(
+    alloc: A,
+    world: &World<A>,
+    caller: &Name,
+    command: &Command<A>,
+) -> Result<Effect<A>, DeskFault>
+    requires sound { IsSound world.now }
+    requires given { IsGiven command.now }
+    requires there { (p : PolicyRows) (id : ℕ) → IsThere p world.now id command.now }
+    requires change { IsSome (action_of command.now) }
+    ensures ok { IfOk result (IsTried world.now caller.now command.now) }
+    ensures err { IfErr result (IsTryFault world.now caller.now (tried command.now)) }
+{
+    match command {
+        Command::Import { fabric, rows } => of_stock(alloc, world, imported(world, *fabric, rows)),
+        Command::PutHolder {
+            kind,
+            name,
+            tenant,
+            ports,
+        } => of_stock(alloc, world, holder_put(world, *kind, name, tenant, ports)),
+        Command::PutVolume { name, volume } => of_stock(
+            alloc,
+            world,
+            volume_put(world, name, volume),
+        ),
+        Command::DropHolder { kind, name } => of_stock(
+            alloc,
+            world,
+            holder_dropped(world, *kind, name),
+        ),
+        Command::DropVolume { name } => of_stock(alloc, world, volume_dropped(world, name)),
+        Command::Stage { plan, steps } => of_staging(is_staged_already(
+            alloc, world, caller, plan, steps,
+        )),
+        Command::Withdraw { plan } => of_plan(withdrawn(world, plan)),
+        Command::Approve { plan } => of_plan(approved(alloc, world, caller, plan)),
+        Command::DryRun { plan } => of_plan(activated(alloc, world, plan)),
+        Command::Activate { plan } => of_plan(activated(alloc, world, plan)),
+        Command::Rollback { plan } => of_plan(rolled_back(alloc, world, plan)),
+        Command::Show(_) => unreachable!(),
+    }
+}

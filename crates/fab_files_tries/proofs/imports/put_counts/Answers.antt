@@ -1,0 +1,6 @@
+use Rattle.fab_files_tries.specs.Imports.{counts_text}
+use Rattle.fab_files_tries.proofs.imports.put_counts.Goals as goal
+
+pub returns : goal.returns
+unfolding counts_text
+returns g c = rw (c.as_slice.ensures, c.as_bytes.ensures.value, c.format.ensures.text, c.as_slice-2.ensures, c.as_bytes-2.ensures.value, c.format-2.ensures.text, c.as_slice-3.ensures, c.as_bytes-3.ensures.value, c.format-3.ensures.text, c.as_bytes-4.ensures.value, c.hosts_word.ensures, c.as_slice-all.ensures.value, c.as_slice-4.ensures) at c.put_all.ensures

@@ -1,0 +1,12 @@
+use Rattle.std.proofs.Common.{map, drop}
+use Rattle.serde_json.specs.View.{items_of}
+use Rattle.fab_wire_streams.specs.JsonText.{json_text}
+use Rattle.fab_wire_streams.specs.Values.{list_data}
+use Rattle.fab_wire_streams.specs.Pieces.{items_json}
+use Rattle.fab_wire_streams.proofs.Turns.{Gone}
+use Rattle.fab_files_tries.specs.Plans.{row_data}
+use Rattle.fab_files_tries.proofs.plans.RowListJson.put.Given as goal
+
+-- what is left is the text of the rows that are left
+abbrev pub invariant-loop-row : goal.invariant-loop-row
+invariant-loop-row g l = Gone g.S.Sink.took l.fn.sink l.sink (json_text (list_data row_data l.fn.self.0.now)) (items_json l.later (items_of (map row_data (drop l.row-index l.fn.self.0.now))))

@@ -1,0 +1,4 @@
+use Rattle.fab_files_tries.proofs.plans.put_object.Goals as goal
+
+pub returns : goal.returns
+returns g c = rw (c.as_slice.ensures.value, c.as_slice-2.ensures.value, c.as_slice-3.ensures.value, c.as_slice-4.ensures.value, c.as_slice-5.ensures.value) at c.put.ensures.text

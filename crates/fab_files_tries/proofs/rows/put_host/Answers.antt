@@ -1,0 +1,7 @@
+use Rattle.std.proofs.Common.{append-nil}
+use Rattle.fab_files_tries.specs.Rows.{host_text}
+use Rattle.fab_files_tries.proofs.rows.put_host.Goals as goal
+
+pub returns : goal.returns
+unfolding host_text
+returns g c = rw (c.as_slice.ensures, c.as_bytes.ensures.text, c.as_slice-2.ensures, c.as_bytes-2.ensures.text, append-nil c.args.host.now) at c.put_pieces.ensures

@@ -1,0 +1,4 @@
+pub mod Names
+pub mod Rows
+pub mod Imports
+pub mod Plans

@@ -1,0 +1,245 @@
+//! Want of memory: each request of a look is refused in turn, and it tells that or the whole answer.
+
+use crate::stock::{ADA, caller, made, name};
+use fab_inventory::HolderKind;
+use fab_looks::{Kind, list, list_ports, told, who_told};
+use fab_looks_base::Why;
+use fab_looks_ways::{pairs_told, reachers_told};
+use fab_names::{Fabric, Name, Wwn};
+use fab_plans::trial;
+use fab_plans_text::read_plan;
+use fab_policy::{CallerId, Policy};
+use fab_test_alloc::Refusing;
+use fab_test_machine::policy;
+use fab_wire_requests::port_list::read_ports;
+use fab_world::World;
+use std::alloc::Global;
+use std::process::Abort;
+
+/// Memory of which one request may be refused.
+type Heap<'a> = &'a Refusing<Global>;
+
+/// Two initiators and two targets.
+const PORTS: &str = "port_name,node_name,domain,port
+10:00:00:00:00:00:00:01,20:00:00:00:00:00:00:01,1,1
+10:00:00:00:00:00:00:02,20:00:00:00:00:00:00:01,1,2
+50:00:00:00:00:00:00:01,50:00:00:00:00:00:00:00,1,3
+50:00:00:00:00:00:00:02,50:00:00:00:00:00:00:00,1,4
+";
+
+/// A zone joins the first of each, and nothing the second.
+const PLAN: &str = "zone.put A z1 wwpn=10:00:00:00:00:00:00:01 wwpn=50:00:00:00:00:00:00:01
+zone.put A z2 wwpn=10:00:00:00:00:00:00:01 dp=1,3
+set.put A s1 z1 z2
+activate A s1
+hg.put hosts1 blue db1
+sg.new g1 blue arr1
+sg.host g1 hosts1
+sg.target g1 50:00:00:00:00:00:00:01
+sg.target g1 50:00:00:00:00:00:00:02
+sg.map g1 0 v1
+sg.map g1 3 v1
+sg.expose g1
+";
+
+/// The ports of the host.
+const INITIATORS: &[u64] = &[0x1000_0000_0000_0001, 0x1000_0000_0000_0002];
+
+/// The ports of the array.
+const TARGETS: &[u64] = &[0x5000_0000_0000_0001, 0x5000_0000_0000_0002];
+
+/// What is looked at.
+#[derive(Clone, Copy)]
+enum Look {
+    Why,
+    Who,
+    Names,
+    Ports,
+    Pairs,
+    Reachers,
+}
+
+/// A look, and how many paths, hosts, names, ports, pairs, or storage groups and units it tells.
+const LOOKS: &[(Look, usize)] = &[
+    (Look::Why, 2),
+    (Look::Who, 1),
+    (Look::Names, 2),
+    (Look::Ports, 4),
+    (Look::Pairs, 4),
+    (Look::Reachers, 3),
+];
+
+/// The ports of these numbers.
+fn ports_of<'a>(rt: &impl Abort, alloc: Heap<'a>, numbers: &[u64]) -> Vec<Wwn, Heap<'a>> {
+    let mut ports = Vec::new(alloc);
+    for number in numbers {
+        assert!(rt; *number > 0);
+        ports.push(Wwn::new(*number)).expect(rt, "memory");
+    }
+    ports
+}
+
+/// Puts the host, the array and the volume.
+fn put_all<'a>(rt: &impl Abort, alloc: Heap<'a>, world: &mut World<Heap<'a>>) {
+    let (blue, db1, arr1) = (name(rt, "blue"), name(rt, "db1"), name(rt, "arr1"));
+    let initiators = ports_of(rt, alloc, INITIATORS);
+    let targets = ports_of(rt, alloc, TARGETS);
+    let inventory = &mut world.inventory;
+    assert!(rt;
+        inventory
+            .put_holder(db1, HolderKind::Host, blue, &initiators)
+            .is_ok()
+    );
+    assert!(rt;
+        inventory
+            .put_holder(arr1, HolderKind::Array, blue, &targets)
+            .is_ok()
+    );
+    assert!(rt;
+        inventory
+            .put_volume(name(rt, "v1"), arr1, blue, 512)
+            .is_ok()
+    );
+}
+
+/// Does the plan.
+fn activate<'a>(rt: &impl Abort, alloc: Heap<'a>, world: &mut World<Heap<'a>>) {
+    let Ok(steps) = read_plan(alloc, PLAN) else {
+        panic!(rt; "no plan");
+    };
+    let Ok(config) = trial(&world.config, &world.inventory, &steps) else {
+        panic!(rt; "no configuration");
+    };
+    world.config = config;
+}
+
+/// The world that is looked at.
+fn world_over<'a>(rt: &(impl Abort + AllocGlobal), alloc: Heap<'a>) -> World<Heap<'a>> {
+    let mut world = World::new(alloc);
+    let Ok(rows) = read_ports(alloc, rt.alloc(), PORTS.as_bytes()) else {
+        panic!(rt; "no ports");
+    };
+    assert!(rt; world.inventory.import(Fabric::A, &rows).is_ok());
+    put_all(rt, alloc, &mut world);
+    activate(rt, alloc, &mut world);
+    world
+}
+
+/// How much is told of a host and a volume, if there is memory.
+fn told_of_both<'a>(
+    alloc: Heap<'a>,
+    policy: &Policy,
+    world: &World<Heap<'a>>,
+    id: CallerId,
+    host: &Name,
+    volume: &Name,
+    look: Look,
+) -> Option<usize> {
+    match look {
+        Look::Why => match told(alloc, policy, world, id, host, volume).ok()? {
+            Why::Reaches(paths) => Some(paths.len()),
+            Why::Missing(_) => None,
+        },
+        Look::Pairs => Some(
+            pairs_told(alloc, policy, world, id, host, volume)
+                .ok()?
+                .len(),
+        ),
+        _ => None,
+    }
+}
+
+/// How much is told of a volume, if there is memory.
+fn told_of_volume<'a>(
+    alloc: Heap<'a>,
+    policy: &Policy,
+    world: &World<Heap<'a>>,
+    id: CallerId,
+    volume: &Name,
+    look: Look,
+) -> Option<usize> {
+    if matches!(look, Look::Who) {
+        return Some(who_told(alloc, policy, world, id, volume).ok()?.len());
+    }
+    let reachers = reachers_told(alloc, policy, world, id, volume).ok()?;
+    let reacher = reachers.first()?;
+    Some(reacher.groups.len().saturating_add(reacher.units.len()))
+}
+
+/// How much is told, if there is memory.
+fn told_of<'a>(
+    rt: &impl Abort,
+    alloc: Heap<'a>,
+    policy: &Policy,
+    world: &World<Heap<'a>>,
+    id: CallerId,
+    look: Look,
+) -> Option<usize> {
+    let (host, volume) = (name(rt, "db1"), name(rt, "v1"));
+    match look {
+        Look::Why | Look::Pairs => told_of_both(alloc, policy, world, id, &host, &volume, look),
+        Look::Who | Look::Reachers => told_of_volume(alloc, policy, world, id, &volume, look),
+        Look::Names => Some(
+            list(alloc, policy, world, id, Kind::Zones(Fabric::A))
+                .ok()?
+                .len(),
+        ),
+        Look::Ports => Some(list_ports(alloc, world).ok()?.len()),
+    }
+}
+
+/// How many requests a look makes at most.
+const MOST: u64 = 100;
+
+/// Whether all is told, or want of memory where the request after so many is refused.
+fn is_refused<'a>(
+    rt: &impl Abort,
+    alloc: Heap<'a>,
+    policy: &Policy,
+    world: &World<Heap<'a>>,
+    id: CallerId,
+    case: (Look, usize),
+    requests: u64,
+) -> bool {
+    alloc.refuse_after(requests);
+    match told_of(rt, alloc, policy, world, id, case.0) {
+        Some(count) => count == case.1,
+        None => alloc.has_refused(),
+    }
+}
+
+/// Whether each request is refused in turn, the first at least, and then none is left.
+fn is_refused_at_each<'a>(
+    rt: &impl Abort,
+    alloc: Heap<'a>,
+    policy: &Policy,
+    world: &World<Heap<'a>>,
+    id: CallerId,
+    case: (Look, usize),
+) -> bool {
+    for requests in 0..MOST {
+        if !is_refused(rt, alloc, policy, world, id, case, requests) {
+            return false;
+        }
+        if requests == 0 && !alloc.has_refused() {
+            return false;
+        }
+    }
+    !alloc.has_refused()
+}
+
+/// Each look is refused at each of its requests.
+fn assert_refused(rt: &(impl Abort + AllocGlobal)) {
+    let refusing = Refusing::new(rt.alloc());
+    let policy = made(rt, policy(rt.alloc()), "policy");
+    let world = world_over(rt, &refusing);
+    let id = caller(rt, &policy, ADA);
+    for case in LOOKS {
+        assert!(rt; is_refused_at_each(rt, &refusing, &policy, &world, id, *case));
+    }
+}
+
+#[test]
+fn a_look_is_refused_at_each_request(rt: HostRuntime) {
+    assert_refused(&rt);
+}

@@ -1,0 +1,4 @@
+pub mod Hosts
+pub mod Ports
+pub mod Tries
+pub mod Inner

@@ -1,0 +1,5 @@
+pub mod EndsOrder
+pub mod Gains
+pub mod Ended
+pub mod Tied
+pub mod Offered

@@ -1,0 +1,34 @@
+//! The world of a store.
+ghost use Rattle.std.specs.Prelude.{◌≡◌};
+ghost use Rattle.fab_program_loading.specs.Loading.{IsLoaded, fault_of_opening};
+
+use fab_program_outside::Fault;
+use fab_store::{OpenFault, Store};
+use fab_world::World;
+use std::alloc::Global;
+
+/// The fault of a store that has no world of a desk.
+pub fn of_opening(fault: OpenFault) -> Fault
+    ensures { result ≡ fault_of_opening fault }
+{
+    match fault {
+        OpenFault::Damaged(table) => Fault::Damaged(table),
+        OpenFault::NewerSchema(schema) => Fault::NewerSchema(schema),
+        OpenFault::Store => Fault::Store,
+        OpenFault::Memory => Fault::Memory,
+    }
+}
+
+/// The world that the tables of a store have.
+///
+/// # Errors
+/// `Damaged`, `NewerSchema`, `Store` or `Memory`: why its tables are not those of a desk.
+pub fn world_of<S: Store<Global>>(alloc: Global, store: S) -> Result<World<Global>, Fault>
+    ensures { IsLoaded S.Store store result }
+{
+    let mut store = store;
+    match store.load(alloc) {
+        Ok(world) => Ok(world),
+        Err(fault) => Err(of_opening(fault)),
+    }
+}

@@ -1,0 +1,138 @@
+//! The lines of a file, played one after the other.
+
+use crate::answers::{Answer, first_scarce, loading, word_of};
+use crate::making::{begin, hold, no_rows, put_config, put_plan, put_volume, row_of};
+use fab_inventory::HolderKind;
+use fab_store_rows::{ConfigRow, TableRows};
+use fab_test_alloc::Refusing;
+use std::alloc::Global;
+
+/// How many histories are as expected, and how many are not.
+#[derive(Clone, Copy)]
+pub struct Tally {
+    pub right: u64,
+    pub wrong: u64,
+}
+
+/// The rows that are known by number.
+type Known = Vec<ConfigRow, Global>;
+
+/// Does what a line says that is no question.
+fn make<'a>(
+    heap: &'a Refusing<Global>,
+    known: &[ConfigRow],
+    tables: &mut TableRows<&'a Refusing<Global>>,
+    word: &str,
+    text: &str,
+) -> Option<()> {
+    match word {
+        "host" => hold(tables, HolderKind::Host, text),
+        "array" => hold(tables, HolderKind::Array, text),
+        "volume" => put_volume(tables, text),
+        "now" => put_config(tables, known, text),
+        "plan" => put_plan(heap, tables, known, text),
+        "history" => {
+            begin(tables);
+            Some(())
+        }
+        _ => None,
+    }
+}
+
+/// The answer of a word.
+fn wanted_of(word: &str) -> Option<Answer> {
+    match word {
+        "opens" => Some(Answer::Opens),
+        "undo" => Some(Answer::Undo),
+        _ => None,
+    }
+}
+
+/// The answer that is not as the line says, if one is.
+fn odd_answer<'a>(
+    heap: &'a Refusing<Global>,
+    tables: &TableRows<&'a Refusing<Global>>,
+    word: &str,
+    text: &str,
+) -> Option<Option<Answer>> {
+    if word == "scarce" {
+        return Some(first_scarce(heap, tables, wanted_of(text)?));
+    }
+    let wanted = wanted_of(word)?;
+    let found = loading(heap, tables);
+    Some((found != wanted).then_some(found))
+}
+
+/// Whether what is answered is as the line says; what differs is printed.
+fn is_told<'a>(
+    rt: &HostRuntime,
+    heap: &'a Refusing<Global>,
+    tables: &TableRows<&'a Refusing<Global>>,
+    number: usize,
+    line: (&str, &str),
+) -> Option<bool> {
+    let Some(odd) = odd_answer(heap, tables, line.0, line.1)? else {
+        return Some(true);
+    };
+    let word = word_of(odd);
+    println!(rt; "line {number}: {word}").ok()?;
+    Some(false)
+}
+
+/// Plays a line, and says of a question whether its answer is as expected.
+fn play_line<'a>(
+    rt: &HostRuntime,
+    heap: &'a Refusing<Global>,
+    known: &mut Known,
+    tables: &mut TableRows<&'a Refusing<Global>>,
+    number: usize,
+    line: &str,
+) -> Option<Option<bool>> {
+    let (word, text) = line.split_once(' ').unwrap_or((line, ""));
+    match word {
+        "#" => Some(None),
+        "row" => {
+            known.push(row_of(rt.alloc(), text)?).ok()?;
+            Some(None)
+        }
+        "opens" | "undo" | "scarce" => {
+            Some(Some(is_told(rt, heap, tables, number, (word, text))?))
+        }
+        _ => {
+            make(heap, known.as_slice(), tables, word, text)?;
+            Some(None)
+        }
+    }
+}
+
+/// One history more, if it is one.
+fn counted(tally: Tally, history: Option<bool>) -> Tally {
+    let Tally { right, wrong } = tally;
+    match history {
+        Some(true) => Tally {
+            right: right.saturating_add(1),
+            wrong,
+        },
+        Some(false) => Tally {
+            right,
+            wrong: wrong.saturating_add(1),
+        },
+        None => tally,
+    }
+}
+
+/// Plays the lines of a text, and counts the histories.
+pub fn play(rt: &HostRuntime, heap: &Refusing<Global>, text: &str) -> Option<Tally> {
+    let mut known = Vec::new(rt.alloc());
+    let mut tables = no_rows(heap)?;
+    let mut tally = Tally { right: 0, wrong: 0 };
+    for (place, line) in text.lines().enumerate() {
+        let number = place.saturating_add(1);
+        let Some(history) = play_line(rt, heap, &mut known, &mut tables, number, line) else {
+            let _ = eprintln!(rt; "line {number} is not of the form");
+            return None;
+        };
+        tally = counted(tally, history);
+    }
+    Some(tally)
+}
