@@ -22,6 +22,7 @@ The least of some runs is told in milliseconds, in the order of the groups, and 
 many times as long the desk takes as SQLite.
 """
 import contextlib
+import os
 import pathlib
 import re
 import sqlite3
