@@ -76,8 +76,8 @@ name = "all"
 actions = ["import", "inventory", "stage", "dryrun", "activate"]
 """
 
-TABLES = ["meta", "ports", "holders", "volumes", "zoning", "active", "groups", "group_parts", "plans",
-          "approvals", "undo", "paths"]
+TABLES = ["meta", "ports", "addresses", "holders", "volumes", "zoning", "active", "groups", "group_parts",
+          "plans", "approvals", "undo", "paths"]
 
 
 class Fault(Exception):
@@ -140,6 +140,12 @@ def port_list(records):
     """The list of these ports: name, node name, domain and physical port."""
     lines = [f"{name:016x},{node:016x},{domain},{slot}" for name, node, domain, slot in records]
     return "\n".join(["port_name,node_name,domain,port", *lines, ""])
+
+
+def addressed_list(records):
+    """The list of these ports with their addresses, which are texts: empty where none is told."""
+    lines = [f"{name:016x},{node:016x},{domain},{slot},{address}" for name, node, domain, slot, address in records]
+    return "\n".join(["port_name,node_name,domain,port,address", *lines, ""])
 
 
 def send_all(stream, sent):
@@ -385,7 +391,7 @@ def copied(database, copy):
 
 
 def tables_of(database, copy):
-    """The rows of the twelve tables, as SQLite's own library reads them in a copy."""
+    """The rows of the thirteen tables, as SQLite's own library reads them in a copy."""
     with contextlib.closing(sqlite3.connect(copied(database, copy))) as opened:
         found = {row[0] for row in opened.execute("SELECT name FROM sqlite_master WHERE type = 'table'")}
         if found != set(TABLES) or opened.execute("PRAGMA integrity_check").fetchall() != [("ok",)]:

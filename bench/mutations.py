@@ -11,6 +11,7 @@ FABRICS = ["A", "B"]
 PORTS = [f"{side}0000000000000{number:02x}" for side in "15" for number in range(1, 13)]
 TOKENS = ["t-ada"] * 12 + ["t-bob", "t-bob", "t-cyd", "t-dan", "t-eve", "t-zed"]
 HEADER = "port_name,node_name,domain,port"
+ADDRESSED = f"{HEADER},address"
 
 
 # ---- requests
@@ -56,10 +57,20 @@ def port_text(rng):
     return rng.choice([digits, pairs(digits), pairs(digits), f"0x{digits}", pairs(digits).upper()])
 
 
+def address_text(rng):
+    digits = f"{rng.randint(1, 239):02x}{rng.randrange(4):04x}"
+    return rng.choice([digits, digits, f"0x{digits}", digits.upper()])
+
+
 def some_ports(rng):
     rows = [f"{port_text(rng)},{port_text(rng)},{rng.randint(1, 239)},{rng.randrange(4096)}"
             for _ in range(rng.randrange(30))]
-    return rng.choice(["\n", "\n", "\r\n"]).join([HEADER, *rows, ""])
+    header, rows = rng.choice([(HEADER, rows), (ADDRESSED, [f"{row},{told_address(rng)}" for row in rows])])
+    return rng.choice(["\n", "\n", "\r\n"]).join([header, *rows, ""])
+
+
+def told_address(rng):
+    return address_text(rng) if rng.random() < 0.7 else ""
 
 
 def all_ports():
@@ -70,7 +81,7 @@ def all_ports():
 
 def member(rng):
     return rng.choice([f"wwpn={port_text(rng)}", f"wwpn={port_text(rng)}", f"wwnn={port_text(rng)}",
-                       f"dp={rng.randint(1, 239)},{rng.randrange(4096)}"])
+                       f"dp={rng.randint(1, 239)},{rng.randrange(4096)}", f"id={address_text(rng)}"])
 
 
 def members(rng):

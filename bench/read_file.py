@@ -24,6 +24,7 @@ PLANS = 64
 TABLES = {
     "meta": ["key TEXT 1 1", "value TEXT 1 0"],
     "ports": ["wwpn TEXT 1 1", "wwnn TEXT 1 0", "fabric TEXT 0 0", "domain INTEGER 0 0", "slot INTEGER 0 0", "holder TEXT 0 0"],
+    "addresses": ["wwpn TEXT 1 1", "address TEXT 1 0"],
     "holders": ["name TEXT 1 1", "kind TEXT 1 0", "tenant TEXT 1 0"],
     "volumes": ["name TEXT 1 1", "array TEXT 1 0", "tenant TEXT 1 0", "bytes INTEGER 1 0"],
     "zoning": ["fabric TEXT 1 1", "kind TEXT 1 2", "name TEXT 1 3", "item TEXT 1 4"],
@@ -45,14 +46,14 @@ SECOND = (TOP / "examples" / "second-host.plan").read_text()
 SIGNED = "default B deny\n"
 
 PORTS = [
-    (0x1000000000000001, 0x2000000000000001, 1, 1), (0x1000000000000002, 0x2000000000000002, 12, 5),
-    (0x1000000000000003, 0x2000000000000003, 12, 5), (0x5000000000000001, 0x5000000000000000, 1, 2),
-    (0x5000000000000002, 0x5000000000000000, 1, 3),
+    (0x1000000000000001, 0x2000000000000001, 1, 1, "0x0101AB"), (0x1000000000000002, 0x2000000000000002, 12, 5, ""),
+    (0x1000000000000003, 0x2000000000000003, 12, 5, ""), (0x5000000000000001, 0x5000000000000000, 1, 2, "efffff"),
+    (0x5000000000000002, 0x5000000000000000, 1, 3, ""),
 ]
 
 # The requests, and who asks: the worked world, a plan that two approve, and the two worked plans.
 REQUESTS = [
-    ("ada", "POST", "/imports/A", desk.port_list(PORTS)),
+    ("ada", "POST", "/imports/A", desk.addressed_list(PORTS)),
     ("ada", "PUT", "/hosts/db1", desk.holder([0x1000000000000001], "blue")),
     ("ada", "PUT", "/hosts/db2", desk.holder([0x1000000000000002, 0x1000000000000003], "green")),
     ("ada", "PUT", "/arrays/arr1", desk.holder([0x5000000000000001, 0x5000000000000002], "store")),
@@ -71,7 +72,7 @@ REQUESTS = [
 # worked plans, activated.
 ROWS = {
     "meta": [
-        ("schema", "1"), ("revision", "8"), ("active.A", "s1"), ("active.B", ""),
+        ("schema", "2"), ("revision", "8"), ("active.A", "s1"), ("active.B", ""),
         ("default.A", "deny"), ("default.B", "deny"),
     ],
     "ports": [
@@ -81,6 +82,7 @@ ROWS = {
         (FIRST_TARGET, NODE, "A", 1, 2, "arr1"),
         (SECOND_TARGET, NODE, "A", 1, 3, "arr1"),
     ],
+    "addresses": [(FIRST_PORT, "0101ab"), (FIRST_TARGET, "efffff")],
     "holders": [("db1", "host", "blue"), ("db2", "host", "green"), ("arr1", "array", "store")],
     "volumes": [("v1", "arr1", "blue", 1073741824), ("v2", "arr1", "green", 1073741824)],
     "zoning": [

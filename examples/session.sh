@@ -343,7 +343,12 @@ checks 'a plan with two spaces in line 2' 1 \
     'line 2: too many words, or too few, stand behind the first' plan "$here/two-spaces.plan"
 printf 'deactivate A\r\n' > "$work/dos.plan"
 checks 'a line that ends with CR LF' 1 'line 1: a word is no fabric' plan "$work/dos.plan"
+printf 'zone.put A z9 id=0x0101AB\n' > "$work/address.plan"
+checks 'a plan with a member by address' 0 'sound' plan "$work/address.plan"
+printf 'zone.put A z9 id=f00000\n' > "$work/no-address.plan"
+checks 'a plan with an address of no domain' 1 'line 1: a word is no member' plan "$work/no-address.plan"
 checks 'a port list' 0 'sound' ports "$here/fabric-a.csv"
+checks 'a port list with addresses' 0 'sound' ports "$here/fabric-b.csv"
 checks 'a record with a domain that there is not' 1 "record 3: it is no port's, or the header is another" \
     ports "$here/bad-domain.csv"
 says 'there is no such file' 3 '' $'sandesk: file\n' check --plan "$work/none.plan"
@@ -487,7 +492,7 @@ gives 'a body without its tenant' t-ada /hosts/db3 400 \
 gives 'cyd makes no host of green' t-cyd /hosts/db3 403 "$(denied scope 5 own)" \
     '{"ports":[],"tenant":"green"}'
 asks 'a port, and where it is logged in' t-eve GET "/ports/$i4" 200 \
-    '{"at":{"domain":1,"fabric":"B","port":1},"node_name":"20:00:00:00:00:00:00:01","port_name":"'$i4'"}'
+    '{"at":{"address":"010100","domain":1,"fabric":"B","port":1},"node_name":"20:00:00:00:00:00:00:01","port_name":"'$i4'"}'
 asks 'a host' t-cyd GET /hosts/db1 200 \
     '{"kind":"host","name":"db1","ports":["'$i1'","'$i4'"],"tenant":"blue"}'
 asks 'cyd does not see a host of green' t-cyd GET /hosts/db2 404 "$not_found"
@@ -598,7 +603,7 @@ looks 'what is around a target' 0 \
     printf 'zone %s\n' "$(row A z1 2)"
     printf 'group %s\n' "$(row g1 blue arr1 exposed)")" t-cyd who --port $t1
 looks 'what is around a port of a host, as JSON' 0 \
-    '[{"at":{"domain":1,"fabric":"B","port":1},"node_name":"20:00:00:00:00:00:00:01","port_name":"'$i4'"},{"kind":"host","name":"db1","ports":["'$i1'","'$i4'"],"tenant":"blue"}]' \
+    '[{"at":{"address":"010100","domain":1,"fabric":"B","port":1},"node_name":"20:00:00:00:00:00:00:01","port_name":"'$i4'"},{"kind":"host","name":"db1","ports":["'$i1'","'$i4'"],"tenant":"blue"}]' \
     t-cyd who --port $i4 --json
 says 'there is no such port' 1 '' '' \
     who --db "$db" --policy "$policy" --token t-cyd --port 10:00:00:00:00:00:00:99
@@ -804,8 +809,17 @@ if type -p sqlite3 > /dev/null; then
     says 'tables of a schema to come' 3 '' $'sandesk: newer-schema 3\n' \
         export --db "$work/newer.db" --policy "$policy" --token t-ada --fabric A
     edited damaged.db "INSERT INTO zoning VALUES ('A', 'set', 's1', 'z9')"
+    edited addressed.db "INSERT INTO addresses VALUES ('5000000000000009', '0101AB')"
+    says 'an address that is not in its form' 3 '' $'sandesk: damaged addresses\n' \
+        export --db "$work/addressed.db" --policy "$policy" --token t-ada --fabric A
     says 'a set with a zone that is not there' 3 '' $'sandesk: damaged zoning\n' \
         export --db "$work/damaged.db" --policy "$policy" --token t-ada --fabric A
+    cp "$here/../bench/schema-1/row-5.db" "$work/earlier.db"
+    says 'a database of schema 1' 0 "${header}A,db1,$i1,$t1,v1,0"$'\n' '' \
+        paths --db "$work/earlier.db" --policy "$policy" --token t-ada --host db1
+    same 'a database of schema 1' 'its schema then' '2' \
+        "$(sqlite3 "$work/earlier.db" "SELECT value FROM meta WHERE key = 'schema'" 2>&1)"
+    passes 'it is of schema 2 then'
 else
     left_out="$left_out, copies of the database (there is no sqlite3)"
 fi

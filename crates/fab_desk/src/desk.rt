@@ -55,7 +55,7 @@ impl<A: Allocator + Copy, S: Store<A>, B: PathBook<A>> Desk<A, S, B> {
     ///
     /// # Errors
     /// Why there is none, with the store, which is as it was: `Damaged` where the rows are not those of
-    /// a sound world, `NewerSchema`, `Store` where a call was refused, `Memory`.
+    /// a sound world, `NewerSchema`, `OldSchema`, `Store` where a call was refused, `Memory`.
     pub fn open(alloc: A, store: S, policy: Policy) -> Result<Self, (OpenFault, S)>
         ensures policy { IfOk result (λ desk. desk.policy ≡ policy) }
         ensures opened { IfOk result (λ desk. IsOpened S.Store store desk.store desk.ledger.world) }

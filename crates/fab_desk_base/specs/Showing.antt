@@ -80,7 +80,7 @@ ShowsJoined w a b _ = ⊥
 
 -- the port
 abbrev pub ShowsPort : {A : Type 0} → WorldRows → ℕ → Shown A → Type 0
-ShowsPort w n (shown.Port name node at) = (k : Known) × (map.get w.inventory.ports n ≡ Some k) × (name ≡ n) × (node ≡ k.node) × (at ≡ k.at)
+ShowsPort w n (shown.Port name node at address) = (k : Known) × (map.get w.inventory.ports n ≡ Some k) × (name ≡ n) × (node ≡ k.node) × (at ≡ k.at) × (address ≡ k.address)
 ShowsPort w n _ = ⊥
 
 -- the host or the array, and its ports

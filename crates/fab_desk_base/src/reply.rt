@@ -2,7 +2,7 @@
 
 use crate::DeskFault;
 use fab_inventory::{HolderKind, Volume};
-use fab_names::{Fabric, Member, Name, Place, Wwn};
+use fab_names::{Address, Fabric, Member, Name, Place, Wwn};
 use fab_policy::Approval;
 use fab_reach_base::{Delta, Path};
 use fab_store_rows::PlanState;
@@ -129,11 +129,13 @@ pub enum Shown<A: Allocator + Copy> {
     },
     /// Why the two ports may communicate, or that they may not.
     Joined(Option<Joint>),
-    /// A port, the Node_Name of its node, and where it is logged in, if anywhere.
+    /// A port, the Node_Name of its node, where it is logged in, if anywhere, and the address that
+    /// it has there, if one is known.
     Port {
         name: Wwn,
         node: Wwn,
         at: Option<(Fabric, Place)>,
+        address: Option<Address>,
     },
     /// A host or an array, and the ports that it holds.
     Holder(ShownHolder<A>),
@@ -184,6 +186,7 @@ impl<A: Allocator + Copy> Drop for Shown<A> {
                 name: _,
                 node: _,
                 at: _,
+                address: _,
             } => {}
             Shown::Holder(_) => {}
             Shown::Volume { name: _, volume: _ } => {}

@@ -16,9 +16,9 @@ use fab_world::World;
 use std::alloc::Global;
 use std::process::Abort;
 
-/// How many rows of each table: counts, ports, holders, volumes, configuration, plans, approvals,
-/// changes to undo, paths.
-pub type Sizes = [usize; 9];
+/// How many rows of each table: counts, ports, addresses, holders, volumes, configuration, plans,
+/// approvals, changes to undo, paths.
+pub type Sizes = [usize; 10];
 
 /// What is asked, and how many rows that removes and adds.
 pub type Turn = (Ask, Sizes, Sizes);
@@ -28,6 +28,7 @@ fn are_so_many(rows: &TableRows<Global>, sizes: &Sizes) -> bool {
     let found = [
         rows.counts.len(),
         rows.ports.len(),
+        rows.addresses.len(),
         rows.holders.len(),
         rows.volumes.len(),
         rows.config.len(),

@@ -33,22 +33,22 @@ sg.expose g1
 const SECOND: &str = "alias.put B spare dp=7,8
 ";
 
-const NONE: Sizes = [0; 9];
+const NONE: Sizes = [0; 10];
 
 /// The revision.
-const COUNT: Sizes = [1, 0, 0, 0, 0, 0, 0, 0, 0];
+const COUNT: Sizes = [1, 0, 0, 0, 0, 0, 0, 0, 0, 0];
 
 /// The revision, and a port.
-const PORT: Sizes = [1, 1, 0, 0, 0, 0, 0, 0, 0];
+const PORT: Sizes = [1, 1, 0, 0, 0, 0, 0, 0, 0, 0];
 
 /// The revision, a port, and its holder.
-const HOLDER: Sizes = [1, 1, 1, 0, 0, 0, 0, 0, 0];
+const HOLDER: Sizes = [1, 1, 0, 1, 0, 0, 0, 0, 0, 0];
 
 /// The row of a plan.
-const PLAN: Sizes = [0, 0, 0, 0, 0, 1, 0, 0, 0];
+const PLAN: Sizes = [0, 0, 0, 0, 0, 0, 1, 0, 0, 0];
 
 /// The row of an approval.
-const APPROVAL: Sizes = [0, 0, 0, 0, 0, 0, 1, 0, 0];
+const APPROVAL: Sizes = [0, 0, 0, 0, 0, 0, 0, 1, 0, 0];
 
 /// What there is to be changed: nothing is told twice, and a port's row changes with its holder.
 const STOCK: &[Turn] = &[
@@ -71,7 +71,7 @@ const PLANS: &[Turn] = &[
     (
         Ask::Put(Host, "db1", "blue", &[]),
         COUNT,
-        [1, 0, 1, 0, 0, 0, 0, 0, 0],
+        [1, 0, 0, 1, 0, 0, 0, 0, 0, 0],
     ),
     (Ask::Approve("p1"), APPROVAL, APPROVAL),
     (Ask::Withdraw("p1"), PLAN, PLAN),
@@ -88,46 +88,46 @@ const PATHS: &[Turn] = &[
     (
         Ask::Import(Fabric::A, BOTH_PORTS),
         COUNT,
-        [1, 2, 0, 0, 0, 0, 0, 0, 0],
+        [1, 2, 0, 0, 0, 0, 0, 0, 0, 0],
     ),
     (Ask::Put(Host, "db1", "blue", &[I1]), PORT, HOLDER),
     (Ask::Put(Array, "arr1", "blue", &[TP1]), PORT, HOLDER),
     (
         Ask::PutVolume("v1", "arr1", "blue", 4096),
         COUNT,
-        [1, 0, 0, 1, 0, 0, 0, 0, 0],
+        [1, 0, 0, 0, 1, 0, 0, 0, 0, 0],
     ),
     (Ask::Stage("p1", FIRST), NONE, PLAN),
     (Ask::Stage("p2", SECOND), NONE, PLAN),
     (
         Ask::Activate("p1"),
-        [1, 0, 0, 0, 1, 1, 0, 0, 0],
-        [1, 0, 0, 0, 7, 1, 0, 8, 1],
+        [1, 0, 0, 0, 0, 1, 1, 0, 0, 0],
+        [1, 0, 0, 0, 0, 7, 1, 0, 8, 1],
     ),
     (
         Ask::Activate("p2"),
-        [1, 0, 0, 0, 0, 1, 0, 0, 0],
-        [1, 0, 0, 0, 1, 1, 0, 1, 0],
+        [1, 0, 0, 0, 0, 0, 1, 0, 0, 0],
+        [1, 0, 0, 0, 0, 1, 1, 0, 1, 0],
     ),
     (
         Ask::Put(Host, "db1", "blue", &[]),
-        [1, 1, 0, 0, 0, 0, 0, 0, 1],
+        [1, 1, 0, 0, 0, 0, 0, 0, 0, 1],
         PORT,
     ),
     (
         Ask::Put(Host, "db1", "blue", &[I1]),
         PORT,
-        [1, 1, 0, 0, 0, 0, 0, 0, 1],
+        [1, 1, 0, 0, 0, 0, 0, 0, 0, 1],
     ),
     (
         Ask::Rollback("p2"),
-        [1, 0, 0, 0, 1, 1, 0, 1, 0],
-        [1, 0, 0, 0, 0, 1, 0, 0, 0],
+        [1, 0, 0, 0, 0, 1, 1, 0, 1, 0],
+        [1, 0, 0, 0, 0, 0, 1, 0, 0, 0],
     ),
     (
         Ask::Rollback("p1"),
-        [1, 0, 0, 0, 7, 1, 0, 8, 1],
-        [1, 0, 0, 0, 1, 1, 0, 0, 0],
+        [1, 0, 0, 0, 0, 7, 1, 0, 8, 1],
+        [1, 0, 0, 0, 0, 1, 1, 0, 0, 0],
     ),
 ];
 

@@ -38,11 +38,7 @@ fn numbered(rt: &(impl Abort + AllocGlobal), letter: &str, number: u64) -> Name 
 fn put_ports(rt: &(impl Abort + AllocGlobal), inventory: &mut Inventory<Global>) {
     let mut rows = Vec::new(rt.alloc());
     for number in 1..4096 {
-        let row = PortRow {
-            name: Wwn::new(number),
-            node: Wwn::new(1),
-            place: Place::new(1, 1),
-        };
+        let row = PortRow::plain(Wwn::new(number), Wwn::new(1), Place::new(1, 1));
         rows.push(row).expect(rt, "room for a port");
     }
     inventory

@@ -23,6 +23,7 @@ pub fn port_shown<A: Allocator + Copy>(world: &World<A>, name: &Wwn) -> Option<S
         name: *name,
         node: port.node,
         at: port.at,
+        address: port.address,
     })
 }
 

@@ -2,23 +2,27 @@
 use Rattle.std.proofs.Common.{List}
 use Rattle.fab_lemmas.specs.Lists.{IsListOf}
 use Rattle.fab_lemmas.proofs.Filters.{list_as}
-use Rattle.fab_inventory.specs.declared.port.Port.{Port}
 use Rattle.fab_store_rows.specs.declared.config_row.ConfigRow.{ConfigRow}
+use Rattle.fab_store_rows.specs.declared.inventory_row.PortEntry.{PortEntry}
+use Rattle.fab_store_rows.specs.declared.inventory_row.AddressRow.{AddressRow}
 use Rattle.fab_store_rows.specs.declared.inventory_row.HolderRow.{HolderRow}
 use Rattle.fab_store_rows.specs.declared.inventory_row.VolumeRow.{VolumeRow}
 use Rattle.fab_store_rows.specs.declared.inventory_row.InventoryRow.TheVariants as row
 use Rattle.fab_store_rows.specs.declared.record_row.PathRow.{PathRow}
 use Rattle.fab_store_rows.specs.Differences.{StandsOnlyIn}
 use Rattle.fab_store_rows.specs.RowOrder.{row_order}
-use Rattle.fab_store_world.specs.Inventories.{IsKnownOnlyIn, port_order, holder_order, volume_order}
+use Rattle.fab_store_world.specs.Inventories.{IsKnownOnlyIn, entry_order, address_order, holder_order, volume_order}
 use Rattle.fab_store_world.specs.Paths.{IsPathRowOnlyIn, path_row_order}
 use Rattle.fab_world.specs.Worlds.{WorldRows, records_of}
 use Rattle.fab_store_world.specs.Standing.{Lacking}
-use Rattle.fab_store_world.specs.Tables.{IsPortRow, IsHolderRow, IsVolumeRow, IsConfigRow, IsRowOfPath}
+use Rattle.fab_store_world.specs.Tables.{IsPortRow, IsAddressRow, IsHolderRow, IsVolumeRow, IsConfigRow, IsRowOfPath}
 
 module _ (w v : WorldRows) where
-  pub ports_only : (xs : List Port) → IsListOf port_order (λ r. IsKnownOnlyIn w.inventory v.inventory (row.Port r)) xs → IsListOf port_order (Lacking IsPortRow v w) xs
-  ports_only xs = list_as (λ r. IsKnownOnlyIn w.inventory v.inventory (row.Port r)) (Lacking IsPortRow v w) xs (λ r h. (h.there, h.not_there)) (λ r h. record { there = h.0; not_there = h.1 })
+  pub ports_only : (xs : List PortEntry) → IsListOf entry_order (λ r. IsKnownOnlyIn w.inventory v.inventory (row.Entry r)) xs → IsListOf entry_order (Lacking IsPortRow v w) xs
+  ports_only xs = list_as (λ r. IsKnownOnlyIn w.inventory v.inventory (row.Entry r)) (Lacking IsPortRow v w) xs (λ r h. (h.there, h.not_there)) (λ r h. record { there = h.0; not_there = h.1 })
+
+  pub addresses_only : (xs : List AddressRow) → IsListOf address_order (λ r. IsKnownOnlyIn w.inventory v.inventory (row.Address r)) xs → IsListOf address_order (Lacking IsAddressRow v w) xs
+  addresses_only xs = list_as (λ r. IsKnownOnlyIn w.inventory v.inventory (row.Address r)) (Lacking IsAddressRow v w) xs (λ r h. (h.there, h.not_there)) (λ r h. record { there = h.0; not_there = h.1 })
 
   pub holders_only : (xs : List HolderRow) → IsListOf holder_order (λ r. IsKnownOnlyIn w.inventory v.inventory (row.Holder r)) xs → IsListOf holder_order (Lacking IsHolderRow v w) xs
   holders_only xs = list_as (λ r. IsKnownOnlyIn w.inventory v.inventory (row.Holder r)) (Lacking IsHolderRow v w) xs (λ r h. (h.there, h.not_there)) (λ r h. record { there = h.0; not_there = h.1 })

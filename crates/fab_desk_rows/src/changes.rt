@@ -38,7 +38,8 @@ fn together<A: Allocator + Copy>(
     Changes {
         removed: TableRows {
             counts: counts.removed,
-            ports: taken.ports,
+            ports: taken.entries,
+            addresses: taken.addresses,
             holders: taken.holders,
             volumes: taken.volumes,
             config: config.taken,
@@ -49,7 +50,8 @@ fn together<A: Allocator + Copy>(
         },
         added: TableRows {
             counts: counts.added,
-            ports: added.ports,
+            ports: added.entries,
+            addresses: added.addresses,
             holders: added.holders,
             volumes: added.volumes,
             config: config.added,

@@ -15,7 +15,7 @@ use crate::paths::path_rows_moved;
 use fab_desk_commands::{Next, Turn, copied};
 use fab_inventory::Port;
 use fab_reach_base::{Config, Delta, View};
-use fab_store_rows::{ConfigRow, HolderRow, RowDifference, VolumeRow};
+use fab_store_rows::{AddressRow, ConfigRow, HolderRow, PortEntry, RowDifference, VolumeRow};
 use fab_store_world::{InventoryDifference, InventoryLists, PathRowDifference};
 use fab_world::World;
 use std::alloc::{AllocError, Allocator};
@@ -47,6 +47,8 @@ fn no_lists<A: Allocator + Copy>(alloc: A) -> InventoryLists<A>
 {
     InventoryLists {
         ports: Vec::new(alloc),
+        entries: Vec::new(alloc),
+        addresses: Vec::new(alloc),
         holders: Vec::new(alloc),
         volumes: Vec::new(alloc),
     }
@@ -77,13 +79,17 @@ fn lists_again<A: Allocator + Copy>(
     alloc: A,
     lists: &InventoryLists<A>,
 ) -> Result<InventoryLists<A>, AllocError>
-    ensures { IfOk result (λ again. (again.ports.items ≡ lists.now.ports.items) × (again.holders.items ≡ lists.now.holders.items) × (again.volumes.items ≡ lists.now.volumes.items)) }
+    ensures { IfOk result (λ again. (again.ports.items ≡ lists.now.ports.items) × (again.entries.items ≡ lists.now.entries.items) × (again.addresses.items ≡ lists.now.addresses.items) × (again.holders.items ≡ lists.now.holders.items) × (again.volumes.items ≡ lists.now.volumes.items)) }
 {
     let ports = copied::<A, Port>(alloc, lists.ports.as_slice())?;
+    let entries = copied::<A, PortEntry>(alloc, lists.entries.as_slice())?;
+    let addresses = copied::<A, AddressRow>(alloc, lists.addresses.as_slice())?;
     let holders = copied::<A, HolderRow>(alloc, lists.holders.as_slice())?;
     let volumes = copied::<A, VolumeRow>(alloc, lists.volumes.as_slice())?;
     Ok(InventoryLists {
         ports,
+        entries,
+        addresses,
         holders,
         volumes,
     })

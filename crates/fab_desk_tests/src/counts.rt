@@ -1,5 +1,5 @@
 //! What a store counts as refused: each call that is refused, by one, and no other. And calls that change
-//! no tables: `migrate`, and `init` over tables that are there.
+//! no tables: `migrate` of the present schema, and `init` over tables that are there.
 
 use crate::desks::{ask_all, closed, opened, tables_of};
 use crate::lists::{List, all_turns};
@@ -65,10 +65,10 @@ fn does_not_migrate<S: Store<Global>>(
 }
 
 #[test]
-fn there_is_one_schema(rt: HostRuntime) {
+fn tables_of_the_present_schema_are_left(rt: HostRuntime) {
     assert!(rt; does_not_migrate(&rt, &mut tables(&rt), &[]));
     assert!(rt; does_not_migrate(&rt, &mut tables_after(&rt, BEFORE, &[]), BEFORE));
-    assert!(rt; does_not_migrate(&rt, &mut RefusingStore::new(tables(&rt), 1), &[]));
+    assert!(rt; does_not_migrate(&rt, &mut RefusingStore::new(tables(&rt), 2), &[]));
 }
 
 /// Whether `init` is refused, and counted once.

@@ -70,6 +70,10 @@ const FAULTS: &[(&str, Option<OpenFault>)] = &[
         Some(OpenFault::Damaged(Table::Ports)),
     ),
     (
+        "UPDATE meta SET value = '1' WHERE key = 'schema'",
+        Some(OpenFault::OldSchema(1)),
+    ),
+    (
         "UPDATE ports SET holder = 'db9' WHERE wwpn = '1000000000000002'",
         Some(OpenFault::Damaged(Table::Ports)),
     ),
@@ -130,9 +134,12 @@ const FAULTS: &[(&str, Option<OpenFault>)] = &[
     ("DROP TABLE paths", Some(OpenFault::Store)),
 ];
 
-/// The first statement after which another fault is told.
-fn first_wrong(rt: &(impl Abort + AllocGlobal)) -> Option<&'static str> {
-    for (statement, fault) in FAULTS {
+/// The first of the statements after which another fault is told.
+fn first_wrong(
+    rt: &(impl Abort + AllocGlobal),
+    faults: &[(&'static str, Option<OpenFault>)],
+) -> Option<&'static str> {
+    for (statement, fault) in faults {
         if fault_after(rt, statement) != *fault {
             return Some(statement);
         }
@@ -142,7 +149,78 @@ fn first_wrong(rt: &(impl Abort + AllocGlobal)) -> Option<&'static str> {
 
 #[test]
 fn damage_is_told(rt: HostRuntime) {
-    assert_eq!(rt; first_wrong(&rt), None);
+    assert_eq!(rt; first_wrong(&rt, FAULTS), None);
+}
+
+const UNSOUND_ADDRESSES: Option<OpenFault> = Some(OpenFault::Damaged(Table::Addresses));
+
+/// The same of the table of addresses, and of the order of tables around it.
+const ADDRESSES: &[(&str, Option<OpenFault>)] = &[
+    (
+        "INSERT INTO addresses VALUES ('1000000000000001', '010100')",
+        None,
+    ),
+    (
+        "INSERT INTO addresses VALUES ('1000000000000001', '010100'), ('5000000000000001', '010100')",
+        None,
+    ),
+    (
+        "INSERT INTO addresses VALUES ('1000000000000001', '0x0101')",
+        UNSOUND_ADDRESSES,
+    ),
+    (
+        "INSERT INTO addresses VALUES ('1000000000000001', '0x010100')",
+        UNSOUND_ADDRESSES,
+    ),
+    (
+        "INSERT INTO addresses VALUES ('1000000000000001', '0101AB')",
+        UNSOUND_ADDRESSES,
+    ),
+    (
+        "INSERT INTO addresses VALUES ('1000000000000001', 'f00000')",
+        UNSOUND_ADDRESSES,
+    ),
+    (
+        "INSERT INTO addresses VALUES ('1000000000000001', '00ffff')",
+        UNSOUND_ADDRESSES,
+    ),
+    (
+        "INSERT INTO addresses VALUES ('1000000000000001', '')",
+        UNSOUND_ADDRESSES,
+    ),
+    (
+        "INSERT INTO addresses VALUES ('10:00:00:00:00:00:00:01', '010100')",
+        UNSOUND_ADDRESSES,
+    ),
+    (
+        "INSERT INTO addresses VALUES ('100000000000000A', '010100')",
+        UNSOUND_ADDRESSES,
+    ),
+    // No such port is known.
+    (
+        "INSERT INTO addresses VALUES ('5000000000000009', '010200')",
+        UNSOUND_ADDRESSES,
+    ),
+    // The port is known and logged in nowhere.
+    (
+        "UPDATE ports SET fabric = NULL, domain = NULL, slot = NULL WHERE wwpn = '1000000000000003'; INSERT INTO addresses VALUES ('1000000000000003', '010200')",
+        UNSOUND_ADDRESSES,
+    ),
+    (
+        "INSERT INTO addresses VALUES ('x', 'x'); UPDATE ports SET wwnn = 'x' WHERE wwpn = '1000000000000001'",
+        Some(OpenFault::Damaged(Table::Ports)),
+    ),
+    (
+        "INSERT INTO addresses VALUES ('x', 'x'); UPDATE holders SET kind = 'x'",
+        UNSOUND_ADDRESSES,
+    ),
+    ("DROP TABLE addresses", Some(OpenFault::Store)),
+    ("CREATE TABLE extra (x TEXT) STRICT", Some(OpenFault::Store)),
+];
+
+#[test]
+fn damage_of_addresses_is_told(rt: HostRuntime) {
+    assert_eq!(rt; first_wrong(&rt, ADDRESSES), None);
 }
 
 /// Sets the greatest revision that there may be.

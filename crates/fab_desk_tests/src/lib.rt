@@ -26,6 +26,8 @@ mod memory;
 #[cfg(test)]
 mod midway;
 #[cfg(test)]
+mod migrations;
+#[cfg(test)]
 mod refused;
 #[cfg(test)]
 mod stops;

@@ -112,6 +112,7 @@ fn put_member<S: Sink>(sink: &mut S, zone: &Name, member: &Member) -> Result<(),
         Member::Port(name) => put_words(sink, zone, b"wwpn=", &name.letters()),
         Member::Node(name) => put_words(sink, zone, b"wwnn=", &name.letters()),
         Member::Place(place) => put_place(sink, zone, *place),
+        Member::Address(address) => put_words(sink, zone, b"id=", &address.letters()),
         Member::Alias(name) => put_words(sink, zone, b"alias=", name.as_bytes()),
     }
 }

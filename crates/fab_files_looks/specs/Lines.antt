@@ -69,7 +69,7 @@ plan_line x = head_line x.name x.state x.author (length x.approvals.items)
 
 -- the line of what a read shows; an empty one of what no list has
 abbrev pub row_line : {A : Type 0} → Shown A → List ℕ
-row_line (shown.Port name node at) = port_line name node at
+row_line (shown.Port name node at address) = port_line name node at
 row_line (shown.Holder x) = count_line x.name x.tenant (length x.ports.items)
 row_line (shown.Volume name v) = volume_line name v
 row_line (shown.HostGroup name tenant hosts) = count_line name tenant (length hosts.items)

@@ -52,7 +52,7 @@ label_of_holder kind.Array = codes "array "
 -- the word of what a read shows
 abbrev pub label_of : {A : Type 0} → Shown A → List ℕ
 label_of (shown.Holder x) = label_of_holder x.kind
-label_of (shown.Port name node at) = codes "port "
+label_of (shown.Port name node at address) = codes "port "
 label_of (shown.Volume name v) = codes "volume "
 label_of (shown.Group x) = codes "group "
 label_of (shown.Members f name members) = codes "zone "

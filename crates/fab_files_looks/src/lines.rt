@@ -25,7 +25,12 @@ pub fn put_row<S: Sink, A: Allocator + Copy>(
     ensures { Takes S.took S.cut sink.old (row_line shown.now) sink.new result }
 {
     match shown {
-        Shown::Port { name, node, at } => put_port(sink, *name, *node, *at),
+        Shown::Port {
+            name,
+            node,
+            at,
+            address: _,
+        } => put_port(sink, *name, *node, *at),
         Shown::Holder(holder) => {
             put_count(
                 sink,

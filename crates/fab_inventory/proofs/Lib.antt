@@ -6,3 +6,4 @@ pub mod Soundness
 pub mod Steps
 pub mod Holdings
 pub mod Restoring
+pub mod Seating

@@ -24,7 +24,7 @@ use Rattle.fab_inventory.specs.declared.holder.HolderKind.TheVariants as kind
 use Rattle.fab_inventory.specs.Limits.{most_bytes}
 use Rattle.fab_inventory.specs.Holders.{holder_in, holder_is, same_name}
 use Rattle.fab_inventory.specs.Inventories.{InventoryRows, IsSound, HoldsFew, IsArray, IsCapacity, kind_of}
-use Rattle.fab_inventory.specs.Restores.{ArePortsSound, AreHoldersSound, AreVolumesSound}
+use Rattle.fab_inventory.specs.Restores.{ArePortsSound, AreAddressesSound, AreHoldersSound, AreVolumesSound}
 use Rattle.fab_inventory.specs.RestoreTests.{passes, has_known_holder, is_array_kind, is_placed, count_of, CountsPort, HasFew, HasMost}
 use Rattle.fab_inventory.proofs.NameTests.{tie_tells}
 use Rattle.fab_inventory.proofs.Holdings.{held, held_more, held_fewer, few_from_held, held_from_few}
@@ -130,12 +130,13 @@ module _ (h : BTreeMap (List ℕ) Holder) (v : BTreeMap (List ℕ) Volume) where
         (from_within 1 x.bytes (left _ _ fits), from_within x.bytes most_bytes (right (nat_le 1 x.bytes) _ fits))
 
 -- ---- the whole
-pub sound_of_parts : (v : InventoryRows) → ArePortsSound v.ports v.holders → AreHoldersSound v.holders → AreVolumesSound v.holders v.volumes → IsSound v
-sound_of_parts v p h x = record { holdings = p.holdings; arrays = x.arrays; capacities = x.capacities; few_ports = p.few; few_holders = h; few_volumes = x.few; few_held = p.few_held }
+pub sound_of_parts : (v : InventoryRows) → ArePortsSound v.ports v.holders → AreAddressesSound v.ports → AreHoldersSound v.holders → AreVolumesSound v.holders v.volumes → IsSound v
+sound_of_parts v p a h x = record { holdings = p.holdings; addresses = a; arrays = x.arrays; capacities = x.capacities; few_ports = p.few; few_holders = h; few_volumes = x.few; few_held = p.few_held }
 
-pub parts_of_sound : (v : InventoryRows) → IsSound v → ArePortsSound v.ports v.holders × AreHoldersSound v.holders × AreVolumesSound v.holders v.volumes
+pub parts_of_sound : (v : InventoryRows) → IsSound v → ArePortsSound v.ports v.holders × AreAddressesSound v.ports × AreHoldersSound v.holders × AreVolumesSound v.holders v.volumes
 parts_of_sound v s = (
   record { holdings = s.holdings; few = s.few_ports; few_held = s.few_held },
+  s.addresses,
   s.few_holders,
   record { arrays = s.arrays; capacities = s.capacities; few = s.few_volumes },
 )

@@ -8,15 +8,16 @@ use Rattle.std.proofs.lemmas.Bool.Decides.{eqb_tells, Decides-eqb}
 use Rattle.std.proofs.lemmas.Map.Views.{Contains-from_any}
 use Rattle.fab_names.specs.Orders.{name_cmp}
 use Rattle.fab_names.specs.declared.fabric.Fabric.{Fabric}
+use Rattle.fab_names.specs.Places.{Position}
 use Rattle.fab_names.proofs.OrderLaws.{name_total}
 use Rattle.fab_inventory.specs.declared.port.Known.{Known}
 use Rattle.fab_inventory.specs.declared.port.PortRow.{PortRow}
 use Rattle.fab_inventory.specs.declared.holder.Holder.{Holder}
 use Rattle.fab_inventory.specs.declared.holder.Volume.{Volume}
 use Rattle.fab_inventory.specs.Ports.{KnownPorts}
-use Rattle.fab_inventory.specs.Imports.{IsImported, IsUnlisted, logged_out}
+use Rattle.fab_inventory.specs.Imports.{IsImported, IsUnlisted, same_fabric, stays_at, keeps_at, logged_in, logged_out}
 use Rattle.fab_inventory.specs.Holders.{holder_in, held_after, other_than, HasNoVolume}
-use Rattle.fab_inventory.specs.Inventories.{InventoryRows, no_rows, IsSound, IsArray, IsCapacity, kind_of, CanPutHolder, IsHolderPut, IsHolderDropped, CanPutVolume}
+use Rattle.fab_inventory.specs.Inventories.{InventoryRows, no_rows, IsSound, HaveNoAddress, IsArray, IsCapacity, kind_of, CanPutHolder, IsHolderPut, IsHolderDropped, CanPutVolume}
 use Rattle.fab_inventory.specs.declared.holder.HolderKind.TheVariants as kind
 use Rattle.fab_inventory.proofs.NameTests.{same_name_tells, other_is, tie_tells}
 
@@ -37,6 +38,7 @@ one_less_at_most false n most h = h
 pub sound_none : IsSound no_rows
 sound_none = record {
   holdings = λ q h e. let f : ◌≡◌ {A = Option (List ℕ)} None (Some h) = sym (ap (option_and_then (λ (k : Known). k.holder)) (map.get-empty nat_cmp q)) ∙ e in absurd cc;
+  addresses = λ q k e nowhere. let f : ◌≡◌ {A = Option Known} None (Some k) = sym (map.get-empty nat_cmp q) ∙ e in absurd cc;
   arrays = λ n x e. let f : ◌≡◌ {A = Option Volume} None (Some x) = sym (map.get-empty name_cmp n) ∙ e in absurd cc;
   capacities = λ n x e. let f : ◌≡◌ {A = Option Volume} None (Some x) = sym (map.get-empty name_cmp n) ∙ e in absurd cc;
   few_ports = omega (arith, map.len-empty nat_cmp Known);
@@ -63,6 +65,16 @@ module _ (name : List ℕ) (listed : List ℕ) (old new : KnownPorts) (handed : 
   pub held_from : (q : ℕ) (h : List ℕ) → holder_in (map.get new) q ≡ Some h → HeldFrom q h (map.get old q)
   held_from q h e = by_known q h (map.get old q) (sym (ap (option_and_then (λ (k : Known). k.holder)) (handed q)) ∙ e)
 
+  -- and no port gets an address, or moves
+  by_address : (q : ℕ) (k : Known) (o : Option Known) → ((j : Known) → o ≡ Some j → j.at ≡ None → j.address ≡ None) → option_map (held_after name listed q) o ≡ Some k → k.at ≡ None → k.address ≡ None
+  by_address q k None was e nowhere = absurd cc
+  by_address q k (Some j) was e nowhere =
+      let same : held_after name listed q j ≡ k = cc in
+      ap (λ (x : Known). x.address) (sym same) ∙ was j refl (ap (λ (x : Known). x.at) same ∙ nowhere)
+
+  pub held_addresses : HaveNoAddress old → HaveNoAddress new
+  held_addresses was q k e = by_address q k (map.get old q) (was q) (sym (handed q) ∙ e)
+
 -- what is at a name after an insertion
 at_insert : {X : Type 0} (m : map.FinMap name_cmp X) (k q : List ℕ) (v : X) → ((q ≡ k) × (map.get (map.insert m k v) q ≡ Some v)) ⊎ ((q ≢ k) × (map.get (map.insert m k v) q ≡ map.get m q))
 at_insert m k q v = elim (tie_tells q k) [
@@ -83,6 +95,7 @@ sound_put_holder name holder listed old new sound can put few = record {
     | inl a ↦ elim (at_insert old.holders name h holder) [ inl t ↦ ap (λ m. map.contains_key m h) put.holders ∙ ap is_some t.1 | inr t ↦ absurd (t.0 a.1) ]
     | inr b ↦ elim (at_insert old.holders name h holder) [ inl t ↦ absurd (b.1 t.0) | inr t ↦ ap (λ m. map.contains_key m h) put.holders ∙ ap is_some t.1 ∙ sound.holdings q h b.0 ]
   ];
+  addresses = held_addresses name listed old.ports new.ports put.ports sound.addresses;
   arrays = λ n x e. still_array n x (sound.arrays n x (ap (λ m. map.get m n) (sym put.volumes) ∙ e));
   capacities = λ n x e. sound.capacities n x (ap (λ m. map.get m n) (sym put.volumes) ∙ e);
   few_ports = few;
@@ -105,6 +118,7 @@ sound_drop_holder name old new sound unused dropped few = record {
   holdings = λ q h e.
       let b = before q h e in
       elim (at_remove old.holders name h) [ inl t ↦ absurd (b.1 t.0) | inr t ↦ ap (λ m. map.contains_key m h) dropped.holders ∙ ap is_some t.1 ∙ sound.holdings q h b.0 ];
+  addresses = held_addresses name [] old.ports new.ports dropped.ports sound.addresses;
   arrays = λ n x e.
       let at : map.get old.volumes n ≡ Some x = ap (λ m. map.get m n) (sym dropped.volumes) ∙ e in
       ap (λ m. kind_of m x.array) dropped.holders ∙ elim (at_remove old.holders name x.array) [ inl t ↦ absurd (unused n (x, at, t.0)) | inr t ↦ ap (option_map (λ (h : Holder). h.kind)) t.1 ∙ sound.arrays n x at ];
@@ -122,6 +136,7 @@ sound_drop_holder name old new sound unused dropped few = record {
 pub sound_put_volume : (name : List ℕ) (v : Volume) (old : InventoryRows) → IsSound old → CanPutVolume old name v.array v.bytes → IsSound (record old { volumes = map.insert old.volumes name v })
 sound_put_volume name v old sound can = record {
   holdings = sound.holdings;
+  addresses = sound.addresses;
   arrays = λ n x e. elim (at_insert old.volumes name n v) [
     | inl t ↦ let same : v ≡ x = is_same (sym t.1 ∙ e) in subst (λ (y : Volume). IsArray old.holders y.array) same can.on_array
     | inr t ↦ sound.arrays n x (sym t.1 ∙ e)
@@ -142,6 +157,7 @@ sound_put_volume name v old sound can = record {
 pub sound_drop_volume : (name : List ℕ) (old : InventoryRows) → IsSound old → IsSound (record old { volumes = map.remove old.volumes name })
 sound_drop_volume name old sound = record {
   holdings = sound.holdings;
+  addresses = sound.addresses;
   arrays = λ n x e. sound.arrays n x (there n x e);
   capacities = λ n x e. sound.capacities n x (there n x e);
   few_ports = sound.few_ports;
@@ -181,9 +197,37 @@ same_holder f rows old new imported q = elim (listed_or_not rows q) [
     stays None = refl
     stays (Some k) = refl
 
+-- and none that is logged in nowhere an address
+pub imported_addresses : (f : Fabric) (rows : List PortRow) (old new : KnownPorts) → IsImported f rows old new → HaveNoAddress old → HaveNoAddress new
+imported_addresses f rows old new imported was q k e nowhere = elim (listed_or_not rows q) [
+  | inl w ↦
+      let same : logged_in f w.0 (map.get old w.0.name) ≡ k = is_same (sym (imported.listed w.0 w.1) ∙ subst (λ p. map.get new p ≡ Some k) (sym w.2) e) in
+      let there : ◌≡◌ {A = Option (Fabric × Position)} (Some (f, w.0.place)) None = ap (λ (x : Known). x.at) same ∙ nowhere in
+      absurd cc
+  | inr none ↦ stays (map.get old q) (was q) (sym (imported.others q none) ∙ e)
+]
+  where
+    is_same : {a b : Known} → Some a ≡ Some b → a ≡ b
+    is_same e = cc
+
+    out : (at : Option (Fabric × Position)) (address : Option ℕ) → (at ≡ None → address ≡ None) → stays_at f at ≡ None → keeps_at f at address ≡ None
+    out None address was e = was refl
+    out (Some p) address was e = by (same_fabric p.0 f) refl
+      where
+        by : (b : Bool) → same_fabric p.0 f ≡ b → cond b None address ≡ None
+        by true is = refl
+        by false is = let there : ◌≡◌ {A = Option (Fabric × Position)} (Some p) None = sym (ap (λ t. cond t None (Some p)) is) ∙ e in absurd cc
+
+    stays : (o : Option Known) → ((j : Known) → o ≡ Some j → j.at ≡ None → j.address ≡ None) → option_map (logged_out f) o ≡ Some k → k.address ≡ None
+    stays None was e = absurd cc
+    stays (Some j) was e =
+        let same : logged_out f j ≡ k = is_same e in
+        ap (λ (x : Known). x.address) (sym same) ∙ out j.at j.address (was j refl) (ap (λ (x : Known). x.at) same ∙ nowhere)
+
 pub sound_import : (f : Fabric) (rows : List PortRow) (old : InventoryRows) (new : KnownPorts) → IsSound old → IsImported f rows old.ports new → map.len new ≤ 4096 → IsSound (record old { ports = new })
 sound_import f rows old new sound imported few = record {
   holdings = λ q h e. sound.holdings q h (sym (same_holder f rows old.ports new imported q) ∙ e);
+  addresses = imported_addresses f rows old.ports new imported sound.addresses;
   arrays = sound.arrays;
   capacities = sound.capacities;
   few_ports = few;

@@ -2,11 +2,13 @@
 use Rattle.std.proofs.Common.{ℕ, ◌≡◌, ◌≢◌, ◌<◌, ◌+◌, List, [], ◌∷◌, ◌++◌, length, take, Contains, Option, None, Some, Bool, true, false, cond, MatchOption, sym, ◌∙◌, ap, subst, refl, inl, inr, arith, eqb, not, ◌&&◌, get_or, drop, take-append-drop}
 use Rattle.std.proofs.lemmas.List.{take_more}
 use mathlib.Core.Bool.{true≢false}
-use Rattle.std.proofs.lemmas.Bool.Decides.{nat_tests}
+use Rattle.std.specs.Option.{option_eq}
+use Rattle.fab_lemmas.proofs.Tests.{left, right}
+use Rattle.fab_names.specs.Places.{Position}
 use Rattle.std.specs.Ordering.{nat_cmp}
 use Rattle.std.specs.BTreeMap.{is_at}
 use Rattle.std.specs.Cmp.{unsigned_tied}
-use Rattle.std.proofs.lemmas.Bool.Decides.{eqb_tells}
+use Rattle.std.proofs.lemmas.Bool.Decides.{eqb_tells, Decides-eqb}
 use Rattle.std.proofs.lemmas.Bool.{eq-eqb, ne_eqb}
 use Rattle.std.proofs.lemmas.List.Elements.{Contains-push_cases, Contains-append_left, Contains-push, Contains-get_or}
 use Rattle.fab_inventory.specs.declared.port.PortRow.{PortRow}
@@ -59,7 +61,7 @@ seen_other : (xs : List PortRow) (r : PortRow) (q : ℕ) (o : Option PortRow) �
 seen_other xs r q None apart h = λ s in_s e. elim (Contains-push_cases xs r s in_s) [ inl a ↦ h s a e | inr b ↦ apart (ap (λ (x : PortRow). x.name) b ∙ e) ]
 seen_other xs r q (Some s) apart h = (Contains-append_left xs _ s h.0, h.1)
 
-is_at_eqb : (a q : ℕ) → is_at (nat_cmp a) q ≡ eqb a q
+pub is_at_eqb : (a q : ℕ) → is_at (nat_cmp a) q ≡ eqb a q
 is_at_eqb a q = unsigned_tied a q
 
 at_key : (xs : List PortRow) (r : PortRow) (q : ℕ) (o : Option PortRow) → Seen xs o q → Seen (xs ++ r ∷ []) (cond (eqb r.name q) (Some r) o) q
@@ -78,16 +80,34 @@ not_not : (b : Bool) → not (not b) ≡ b
 not_not true = refl
 not_not false = refl
 
-abbrev same_row : PortRow → PortRow → Bool
-same_row a b = eqb a.name b.name && (eqb a.node b.node && (eqb a.place.domain b.place.domain && eqb a.place.slot b.place.slot))
+same_address : (a b : Option ℕ) → option_eq eqb a b ≡ true → a ≡ b
+same_address None None e = refl
+same_address None (Some m) e = absurd (true≢false (sym e))
+same_address (Some n) None e = absurd (true≢false (sym e))
+same_address (Some n) (Some m) e = ap Some ((Decides-eqb n m).0 e)
 
-same_fields : (a b : PortRow) → same_row a b ≡ true → (a.name ≡ b.name) × (a.node ≡ b.node) × (a.place.domain ≡ b.place.domain) × (a.place.slot ≡ b.place.slot)
-same_fields a b h = (grind (arith, nat_tests), grind (arith, nat_tests), grind (arith, nat_tests), grind (arith, nat_tests))
+address_itself : (a : Option ℕ) → option_eq eqb a a ≡ true
+address_itself None = refl
+address_itself (Some n) = eq-eqb n n refl
+
+abbrev same_place : Position → Position → Bool
+same_place p q = eqb p.domain q.domain && eqb p.slot q.slot
+
+abbrev same_row : PortRow → PortRow → Bool
+same_row a b = eqb a.name b.name && (eqb a.node b.node && (same_place a.place b.place && option_eq eqb a.address b.address))
 
 pub row_from_test : (a b : PortRow) → not (same_row a b) ≡ false → a ≡ b
 row_from_test a b h =
-    let f = same_fields a b (sym (not_not (same_row a b)) ∙ ap not h) in
-    λ i. record { name = f.0 i; node = f.1 i; place = record { domain = f.2 i; slot = f.3 i } }
+    let e : same_row a b ≡ true = sym (not_not (same_row a b)) ∙ ap not h in
+    let beside_name = right (eqb a.name b.name) _ e in
+    let beside_node = right (eqb a.node b.node) _ beside_name in
+    let place = left (same_place a.place b.place) _ beside_node in
+    let name = (Decides-eqb a.name b.name).0 (left _ _ e) in
+    let node = (Decides-eqb a.node b.node).0 (left _ _ beside_name) in
+    let domain = (Decides-eqb a.place.domain b.place.domain).0 (left _ _ place) in
+    let slot = (Decides-eqb a.place.slot b.place.slot).0 (right (eqb a.place.domain b.place.domain) _ place) in
+    let address = same_address a.address b.address (right (same_place a.place b.place) _ beside_node) in
+    λ i. record { name = name i; node = node i; place = record { domain = domain i; slot = slot i }; address = address i }
 
 pub differs_from_test : (a b : PortRow) → not (same_row a b) ≡ true → a ≢ b
 differs_from_test a b h e =
@@ -95,7 +115,7 @@ differs_from_test a b h e =
     true≢false (sym h ∙ ap not t)
   where
     same_itself : (a : PortRow) → same_row a a ≡ true
-    same_itself a = rw (eq-eqb a.name a.name refl, eq-eqb a.node a.node refl, eq-eqb a.place.domain a.place.domain refl, eq-eqb a.place.slot a.place.slot refl) refl
+    same_itself a = rw (eq-eqb a.name a.name refl, eq-eqb a.node a.node refl, eq-eqb a.place.domain a.place.domain refl, eq-eqb a.place.slot a.place.slot refl, address_itself a.address) refl
 
 -- ---- logging in
 none_listed : (f : Fabric) (first middle last : ℕ → Option Known) → ((q : ℕ) → last q ≡ middle q) → ListsIn f [] first middle last

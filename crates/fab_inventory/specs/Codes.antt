@@ -13,9 +13,12 @@ use Rattle.fab_inventory.specs.declared.holder.Volume.{Volume}
 use Rattle.fab_inventory.specs.Inventories.{InventoryRows, HolderRows, VolumeRows}
 use Rattle.fab_inventory.specs.Ports.{KnownPorts}
 
--- its node, where it is logged in, and its holder
+-- its node, where it is logged in, its address, and its holder
 abbrev pub known_code : Coded Known
-known_code = code_by (ℕ × (Option (Fabric × Position) × Option (List ℕ))) (coded× coded_ℕ (coded× (coded_option (coded× fabric_code position_code)) (coded_option name_code))) (λ k. (k.node, (k.at, k.holder))) (λ p. record { node = p.0; at = p.1.0; holder = p.1.1 }) (λ _. refl)
+known_code =
+    code_by (ℕ × (Option (Fabric × Position) × (Option ℕ × Option (List ℕ)))) (coded× coded_ℕ (coded× (coded_option (coded× fabric_code position_code)) (coded× (coded_option coded_ℕ) (coded_option name_code))))
+    (λ k. (k.node, (k.at, (k.address, k.holder)))) (λ p. record { node = p.0; at = p.1.0; address = p.1.1.0; holder = p.1.1.1 })
+    (λ _. refl)
 
 -- whether a holder is an array
 abbrev pub is_array : HolderKind → Bool

@@ -38,7 +38,7 @@ holder_after name listed q old = if list_any (λ p. nat_eq p q) listed then Some
 
 -- what is known of a port once the holder has just the listed ports
 abbrev pub held_after : List ℕ → List ℕ → ℕ → Known → Known
-held_after name listed q k = record { node = k.node; at = k.at; holder = holder_after name listed q k.holder }
+held_after name listed q k = record { node = k.node; at = k.at; address = k.address; holder = holder_after name listed q k.holder }
 
 -- the number has the property, and no number below it has
 abbrev pub IsLeast : (ℕ → Type 0) → ℕ → Type 0

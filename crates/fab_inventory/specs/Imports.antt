@@ -48,13 +48,18 @@ abbrev pub stays_at : Fabric → Option (Fabric × Position) → Option (Fabric 
 stays_at f None = None
 stays_at f (Some p) = if same_fabric p.0 f then None else Some p
 
--- a port that is logged in at the fabric is logged in nowhere
-abbrev pub logged_out : Fabric → Known → Known
-logged_out f k = record { node = k.node; at = stays_at f k.at; holder = k.holder }
+-- the address that a port keeps then, which was logged in there
+abbrev pub keeps_at : Fabric → Option (Fabric × Position) → Option ℕ → Option ℕ
+keeps_at f None address = address
+keeps_at f (Some p) address = if same_fabric p.0 f then None else address
 
--- the port of a record, with the holder that it had
+-- a port that is logged in at the fabric is logged in nowhere, and has no address
+abbrev pub logged_out : Fabric → Known → Known
+logged_out f k = record { node = k.node; at = stays_at f k.at; address = keeps_at f k.at k.address; holder = k.holder }
+
+-- the port of a record, with the address that it tells, if any, and the holder that it had
 abbrev pub logged_in : Fabric → PortRow → Option Known → Known
-logged_in f r old = record { node = r.node; at = Some (f, r.place); holder = option_and_then (λ (k : Known). k.holder) old }
+logged_in f r old = record { node = r.node; at = Some (f, r.place); address = r.address; holder = option_and_then (λ (k : Known). k.holder) old }
 
 -- no record is of the port
 abbrev pub IsUnlisted : List PortRow → ℕ → Type 0

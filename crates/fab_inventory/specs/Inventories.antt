@@ -1,8 +1,9 @@
 -- What contracts see of an inventory, and what its changes are.
-use Rattle.std.specs.Prelude.{ℕ, ◌≡◌, ◌≢◌, ◌<◌, ◌≤◌, List, [], length, Contains, Option, Some, true, false}
+use Rattle.std.specs.Prelude.{ℕ, ◌≡◌, ◌≢◌, ◌<◌, ◌≤◌, List, [], length, Contains, Option, None, Some, true, false}
 use Rattle.std.specs.Option.{option_map}
 use Rattle.std.specs.FinMap as map
 use Rattle.fab_names.specs.Orders.{name_cmp}
+use Rattle.fab_inventory.specs.declared.port.Known.{Known}
 use Rattle.fab_inventory.specs.declared.holder.Holder.{Holder}
 use Rattle.fab_inventory.specs.declared.holder.HolderKind.{HolderKind}
 use Rattle.fab_inventory.specs.declared.holder.HolderKind.TheVariants as kind
@@ -51,9 +52,14 @@ IsCapacity bytes = (1 ≤ bytes) × (bytes ≤ most_bytes)
 abbrev pub HoldsFew : KnownPorts → List ℕ → Type 0
 HoldsFew ports h = (held : List ℕ) × (length held ≤ most_ports_of_holder) × ((q : ℕ) → holder_in (map.get ports) q ≡ Some h → Contains held q)
 
+-- a port that is logged in nowhere has no address
+abbrev pub HaveNoAddress : KnownPorts → Type 0
+HaveNoAddress ports = (q : ℕ) (k : Known) → map.get ports q ≡ Some k → k.at ≡ None → k.address ≡ None
+
 -- what is named is there, and no limit is passed
 pub record IsSound (v : InventoryRows) : Type 0 where
   pub holdings : (q : ℕ) (h : List ℕ) → holder_in (map.get v.ports) q ≡ Some h → map.contains_key v.holders h ≡ true
+  pub addresses : HaveNoAddress v.ports
   pub arrays : (n : List ℕ) (x : Volume) → map.get v.volumes n ≡ Some x → IsArray v.holders x.array
   pub capacities : (n : List ℕ) (x : Volume) → map.get v.volumes n ≡ Some x → IsCapacity x.bytes
   pub few_ports : map.len v.ports ≤ most_ports

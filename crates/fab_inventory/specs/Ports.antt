@@ -12,7 +12,7 @@ KnownPorts = map.FinMap nat_cmp Known
 
 -- the port of a name of which this is known
 abbrev pub port_of : ℕ → Known → Port
-port_of name k = record { name = name; node = k.node; at = k.at; holder = k.holder }
+port_of name k = record { name = name; node = k.node; at = k.at; address = k.address; holder = k.holder }
 
 -- the port of a name, if it is known
 abbrev pub port_at : KnownPorts → ℕ → Option Port

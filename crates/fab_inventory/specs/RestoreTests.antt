@@ -2,12 +2,18 @@
 use Rattle.std.specs.Prelude.{ℕ, ◌≡◌, ◌≤◌, ◌<◌, ◌+◌, List, Option, None, Some, Bool, true, false, is_some, ◌&&◌, nat_le, cond}
 use Rattle.std.specs.Option.{option_map}
 use Rattle.fab_inventory.specs.declared.port.Known.{Known}
+use Rattle.fab_inventory.specs.declared.port.Seat.{Seat}
 use Rattle.fab_inventory.specs.declared.holder.Holder.{Holder}
 use Rattle.fab_inventory.specs.declared.holder.Volume.{Volume}
 use Rattle.fab_inventory.specs.declared.holder.HolderKind.{HolderKind}
 use Rattle.fab_inventory.specs.declared.holder.HolderKind.TheVariants.{Host, Array}
 use Rattle.fab_inventory.specs.Limits.{most_bytes, most_ports_of_holder}
 use Rattle.fab_inventory.specs.Holders.{holder_is}
+
+-- there is a seat, and the port is logged in
+abbrev pub is_seated : Option Seat → Bool
+is_seated None = false
+is_seated (Some s) = is_some s.at
 
 -- whether a holder, if there is one, passes
 abbrev pub passes : (List ℕ → Bool) → Option (List ℕ) → Bool

@@ -47,6 +47,8 @@ pub enum RestoreFault {
     /// There are too many ports, a port names a holder that is not there, or a holder holds too
     /// many ports.
     Ports,
+    /// An address is of a port that is not there, or that is logged in nowhere.
+    Addresses,
     /// There are too many holders.
     Holders,
     /// There are too many volumes, a volume is on no array, or its capacity is out of range.

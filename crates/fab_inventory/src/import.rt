@@ -38,6 +38,7 @@ fn log_out(known: &mut Known, fabric: Fabric)
     if let Some((at, _)) = known.at {
         if at == fabric {
             known.at = None;
+            known.address = None;
         }
     }
 }
@@ -57,7 +58,8 @@ pub fn all_logged_out<A: Allocator + Clone>(
     Ok(next)
 }
 
-/// What is known of a listed port: it is logged in at the fabric, with the holder that it had.
+/// What is known of a listed port: it is logged in at the fabric, with the address of its record,
+/// if there is one, and the holder that it had.
 fn logged_in(fabric: Fabric, row: &PortRow, had: Option<&Known>) -> Known
     ensures { result ≡ logged_in fabric row.now (option_copied had.entry) }
 {
@@ -68,6 +70,7 @@ fn logged_in(fabric: Fabric, row: &PortRow, had: Option<&Known>) -> Known
     Known {
         node: row.node,
         at: Some((fabric, row.place)),
+        address: row.address,
         holder,
     }
 }

@@ -6,7 +6,8 @@ ghost use Rattle.fab_inventory.specs.Ports.{port_at};
 ghost use Rattle.std.specs.Ordering.{nat_cmp};
 ghost use Rattle.fab_lemmas.specs.Lists.{IsListOf};
 ghost use Rattle.fab_inventory.specs.Holders.{HasNoVolume, Holds, Leaves};
-ghost use Rattle.fab_inventory.specs.Restores.{rows_of, RestoreFails};
+ghost use Rattle.fab_inventory.specs.Restores.{AreSeated, IsRestored, RestoreFails};
+ghost use Rattle.std.specs.BTreeMap.{get};
 ghost use Rattle.fab_inventory.specs.Inventories.{no_rows, IsSound, CanPutHolder, IsHolderPut, PutHolderFails, IsHolderDropped, DropHolderFails, CanPutVolume, PutVolumeFails, DropVolumeFails};
 
 use crate::holding::{
@@ -14,11 +15,12 @@ use crate::holding::{
 };
 use crate::import::{all_logged_out, check_rows, log_in};
 use crate::limits::{MOST_BYTES, MOST_HOLDERS, MOST_PORTS, MOST_PORTS_OF_HOLDER, MOST_VOLUMES};
-use crate::restore::{are_ports_sound, are_volumes_sound};
+use crate::restore::{are_ports_sound, are_seated, are_volumes_sound, seated};
 use crate::{
-    Holder, HolderKind, InventoryFault, InventoryLimit, Known, Port, PortRow, RestoreFault, Volume,
+    Holder, HolderKind, InventoryFault, InventoryLimit, Known, Port, PortRow, RestoreFault, Seat,
+    Volume,
 };
-use fab_names::{Fabric, Name, Wwn};
+use fab_names::{Address, Fabric, Name, Wwn};
 use std::alloc::{AllocError, Allocator};
 use std::collections::BTreeMap;
 use std::collections::btree_map::Iter;
@@ -103,6 +105,7 @@ impl<A: Allocator + Copy> Inventory<A> {
             name: *name,
             node: known.node,
             at: known.at,
+            address: known.address,
             holder: known.holder,
         })
     }
@@ -123,30 +126,39 @@ impl<A: Allocator + Copy> Inventory<A> {
         self.volumes.get(name).copied()
     }
 
-    /// The inventory with just these ports, holders and volumes. It walks through each of them a
-    /// few times.
+    /// The inventory with just these ports, addresses of ports, holders and volumes. It walks
+    /// through each of them a few times.
     ///
     /// # Errors
     /// `Ports` where there are more than 4096, where a port names a holder that is not there, or
-    /// where a holder holds more than 64; `Holders` where there are more than 2048; `Volumes`
+    /// where a holder holds more than 64; `Addresses` where one is of a port that is not there or
+    /// that is logged in nowhere; `Holders` where there are more than 2048; `Volumes`
     /// where there are more than 4096, or where one is on no array or has no byte or more than
     /// 9223372036854775807. Each is answered only where it is so, so a sound inventory is never
     /// refused but for `Memory`.
     pub fn from_maps(
         alloc: A,
-        ports: BTreeMap<Wwn, Known, A>,
+        seats: BTreeMap<Wwn, Seat, A>,
+        addresses: BTreeMap<Wwn, Address, A>,
         holders: BTreeMap<Name, Holder, A>,
         volumes: BTreeMap<Name, Volume, A>,
     ) -> Result<Self, RestoreFault>
-        ensures ok { IfOk result (λ inventory. inventory ≡ rows_of ports holders volumes) }
-        ensures sound { OnOk result (IsSound (rows_of ports holders volumes)) }
-        ensures err { IfErr result (RestoreFails (rows_of ports holders volumes)) }
+        ensures ok { IfOk result (IsRestored seats addresses holders volumes) }
+        ensures sound { IfOk result IsSound }
+        ensures seated { OnOk result (AreSeated (get nat_cmp seats) (get nat_cmp addresses)) }
+        ensures err { IfErr result (RestoreFails seats addresses holders volumes) }
     {
+        let Ok(ports) = seated(alloc, &seats, &addresses) else {
+            return Err(RestoreFault::Memory);
+        };
         let Ok(sound) = are_ports_sound(alloc, &holders, &ports) else {
             return Err(RestoreFault::Memory);
         };
         if !sound {
             return Err(RestoreFault::Ports);
+        }
+        if !are_seated(&seats, &addresses) {
+            return Err(RestoreFault::Addresses);
         }
         if holders.len() > MOST_HOLDERS {
             return Err(RestoreFault::Holders);
@@ -210,8 +222,9 @@ impl<A: Allocator + Copy> Inventory<A> {
     /// Takes the whole list of one fabric's ports.
     ///
     /// Listed ports are logged in there from now on, wherever they were, with the listed node
-    /// name, and keep their holder. Ports of that fabric that are not listed are logged in
-    /// nowhere. Ports of the other fabric stay. Equal records of one port count once.
+    /// name and the listed address or none, and keep their holder. Ports of that fabric that are
+    /// not listed are logged in nowhere, without an address. Ports of the other fabric stay. Equal
+    /// records of one port count once.
     ///
     /// # Errors
     /// `PortClash` at the first record that differs from an earlier one of its port name,

@@ -1,4 +1,4 @@
-//! The inventory: which ports are known, where they are logged in and who holds them; the hosts and
+//! The inventory: which ports are known, where they are logged in, by what address, and who holds them; the hosts and
 //! arrays that hold ports; and the volumes on the arrays.
 #![tactic(auto)]
 
@@ -16,4 +16,4 @@ pub use fault::{InventoryFault, InventoryLimit, RestoreFault};
 pub use holder::{Holder, HolderKind, Volume};
 pub use inventory::Inventory;
 pub use limits::{MOST_BYTES, MOST_HOLDERS, MOST_PORTS, MOST_PORTS_OF_HOLDER, MOST_VOLUMES};
-pub use port::{Known, Port, PortRow};
+pub use port::{Known, Port, PortRow, Seat};

@@ -1,20 +1,73 @@
 //! Whether ports, holders and volumes are an inventory's.
 ghost use Rattle.std.specs.Prelude.{◌≡◌, ℕ, List, IfOk, IsTrue, ◌↔◌};
 ghost use Rattle.std.specs.Bool.{OnTrue, OnFalse};
-ghost use Rattle.std.specs.BTreeMap.{get, values};
+ghost use Rattle.std.specs.BTreeMap.{get, keys, values};
 ghost use Rattle.std.specs.FinMap as map;
 ghost use Rattle.std.specs.List.{list_all};
 ghost use Rattle.std.specs.Ordering.{nat_cmp};
 ghost use Rattle.fab_names.specs.Orders.{name_cmp};
 ghost use Rattle.fab_inventory.specs.Inventories.{HoldsFew};
-ghost use Rattle.fab_inventory.specs.Restores.{ArePortsSound, AreVolumesSound};
+ghost use Rattle.fab_inventory.specs.Restores.{ArePortsSound, AreSeated, AreVolumesSound, seated};
 ghost use Rattle.fab_inventory.specs.RestoreTests as spec;
 
 use crate::holding::{is_array, kind_of};
-use crate::{Holder, Known, MOST_BYTES, MOST_PORTS, MOST_PORTS_OF_HOLDER, MOST_VOLUMES, Volume};
-use fab_names::{Name, Wwn};
+use crate::{
+    Holder, Known, MOST_BYTES, MOST_PORTS, MOST_PORTS_OF_HOLDER, MOST_VOLUMES, Seat, Volume,
+};
+use fab_names::{Address, Name, Wwn};
 use std::alloc::{AllocError, Allocator};
 use std::collections::BTreeMap;
+
+/// What is known of each port: its seat, and its address if it has one.
+pub fn seated<A: Allocator + Copy>(
+    alloc: A,
+    seats: &BTreeMap<Wwn, Seat, A>,
+    addresses: &BTreeMap<Wwn, Address, A>,
+) -> Result<BTreeMap<Wwn, Known, A>, AllocError>
+    ensures { IfOk result (λ ports. (q : ℕ) → get nat_cmp ports q ≡ seated (get nat_cmp seats.now q) (get nat_cmp addresses.now q)) }
+{
+    let mut ports = BTreeMap::new(alloc);
+    for (port, seat) in seats {
+        let known = Known {
+            node: seat.node,
+            at: seat.at,
+            address: addresses.get(port).copied(),
+            holder: seat.holder,
+        };
+        ports.insert(*port, known)?;
+    }
+    Ok(ports)
+}
+
+/// Whether the port is there, and is logged in.
+fn is_seated<A: Allocator>(seats: &BTreeMap<Wwn, Seat, A>, port: &Wwn) -> bool
+    ensures { result ≡ spec.is_seated (get nat_cmp seats.now port.now) }
+{
+    match seats.get(port) {
+        Some(seat) => seat.at.is_some(),
+        None => false,
+    }
+}
+
+/// Whether each port that has an address is there, and is logged in.
+fn are_all_seated<A: Allocator>(
+    seats: &BTreeMap<Wwn, Seat, A>,
+    addresses: &BTreeMap<Wwn, Address, A>,
+) -> bool
+    ensures { result ≡ list_all (λ q. spec.is_seated (get nat_cmp seats.now q)) (keys addresses.now) }
+{
+    addresses.keys().all(|port| is_seated(seats, port))
+}
+
+/// Whether each address is of a port that is there and is logged in.
+pub fn are_seated<A: Allocator>(
+    seats: &BTreeMap<Wwn, Seat, A>,
+    addresses: &BTreeMap<Wwn, Address, A>,
+) -> bool
+    ensures { IsTrue result ↔ AreSeated (get nat_cmp seats.now) (get nat_cmp addresses.now) }
+{
+    are_all_seated(seats, addresses)
+}
 
 /// Whether the holder of a port, if it has one, is there.
 fn has_known_holder<A: Allocator>(holders: &BTreeMap<Name, Holder, A>, known: &Known) -> bool

@@ -11,3 +11,4 @@ pub mod Filters
 pub mod Sizes
 pub mod Changed
 pub mod Leasts
+pub mod KeyTests

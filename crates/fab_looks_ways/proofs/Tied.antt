@@ -31,29 +31,34 @@ use Rattle.fab_looks_ways.proofs.Gains.{names_from}
 
 -- ---- the zones of a port
 
-either : (a b c : Bool) → (a || (b || c)) ≡ true → (a ≡ true) ⊎ ((b ≡ true) ⊎ (c ≡ true))
-either true b c e = inl refl
-either false true c e = inr (inl refl)
-either false false c e = inr (inr e)
+either : (a b c d : Bool) → (a || (b || (c || d))) ≡ true → (a ≡ true) ⊎ ((b ≡ true) ⊎ ((c ≡ true) ⊎ (d ≡ true)))
+either true b c d e = inl refl
+either false true c d e = inr (inl refl)
+either false false true d e = inr (inr (inl refl))
+either false false false d e = inr (inr (inr e))
 
-some_of : (a b c : Bool) → (a ≡ true) ⊎ ((b ≡ true) ⊎ (c ≡ true)) → (a || (b || c)) ≡ true
-some_of true b c h = refl
-some_of false true c h = refl
-some_of false false c h = elim h [ inl e ↦ absurd cc | inr (inl e) ↦ absurd cc | inr (inr e) ↦ e ]
+some_of : (a b c d : Bool) → (a ≡ true) ⊎ ((b ≡ true) ⊎ ((c ≡ true) ⊎ (d ≡ true))) → (a || (b || (c || d))) ≡ true
+some_of true b c d h = refl
+some_of false true c d h = refl
+some_of false false true d h = refl
+some_of false false false d h = elim h [ inl e ↦ absurd cc | inr (inl e) ↦ absurd cc | inr (inr (inl e)) ↦ absurd cc | inr (inr (inr e)) ↦ e ]
 
 -- a name of one of the sets
 abbrev pub InSet : Option (BTreeSet (List ℕ)) → List ℕ → Type 0
 InSet o z = in_tree name_cmp o z ≡ true
 
-pub all_zones : {A : Type 0} (t : PortZones A) (s a b c : BTreeSet (List ℕ)) → s.keys ≡ [] → Adds (InSet (option_copied t.by_port)) (Has s) (Has a) → Adds (InSet (option_copied t.by_node)) (Has a) (Has b) → Adds (InSet (option_copied t.by_place)) (Has b) (Has c)
-    → (z : List ℕ) → (Has c z → in_zones t z ≡ true) × (in_zones t z ≡ true → Has c z)
-all_zones t s a b c none x y z n =
+pub all_zones : {A : Type 0} (t : PortZones A) (s a b c d : BTreeSet (List ℕ)) → s.keys ≡ [] → Adds (InSet (option_copied t.by_port)) (Has s) (Has a) → Adds (InSet (option_copied t.by_node)) (Has a) (Has b) → Adds (InSet (option_copied t.by_place)) (Has b) (Has c)
+    → Adds (InSet (option_copied t.by_address)) (Has c) (Has d) → (z : List ℕ) → (Has d z → in_zones t z ≡ true) × (in_zones t z ≡ true → Has d z)
+all_zones t s a b c d none x y z w n =
     let P = InSet (option_copied t.by_port) in
     let Q = InSet (option_copied t.by_node) in
     let R = InSet (option_copied t.by_place) in
-    let d = names_from (λ m. P m ⊎ (Q m ⊎ R m)) s c none (adds_both P (λ m. Q m ⊎ R m) (Has s) (Has a) (Has c) x (adds_both Q R (Has a) (Has b) (Has c) y z)) n in (
-      (λ h. some_of (in_tree name_cmp (option_copied t.by_port) n) (in_tree name_cmp (option_copied t.by_node) n) (in_tree name_cmp (option_copied t.by_place) n) (d.0 h)),
-      λ e. d.1 (either (in_tree name_cmp (option_copied t.by_port) n) (in_tree name_cmp (option_copied t.by_node) n) (in_tree name_cmp (option_copied t.by_place) n) e),
+    let U = InSet (option_copied t.by_address) in
+    let last = adds_both R U (Has b) (Has c) (Has d) z w in
+    let later = adds_both Q (λ m. R m ⊎ U m) (Has a) (Has b) (Has d) y last in
+    let all = names_from (λ m. P m ⊎ (Q m ⊎ (R m ⊎ U m))) s d none (adds_both P (λ m. Q m ⊎ (R m ⊎ U m)) (Has s) (Has a) (Has d) x later) n in (
+      (λ h. some_of (in_tree name_cmp (option_copied t.by_port) n) (in_tree name_cmp (option_copied t.by_node) n) (in_tree name_cmp (option_copied t.by_place) n) (in_tree name_cmp (option_copied t.by_address) n) (all.0 h)),
+      λ e. all.1 (either (in_tree name_cmp (option_copied t.by_port) n) (in_tree name_cmp (option_copied t.by_node) n) (in_tree name_cmp (option_copied t.by_place) n) (in_tree name_cmp (option_copied t.by_address) n) e),
     )
 
 pub zones_told : {A : Type 0} (v : FabricZoning) (x : Port) (t : PortZones A) (s : BTreeSet (List ℕ)) (told : Zoned) → sets.IsOrdered name_cmp s → ((z : List ℕ) → (Has s z → in_zones t z ≡ true) × (in_zones t z ≡ true → Has s z))

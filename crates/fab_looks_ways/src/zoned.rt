@@ -66,6 +66,7 @@ fn names_of<A: Allocator + Copy>(
     add_those(&mut names, zones.by_port)?;
     add_those(&mut names, zones.by_node)?;
     add_those(&mut names, zones.by_place)?;
+    add_those(&mut names, zones.by_address)?;
     Ok(names)
 }
 

@@ -52,11 +52,7 @@ pub fn named(rt: &impl Abort, text: &str) -> Name {
 fn port_rows(rt: &(impl Abort + AllocGlobal)) -> Vec<PortRow> {
     let mut rows = Vec::new(rt.alloc());
     for number in 1..41u64 {
-        let row = PortRow {
-            name: port(number),
-            node: port(99),
-            place: Place::new(1, 1),
-        };
+        let row = PortRow::plain(port(number), port(99), Place::new(1, 1));
         rows.push(row).expect(rt, "memory");
     }
     rows

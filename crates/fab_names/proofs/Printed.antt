@@ -1,5 +1,5 @@
 -- What is printed of a number.
-use Rattle.std.proofs.Common.{ℕ, ◌≡◌, ◌<◌, ◌≤◌, ◌/◌, ◌%◌, ◌^◌, suc, zero, List, [], ◌∷◌, ◌++◌, length, get_or, codes, append_assoc, refl, sym, ap, ◌∙◌, subst, arith, lit<, inr, true}
+use Rattle.std.proofs.Common.{ℕ, ◌≡◌, ◌<◌, ◌≤◌, ◌+◌, ◌*◌, ◌/◌, ◌%◌, ◌^◌, suc, zero, List, [], ◌∷◌, ◌++◌, length, get_or, codes, append_assoc, refl, sym, ap, ◌∙◌, subst, arith, lit<, inl, inr, true}
 use Rattle.std.specs.List.{AllByRecursion}
 use Rattle.std.specs.Int.{w64, to_be_bytes, from_be_bytes}
 use Rattle.std.specs.Char.{is_ascii_hexdigit, digit_value}
@@ -11,6 +11,7 @@ use Rattle.std.specs.Fmt.{decimal}
 use Rattle.std.proofs.lemmas.Fmt.{first_decimal, length-decimal-le_succ}
 use Rattle.fab_names.specs.Names.{IsNameText}
 use Rattle.fab_names.specs.Places.{Position, SpellsPosition, SpellsPrintedPlace, place_text}
+use Rattle.fab_names.specs.Addresses.{IsAddress, SpellsAddress, address_text}
 use Rattle.fab_names.specs.Members.{SpellsMember, member_text}
 use Rattle.fab_names.specs.declared.member.Member.{Member}
 use Rattle.fab_names.specs.declared.member.Member.TheVariants as member
@@ -49,13 +50,15 @@ hex_is_digit d h = grind (arith, nat_tests)
 hex_value : (d : ℕ) → d < 16 → digit_value (hex_digit d) ≡ d
 hex_value d h = grind (arith, nat_tests)
 
+byte_back : (b : ℕ) → b < 256 → byte_of (hex_digit (b / 16)) (hex_digit (b % 16)) ≡ b
+byte_back b h =
+    let high : digit_value (hex_digit (b / 16)) ≡ b / 16 = hex_value (b / 16) (omega (arith, h)) in
+    let low : digit_value (hex_digit (b % 16)) ≡ b % 16 = hex_value (b % 16) (omega arith) in
+    rw (high, low) (omega arith)
+
 bytes_back : (bs : List ℕ) → AllByRecursion (λ b. b < 256) bs → bytes_of (digits_of bs) ≡ bs
 bytes_back [] h = refl
-bytes_back (b ∷ bs) h =
-    let high : digit_value (hex_digit (b / 16)) ≡ b / 16 = hex_value (b / 16) (omega (arith, h.0)) in
-    let low : digit_value (hex_digit (b % 16)) ≡ b % 16 = hex_value (b % 16) (omega arith) in
-    let back : byte_of (hex_digit (b / 16)) (hex_digit (b % 16)) ≡ b = rw (high, low) (omega arith) in
-    λ i. back i ∷ bytes_back bs h.1 i
+bytes_back (b ∷ bs) h = λ i. byte_back b h.0 i ∷ bytes_back bs h.1 i
 
 hex_at : (bs : List ℕ) → AllByRecursion (λ b. b < 256) bs → (k : ℕ) → k < length (digits_of bs) → is_ascii_hexdigit (get_or (digits_of bs) k 0) ≡ true
 hex_at [] h k below = absurd (omega arith)
@@ -74,6 +77,33 @@ printed_spells n h fits = (
   },
   h,
 )
+
+-- ---- addresses
+
+address_bytes : (n : ℕ) → n < 16777216 → AllByRecursion (λ b. b < 256) (n / 65536 ∷ n / 256 % 256 ∷ n % 256 ∷ [])
+address_bytes n h = (omega (arith, h), (omega arith, (omega arith, tt)))
+
+pub address_utf8 : (n : ℕ) → n < 16777216 → IsUtf8 (address_text n)
+address_utf8 n h = IsUtf8-from_ascii (address_text n) (small_at (address_text n) (small_digits (n / 65536 ∷ n / 256 % 256 ∷ n % 256 ∷ []) (address_bytes n h)))
+
+pub printed_address : (n : ℕ) → IsAddress n → SpellsAddress (address_text n) n
+printed_address n is =
+    let h : n < 16777216 = omega (arith, is.few) in
+    let b = address_bytes n h in
+    let domain = byte_back (n / 65536) b.0 in
+    let area = byte_back (n / 256 % 256) b.1.0 in
+    let port = byte_back (n % 256) b.1.1.0 in (
+      record {
+        digits = address_text n;
+        six = refl;
+        hexadecimal = hex_at (n / 65536 ∷ n / 256 % 256 ∷ n % 256 ∷ []) b;
+        form = inl refl;
+        value = (λ i. domain i * 65536 + area i * 256 + port i) ∙ omega arith;
+      },
+      is,
+    )
+
+-- ---- members
 
 -- sixteen hexadecimal digits write a number of 64 bits
 hex_value_small : (c : ℕ) → is_ascii_hexdigit c ≡ true → digit_value c < 16
@@ -109,6 +139,7 @@ member_again text (member.Place p) s = let range = s.2.3.in_range in (
     },
   ),
 )
+member_again text (member.Address n) s = (address_text n, refl, printed_address n s.2.1)
 member_again text (member.Alias a) s = (a, refl, (refl, subst IsNameText (sym s.2.0) s.2.1))
 
 -- ---- texts that are printed forms

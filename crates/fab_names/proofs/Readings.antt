@@ -3,6 +3,7 @@ use Rattle.std.proofs.Common.{ℕ, ◌≡◌, List, ◌∷◌, ◌++◌, Option,
 use Rattle.std.specs.Result.{IsOkAnd}
 use Rattle.fab_names.specs.Names.{IsNameText}
 use Rattle.fab_names.specs.WorldWideNames.{SpellsWwn, SpellsPrintedWwn}
+use Rattle.fab_names.specs.Addresses.{SpellsAddress, SpellsPrintedAddress}
 use Rattle.fab_names.specs.Places.{Position, SpellsPosition, SpellsPlace}
 use Rattle.fab_names.specs.Members.{SpellsMember, SpellsPrinted}
 use Rattle.fab_names.specs.Faults.{HasNoKind}
@@ -48,18 +49,27 @@ mapped_option {Y = Y} Q make None s h there none p = subst (λ (o : Option Y). M
 mapped_option Q make (Some x) (Some y) h there none p = subst Q (sym h) (there x p)
 mapped_option Q make (Some x) None h there none p = absurd h
 
--- no printed form of a member by its N_Port_Name, or by its Node_Name
+-- no printed form of a member by its N_Port_Name, by its Node_Name, or by its address
 pub no_printed_port : (text rest : List ℕ) → text ≡ codes "wwpn=" ++ rest → ((n : ℕ) → ¬ SpellsPrintedWwn rest n) → (m : Member) → ¬ SpellsPrinted text m
 no_printed_port text rest is none (member.Port n) s = let same : s.0.0 ≡ rest = ap (drop 5) (sym s.0.1 ∙ is) in none n (subst (λ t. SpellsWwn t n) same s.0.2, ap (drop 5) (sym is ∙ s.1))
 no_printed_port text rest is none (member.Node n) s = omega (arith, ap (λ (t : List ℕ). get_or t 2 0) (sym is ∙ s.0.1))
 no_printed_port text rest is none (member.Place p) s = omega (arith, ap (λ (t : List ℕ). get_or t 0 0) (sym is ∙ s.0.1))
+no_printed_port text rest is none (member.Address x) s = omega (arith, ap (λ (t : List ℕ). get_or t 0 0) (sym is ∙ s.0.1))
 no_printed_port text rest is none (member.Alias a) s = omega (arith, ap (λ (t : List ℕ). get_or t 0 0) (sym is ∙ s.0.1))
 
 pub no_printed_node : (text rest : List ℕ) → text ≡ codes "wwnn=" ++ rest → ((n : ℕ) → ¬ SpellsPrintedWwn rest n) → (m : Member) → ¬ SpellsPrinted text m
 no_printed_node text rest is none (member.Port n) s = omega (arith, ap (λ (t : List ℕ). get_or t 2 0) (sym is ∙ s.0.1))
 no_printed_node text rest is none (member.Node n) s = let same : s.0.0 ≡ rest = ap (drop 5) (sym s.0.1 ∙ is) in none n (subst (λ t. SpellsWwn t n) same s.0.2, ap (drop 5) (sym is ∙ s.1))
 no_printed_node text rest is none (member.Place p) s = omega (arith, ap (λ (t : List ℕ). get_or t 0 0) (sym is ∙ s.0.1))
+no_printed_node text rest is none (member.Address x) s = omega (arith, ap (λ (t : List ℕ). get_or t 0 0) (sym is ∙ s.0.1))
 no_printed_node text rest is none (member.Alias a) s = omega (arith, ap (λ (t : List ℕ). get_or t 0 0) (sym is ∙ s.0.1))
+
+pub no_printed_address : (text rest : List ℕ) → text ≡ codes "id=" ++ rest → ((n : ℕ) → ¬ SpellsPrintedAddress rest n) → (m : Member) → ¬ SpellsPrinted text m
+no_printed_address text rest is none (member.Port n) s = omega (arith, ap (λ (t : List ℕ). get_or t 0 0) (sym is ∙ s.0.1))
+no_printed_address text rest is none (member.Node n) s = omega (arith, ap (λ (t : List ℕ). get_or t 0 0) (sym is ∙ s.0.1))
+no_printed_address text rest is none (member.Place p) s = omega (arith, ap (λ (t : List ℕ). get_or t 0 0) (sym is ∙ s.0.1))
+no_printed_address text rest is none (member.Address x) s = let same : s.0.0 ≡ rest = ap (drop 3) (sym s.0.1 ∙ is) in none x (subst (λ t. SpellsAddress t x) same s.0.2, ap (drop 3) (sym is ∙ s.1))
+no_printed_address text rest is none (member.Alias a) s = omega (arith, ap (λ (t : List ℕ). get_or t 0 0) (sym is ∙ s.0.1))
 
 -- a text spells no place where the parts around its first comma spell none
 pub no_place : (text domain slot : List ℕ) → text ≡ domain ++ 44 ∷ slot → Lacks 44 domain → ((p : Position) → ¬ SpellsPosition domain slot p) → (p : Position) → ¬ SpellsPlace text p
@@ -72,24 +82,35 @@ pub no_port : (text rest : List ℕ) → text ≡ codes "wwpn=" ++ rest → ((n 
 no_port text rest is none (member.Port n) s = let same : s.0 ≡ rest = ap (drop 5) (sym s.1 ∙ is) in none n (subst (λ t. SpellsWwn t n) same s.2)
 no_port text rest is none (member.Node n) s = omega (arith, ap (λ (t : List ℕ). get_or t 2 0) (sym is ∙ s.1))
 no_port text rest is none (member.Place p) s = omega (arith, ap (λ (t : List ℕ). get_or t 0 0) (sym is ∙ s.1))
+no_port text rest is none (member.Address x) s = omega (arith, ap (λ (t : List ℕ). get_or t 0 0) (sym is ∙ s.1))
 no_port text rest is none (member.Alias a) s = omega (arith, ap (λ (t : List ℕ). get_or t 0 0) (sym is ∙ s.1))
 
 pub no_node : (text rest : List ℕ) → text ≡ codes "wwnn=" ++ rest → ((n : ℕ) → ¬ SpellsWwn rest n) → (m : Member) → ¬ SpellsMember text m
 no_node text rest is none (member.Port n) s = omega (arith, ap (λ (t : List ℕ). get_or t 2 0) (sym is ∙ s.1))
 no_node text rest is none (member.Node n) s = let same : s.0 ≡ rest = ap (drop 5) (sym s.1 ∙ is) in none n (subst (λ t. SpellsWwn t n) same s.2)
 no_node text rest is none (member.Place p) s = omega (arith, ap (λ (t : List ℕ). get_or t 0 0) (sym is ∙ s.1))
+no_node text rest is none (member.Address x) s = omega (arith, ap (λ (t : List ℕ). get_or t 0 0) (sym is ∙ s.1))
 no_node text rest is none (member.Alias a) s = omega (arith, ap (λ (t : List ℕ). get_or t 0 0) (sym is ∙ s.1))
 
 pub no_place_member : (text rest : List ℕ) → text ≡ codes "dp=" ++ rest → ((p : Position) → ¬ SpellsPlace rest p) → (m : Member) → ¬ SpellsMember text m
 no_place_member text rest is none (member.Port n) s = omega (arith, ap (λ (t : List ℕ). get_or t 0 0) (sym is ∙ s.1))
 no_place_member text rest is none (member.Node n) s = omega (arith, ap (λ (t : List ℕ). get_or t 0 0) (sym is ∙ s.1))
 no_place_member text rest is none (member.Place p) s = let same : s.0 ≡ rest = ap (drop 3) (sym s.1 ∙ is) in none p (subst (λ t. SpellsPlace t p) same s.2)
+no_place_member text rest is none (member.Address x) s = omega (arith, ap (λ (t : List ℕ). get_or t 0 0) (sym is ∙ s.1))
 no_place_member text rest is none (member.Alias a) s = omega (arith, ap (λ (t : List ℕ). get_or t 0 0) (sym is ∙ s.1))
+
+pub no_address : (text rest : List ℕ) → text ≡ codes "id=" ++ rest → ((n : ℕ) → ¬ SpellsAddress rest n) → (m : Member) → ¬ SpellsMember text m
+no_address text rest is none (member.Port n) s = omega (arith, ap (λ (t : List ℕ). get_or t 0 0) (sym is ∙ s.1))
+no_address text rest is none (member.Node n) s = omega (arith, ap (λ (t : List ℕ). get_or t 0 0) (sym is ∙ s.1))
+no_address text rest is none (member.Place p) s = omega (arith, ap (λ (t : List ℕ). get_or t 0 0) (sym is ∙ s.1))
+no_address text rest is none (member.Address x) s = let same : s.0 ≡ rest = ap (drop 3) (sym s.1 ∙ is) in none x (subst (λ t. SpellsAddress t x) same s.2)
+no_address text rest is none (member.Alias a) s = omega (arith, ap (λ (t : List ℕ). get_or t 0 0) (sym is ∙ s.1))
 
 pub no_alias : (text rest : List ℕ) → text ≡ codes "alias=" ++ rest → ¬ IsNameText rest → (m : Member) → ¬ SpellsMember text m
 no_alias text rest is none (member.Port n) s = omega (arith, ap (λ (t : List ℕ). get_or t 0 0) (sym is ∙ s.1))
 no_alias text rest is none (member.Node n) s = omega (arith, ap (λ (t : List ℕ). get_or t 0 0) (sym is ∙ s.1))
 no_alias text rest is none (member.Place p) s = omega (arith, ap (λ (t : List ℕ). get_or t 0 0) (sym is ∙ s.1))
+no_alias text rest is none (member.Address x) s = omega (arith, ap (λ (t : List ℕ). get_or t 0 0) (sym is ∙ s.1))
 no_alias text rest is none (member.Alias a) s = let same : s.0 ≡ rest = ap (drop 6) (sym s.1 ∙ is) in none (subst IsNameText same s.2.1)
 
 -- a text that begins with no kind is no member
@@ -97,4 +118,5 @@ pub no_kind : (text : List ℕ) → HasNoKind text → (m : Member) → ¬ Spell
 no_kind text none (member.Port n) s = (none s.0).0 s.1
 no_kind text none (member.Node n) s = (none s.0).1 s.1
 no_kind text none (member.Place p) s = (none s.0).2 s.1
-no_kind text none (member.Alias a) s = (none s.0).3 s.1
+no_kind text none (member.Address x) s = (none s.0).3 s.1
+no_kind text none (member.Alias a) s = (none s.0).4 s.1

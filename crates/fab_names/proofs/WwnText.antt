@@ -1,10 +1,11 @@
--- What spells a world-wide name is text.
+-- What spells a world-wide name, or an address, is text.
 use Rattle.std.proofs.Common.{◌≡◌, ℕ, zero, suc, ◌<◌, ◌≤◌, List, [], ◌∷◌, length, get_or, subst, sym, arith, inl, inr, true, EachIndex}
 use Rattle.std.specs.Str.{IsAscii, IsUtf8}
 use Rattle.std.specs.Char.{is_ascii_hexdigit}
 use Rattle.std.proofs.lemmas.Str.{IsUtf8-from_ascii}
 use Rattle.std.proofs.lemmas.Bool.Decides.{nat_tests}
 use Rattle.fab_names.specs.WorldWideNames.{SpellsWwn, IsDigitsOf, paired}
+use Rattle.fab_names.specs.Addresses.{SpellsAddress, IsSixOf}
 
 nil-ascii : IsAscii []
 nil-ascii i = omega arith
@@ -44,3 +45,11 @@ form-ascii ds text h (inr (inr e)) = subst IsAscii (sym e) (paired-ascii ds h)
 -- what spells a world-wide name is text
 pub IsUtf8-wwn : (text : List ℕ) (n : ℕ) → SpellsWwn text n → IsUtf8 text
 IsUtf8-wwn text n s = IsUtf8-from_ascii text (form-ascii s.0.digits text (digits-ascii s.0.digits s.0.hexadecimal) s.0.form)
+
+six-ascii : (ds text : List ℕ) → IsAscii ds → IsSixOf ds text → IsAscii text
+six-ascii ds text h (inl e) = subst IsAscii (sym e) h
+six-ascii ds text h (inr e) = subst IsAscii (sym e) (cons-ascii 48 (120 ∷ ds) (omega arith) (cons-ascii 120 ds (omega arith) h))
+
+-- what spells an address is text
+pub IsUtf8-address : (text : List ℕ) (n : ℕ) → SpellsAddress text n → IsUtf8 text
+IsUtf8-address text n s = IsUtf8-from_ascii text (six-ascii s.0.digits text (digits-ascii s.0.digits s.0.hexadecimal) s.0.form)

@@ -6,6 +6,7 @@ use Rattle.std.specs.Str.{chars}
 use Rattle.fab_names.specs.Names.{most_characters, begins_with_letter, is_name_char}
 use Rattle.fab_names.specs.Numbers.{SpellsNumber}
 use Rattle.fab_names.specs.WorldWideNames.{IsDigitsOf, SpellsDigits}
+use Rattle.fab_names.specs.Addresses.{IsAddress, IsSixOf, SpellsSix}
 use Rattle.fab_names.specs.Fabrics.{SpellsFabric}
 use Rattle.fab_names.specs.Places.{Position, IsPosition}
 use Rattle.fab_names.specs.declared.fabric.Fabric.{Fabric}
@@ -38,6 +39,29 @@ IsWwnFault text BadLength = (digits : List ℕ) → length digits ≡ 16 → ¬ 
 IsWwnFault text Zero = SpellsDigits text 0
 IsWwnFault text OutOfRange = ⊥
 IsWwnFault text Memory = ⊥
+
+-- six characters in one of the two forms of an address, one of which is no digit
+pub record HasBadDigitOfSix (text : List ℕ) : Type 0 where
+  pub digits : List ℕ
+  pub six : length digits ≡ 6
+  pub form : IsSixOf digits text
+  pub bad : ¬ (EachIndex digits (λ k. is_ascii_hexdigit (slice_index digits k) ≡ true))
+
+-- six digits that write a number which is no address
+pub record IsNoAddress (text : List ℕ) : Type 0 where
+  pub number : ℕ
+  pub six : SpellsSix text number
+  pub outside : ¬ (IsAddress number)
+
+-- of a text read as an address
+abbrev pub IsAddressFault : List ℕ → NameFault → Type 0
+IsAddressFault text Empty = ⊥
+IsAddressFault text TooLong = ⊥
+IsAddressFault text BadChar = HasBadDigitOfSix text
+IsAddressFault text BadLength = (digits : List ℕ) → length digits ≡ 6 → ¬ IsSixOf digits text
+IsAddressFault text Zero = ⊥
+IsAddressFault text OutOfRange = IsNoAddress text
+IsAddressFault text Memory = ⊥
 
 -- of a text read as a fabric
 abbrev pub IsFabricFault : List ℕ → NameFault → Type 0
@@ -74,7 +98,7 @@ IsPlaceFault text fault =
 
 -- no word of a kind begins the text
 abbrev pub HasNoKind : List ℕ → Type 0
-HasNoKind text = (rest : List ℕ) → (¬ (text ≡ codes "wwpn=" ++ rest)) × (¬ (text ≡ codes "wwnn=" ++ rest)) × (¬ (text ≡ codes "dp=" ++ rest)) × (¬ (text ≡ codes "alias=" ++ rest))
+HasNoKind text = (rest : List ℕ) → (¬ (text ≡ codes "wwpn=" ++ rest)) × (¬ (text ≡ codes "wwnn=" ++ rest)) × (¬ (text ≡ codes "dp=" ++ rest)) × (¬ (text ≡ codes "id=" ++ rest)) × (¬ (text ≡ codes "alias=" ++ rest))
 
 -- of a text read as a member: it begins with no kind, or what follows the kind has the fault
 abbrev pub IsMemberFault : List ℕ → NameFault → Type 0
@@ -83,4 +107,5 @@ IsMemberFault text fault =
     ⊎ ((rest : List ℕ) × (((text ≡ codes "wwpn=" ++ rest) × IsWwnFault rest fault)
     ⊎ (((text ≡ codes "wwnn=" ++ rest) × IsWwnFault rest fault)
     ⊎ (((text ≡ codes "dp=" ++ rest) × IsPlaceFault rest fault)
-    ⊎ ((text ≡ codes "alias=" ++ rest) × IsNameFault rest fault)))))
+    ⊎ (((text ≡ codes "id=" ++ rest) × IsAddressFault rest fault)
+    ⊎ ((text ≡ codes "alias=" ++ rest) × IsNameFault rest fault))))))

@@ -4,6 +4,7 @@ pub mod Numbers
 pub mod WorldWideNames
 pub mod Fabrics
 pub mod Places
+pub mod Addresses
 pub mod Members
 pub mod Faults
 pub mod Orders

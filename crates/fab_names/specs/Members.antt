@@ -3,6 +3,7 @@ use Rattle.std.specs.Prelude.{ℕ, ◌≡◌, List, ◌++◌, codes}
 use Rattle.fab_names.specs.Names.{SpellsName}
 use Rattle.fab_names.specs.WorldWideNames.{SpellsWwn, wwn_text}
 use Rattle.fab_names.specs.Places.{SpellsPlace, place_text}
+use Rattle.fab_names.specs.Addresses.{SpellsAddress, address_text}
 use Rattle.fab_names.specs.declared.member.Member.{Member}
 use Rattle.fab_names.specs.declared.member.Member.TheVariants as member
 
@@ -11,6 +12,7 @@ abbrev pub SpellsMember : List ℕ → Member → Type 0
 SpellsMember text (member.Port name) = (rest : List ℕ) × (text ≡ codes "wwpn=" ++ rest) × SpellsWwn rest name
 SpellsMember text (member.Node name) = (rest : List ℕ) × (text ≡ codes "wwnn=" ++ rest) × SpellsWwn rest name
 SpellsMember text (member.Place place) = (rest : List ℕ) × (text ≡ codes "dp=" ++ rest) × SpellsPlace rest place
+SpellsMember text (member.Address address) = (rest : List ℕ) × (text ≡ codes "id=" ++ rest) × SpellsAddress rest address
 SpellsMember text (member.Alias name) = (rest : List ℕ) × (text ≡ codes "alias=" ++ rest) × SpellsName rest name
 
 -- the printed form
@@ -18,6 +20,7 @@ abbrev pub member_text : Member → List ℕ
 member_text (member.Port name) = codes "wwpn=" ++ wwn_text name
 member_text (member.Node name) = codes "wwnn=" ++ wwn_text name
 member_text (member.Place place) = codes "dp=" ++ place_text place
+member_text (member.Address address) = codes "id=" ++ address_text address
 member_text (member.Alias name) = codes "alias=" ++ name
 
 -- the text is the printed form of the member

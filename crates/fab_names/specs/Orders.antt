@@ -28,23 +28,32 @@ fabric_order B B = Equal
 abbrev pub place_order : Position → Position → Ordering
 place_order p q = ordering_then (nat_cmp p.domain q.domain) (nat_cmp p.slot q.slot)
 
--- members in this order: by N_Port_Name, by Node_Name, by place, by alias
+-- members in this order: by N_Port_Name, by Node_Name, by place, by address, by alias
 abbrev pub member_order : Member → Member → Ordering
 member_order (member.Port a) (member.Port b) = nat_cmp a b
 member_order (member.Port a) (member.Node b) = Less
 member_order (member.Port a) (member.Place q) = Less
+member_order (member.Port a) (member.Address y) = Less
 member_order (member.Port a) (member.Alias b) = Less
 member_order (member.Node a) (member.Port b) = Greater
 member_order (member.Node a) (member.Node b) = nat_cmp a b
 member_order (member.Node a) (member.Place q) = Less
+member_order (member.Node a) (member.Address y) = Less
 member_order (member.Node a) (member.Alias b) = Less
 member_order (member.Place p) (member.Port b) = Greater
 member_order (member.Place p) (member.Node b) = Greater
 member_order (member.Place p) (member.Place q) = place_order p q
+member_order (member.Place p) (member.Address y) = Less
 member_order (member.Place p) (member.Alias b) = Less
+member_order (member.Address x) (member.Port b) = Greater
+member_order (member.Address x) (member.Node b) = Greater
+member_order (member.Address x) (member.Place q) = Greater
+member_order (member.Address x) (member.Address y) = nat_cmp x y
+member_order (member.Address x) (member.Alias b) = Less
 member_order (member.Alias a) (member.Port b) = Greater
 member_order (member.Alias a) (member.Node b) = Greater
 member_order (member.Alias a) (member.Place q) = Greater
+member_order (member.Alias a) (member.Address y) = Greater
 member_order (member.Alias a) (member.Alias b) = name_cmp a b
 
 -- ---- the same orders as the code has them, which maps and sets use: the laws say that they are one

@@ -3,8 +3,10 @@ ghost use Rattle.std.specs.Prelude.{ℕ, MatchOption};
 ghost use Rattle.fab_names.specs.Fabrics.{SpellsFabric};
 ghost use Rattle.fab_names.specs.Names.{IsNameText, SpellsName};
 ghost use Rattle.fab_names.specs.WorldWideNames.{SpellsWwn};
+ghost use Rattle.fab_names.specs.Addresses.{SpellsAddress};
 ghost use Rattle.fab_names.specs.declared.fabric.Fabric as fabrics;
 
+use crate::address::Address;
 use crate::fabric::Fabric;
 use crate::name::Name;
 use crate::wwn::Wwn;
@@ -46,6 +48,19 @@ pub fn read_wwn(bytes: &[u8]) -> Option<Wwn>
     };
     match Wwn::read(text) {
         Ok(wwn) => Some(wwn),
+        Err(_) => None,
+    }
+}
+
+/// The address that bytes spell, if they spell one.
+pub fn read_address(bytes: &[u8]) -> Option<Address>
+    ensures { MatchOption result ((n : ℕ) → ¬ (SpellsAddress bytes.now n)) (SpellsAddress bytes.now) }
+{
+    let Ok(text) = str::from_utf8(bytes) else {
+        return None;
+    };
+    match Address::read(text) {
+        Ok(address) => Some(address),
         Err(_) => None,
     }
 }

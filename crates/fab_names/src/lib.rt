@@ -1,10 +1,11 @@
 //! The names that zoning and mapping speak of, and their texts: names of records, world-wide
-//! names, fabrics, places in a fabric, and members of zones; and the form of a caller's token.
+//! names, fabrics, places and addresses in a fabric, and members of zones; and the form of a caller's token.
 //!
 //! Each type has `read`, which accepts exactly its text forms, `print`, which gives its printed
 //! form, and a `Display` that writes the same bytes without memory.
 #![tactic(auto)]
 
+mod address;
 mod bytes;
 mod fabric;
 pub mod laws;
@@ -15,7 +16,8 @@ mod place;
 mod tokens;
 mod wwn;
 
-pub use bytes::{read_fabric, read_name, read_wwn};
+pub use address::{Address, FIRST_ADDRESS, LAST_ADDRESS};
+pub use bytes::{read_address, read_fabric, read_name, read_wwn};
 pub use fabric::Fabric;
 pub use member::Member;
 pub use name::{MOST_CHARACTERS, Name};
@@ -33,7 +35,7 @@ pub enum NameFault {
     TooLong,
     /// A character, or the form of the text, is none that the type allows.
     BadChar,
-    /// The text is laid out in none of the three forms of a world-wide name.
+    /// The text is laid out in none of the forms of a world-wide name, or of an address.
     BadLength,
     /// A world-wide name is zero.
     Zero,

@@ -5,13 +5,13 @@ ghost use Rattle.fab_names.specs.Members.{SpellsMember, SpellsPrinted, member_te
 ghost use Rattle.fab_names.specs.Faults.{IsMemberFault};
 ghost use Rattle.fab_names.specs.declared.member.Member.{Member};
 
-use crate::{Name, NameFault, Place, Wwn};
+use crate::{Address, Name, NameFault, Place, Wwn};
 use std::alloc::{AllocError, Allocator};
 use std::fmt;
 
 /// What a zone or an alias names: a port by its N_Port_Name, all ports of a node by its
-/// Node_Name, whatever is logged in at a Domain_ID and physical port, or, in a zone, an alias
-/// (FC-GS, zone member types).
+/// Node_Name, whatever is logged in at a Domain_ID and physical port, all ports of an N_Port_ID, or,
+/// in a zone, an alias (FC-GS, zone member types).
 ///
 /// Members are ordered by kind, as listed, and then by number or by name.
 #[derive(Clone, Copy, Debug, PartialEq, Eq, PartialOrd, Ord)]
@@ -22,12 +22,15 @@ pub enum Member {
     Node(Wwn),
     /// Every port that is logged in here.
     Place(Place),
+    /// Every port that has this address.
+    Address(Address),
     /// The members of the alias.
     Alias(Name),
 }
 
 impl Member {
-    /// Reads `wwpn=` or `wwnn=` and a world-wide name, `dp=` and a place, or `alias=` and a name.
+    /// Reads `wwpn=` or `wwnn=` and a world-wide name, `dp=` and a place, `id=` and an address, or
+    /// `alias=` and a name.
     ///
     /// # Errors
     /// `BadChar` where the text begins with none of these words, or the fault of what follows.
@@ -43,6 +46,7 @@ impl Member {
             "wwpn" => Wwn::read(value).map(Member::Port),
             "wwnn" => Wwn::read(value).map(Member::Node),
             "dp" => Place::read(value).map(Member::Place),
+            "id" => Address::read(value).map(Member::Address),
             "alias" => Name::read(value).map(Member::Alias),
             _ => Err(NameFault::BadChar),
         }
@@ -59,6 +63,7 @@ impl Member {
             "wwpn" => Wwn::read_printed(value).map(Member::Port),
             "wwnn" => Wwn::read_printed(value).map(Member::Node),
             "dp" => Place::read_printed(value).map(Member::Place),
+            "id" => Address::read_printed(value).map(Member::Address),
             "alias" => Name::read(value).ok().map(Member::Alias),
             _ => None,
         }
@@ -83,6 +88,7 @@ impl fmt::Display for Member {
             Member::Port(name) => write!(f, "wwpn={name}"),
             Member::Node(name) => write!(f, "wwnn={name}"),
             Member::Place(place) => write!(f, "dp={place}"),
+            Member::Address(address) => write!(f, "id={address}"),
             Member::Alias(name) => write!(f, "alias={name}"),
         }
     }

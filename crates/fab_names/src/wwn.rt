@@ -96,7 +96,7 @@ fn has_colons(t: &[u8]) -> bool
 }
 
 /// Whether each byte is a hexadecimal digit.
-fn all_hexadecimal(digits: &[u8; 16]) -> bool
+pub(crate) fn are_hexadecimal(digits: &[u8]) -> bool
     ensures { IsTrue result ↔ EachIndex digits.now (λ k. is_ascii_hexdigit (slice_index digits.now k) ≡ true) }
 {
     digits.iter().all(|d| d.is_ascii_hexdigit())
@@ -117,7 +117,7 @@ fn digit(d: u8) -> u8
 }
 
 /// The value of two digits.
-fn byte(high: u8, low: u8) -> u8
+pub(crate) fn byte(high: u8, low: u8) -> u8
     requires high { is_ascii_hexdigit high ≡ true }
     requires low { is_ascii_hexdigit low ≡ true }
     ensures { result ≡ byte_of high low }
@@ -143,7 +143,7 @@ fn number_of(d: &[u8; 16]) -> u64
 }
 
 /// A digit of a number below sixteen.
-fn hex_digit(d: u8) -> u8
+pub(crate) fn hex_digit(d: u8) -> u8
     requires { d < 16 }
     ensures { result ≡ spec.hex_digit d }
 {
@@ -231,7 +231,7 @@ impl Wwn {
         let Some(digits) = digits_in(text.as_bytes()) else {
             return Err(NameFault::BadLength);
         };
-        if !all_hexadecimal(&digits) {
+        if !are_hexadecimal(&digits) {
             return Err(NameFault::BadChar);
         }
         let number = number_of(&digits);

@@ -41,6 +41,7 @@ alias_name (member.Alias a) = a
 alias_name (member.Port w) = []
 alias_name (member.Node w) = []
 alias_name (member.Place p) = []
+alias_name (member.Address n) = []
 
 one_alias : (z : FabricZoning) (ms : List Member) (a b : List ℕ) → IsFirstWithout (HasAlias z) ms (member.Alias a) → IsFirstWithout (HasAlias z) ms (member.Alias b) → a ≡ b
 unfolding alias_name

@@ -48,6 +48,7 @@ plain : (m : Member) → NamesPorts m → IsPlain m
 plain (member.Port w) h a = λ e. cc
 plain (member.Node w) h a = λ e. cc
 plain (member.Place p) h a = λ e. cc
+plain (member.Address n) h a = λ e. cc
 plain (member.Alias b) h a = absurd h
 
 all_plain : (words : List (List ℕ)) (ms : List Member) → SpellsValues words (map of_port_member ms) → All IsPlain ms

@@ -53,6 +53,7 @@ abbrev pub NamesPorts : Member → Type 0
 NamesPorts (member.Port w) = Unit {0}
 NamesPorts (member.Node w) = Unit {0}
 NamesPorts (member.Place p) = Unit {0}
+NamesPorts (member.Address n) = Unit {0}
 NamesPorts (member.Alias a) = ⊥
 
 -- the text is a number text of a logical unit number

@@ -66,11 +66,7 @@ fn place(rt: &impl Abort, domain: u8, slot: u16) -> Place {
 
 /// A record of a port list.
 fn listed(rt: &impl Abort, row: Row) -> PortRow {
-    PortRow {
-        name: port(rt, row.0),
-        node: port(rt, row.1),
-        place: place(rt, row.2, row.3),
-    }
+    PortRow::plain(port(rt, row.0), port(rt, row.1), place(rt, row.2, row.3))
 }
 
 fn import(rt: &(impl Abort + AllocGlobal), inventory: &mut Inventory<Global>) {

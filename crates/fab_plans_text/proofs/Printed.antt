@@ -1,5 +1,5 @@
 -- What is printed of steps is read as the same steps.
-use Rattle.std.proofs.Common.{ℕ, ◌≡◌, ◌<◌, ◌≤◌, suc, zero, Bool, true, false, ◌&&◌, List, [], ◌∷◌, ◌++◌, length, map, codes, append_assoc, append-nil, refl, sym, ap, ◌∙◌, subst, arith, rules, lit<, nat_lt}
+use Rattle.std.proofs.Common.{ℕ, ◌≡◌, ◌<◌, ◌≤◌, ◌/◌, ◌%◌, suc, zero, Bool, true, false, ◌&&◌, List, [], ◌∷◌, ◌++◌, length, map, codes, append_assoc, append-nil, refl, sym, ap, ◌∙◌, subst, arith, rules, lit<, nat_lt}
 use Rattle.std.specs.List.{flat_map, list_all, AllByRecursion}
 use Rattle.std.specs.Char.{is_ascii_digit}
 use Rattle.std.specs.Fmt.{decimal}
@@ -9,6 +9,7 @@ use Rattle.std.proofs.lemmas.List.{length-map}
 use Rattle.fab_names.specs.Names.{is_name_char, IsNameText}
 use Rattle.fab_names.specs.Numbers.{SpellsNumber}
 use Rattle.fab_names.specs.Places.{place_text}
+use Rattle.fab_names.specs.Addresses.{address_text}
 use Rattle.fab_names.specs.Members.{SpellsMember, member_text}
 use Rattle.fab_names.specs.WorldWideNames.{paired, hex_digit, digits_of, wwn_text}
 use Rattle.fab_names.specs.declared.fabric.Fabric.TheVariants.{A, B}
@@ -101,6 +102,7 @@ clear_member text (member.Place p) s =
     let slot = clear_number (decimal p.slot) p.slot (printed_number p.slot (omega (arith, range.slot))) in
     above-append 32 (codes "dp=") (place_text p) (clear_literal (codes "dp=") refl)
     (above-append 32 (decimal p.domain ++ codes ",") (decimal p.slot) (above-append 32 (decimal p.domain) (codes ",") domain (clear_literal (codes ",") refl)) slot)
+clear_member text (member.Address n) s = above-append 32 (codes "id=") (address_text n) (clear_literal (codes "id=") refl) (clear_digits (n / 65536 ∷ n / 256 % 256 ∷ n % 256 ∷ []))
 clear_member text (member.Alias a) s = above-append 32 (codes "alias=") a (clear_literal (codes "alias=") refl) (clear_name a (subst IsNameText (sym s.2.0) s.2.1))
 
 -- so is that of a value

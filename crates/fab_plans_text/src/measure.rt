@@ -48,6 +48,7 @@ fn member_len(member: &Member) -> usize
         Member::Place(place) => {
             "dp=".len() + digits(u16::from(place.domain())) + 1 + digits(place.slot())
         }
+        Member::Address(address) => "id=".len() + address.letters().len(),
         Member::Alias(name) => "alias=".len() + name_len(name),
     }
 }

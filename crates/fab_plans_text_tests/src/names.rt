@@ -1,5 +1,5 @@
 //! The text forms, the faults, the orders, and what is printed.
-use fab_names::{Fabric, Member, Name, NameFault, Place, Wwn, read_number};
+use fab_names::{Address, Fabric, Member, Name, NameFault, Place, Wwn, read_number};
 use std::alloc::Global;
 use std::fmt;
 use std::process::Abort;
@@ -11,6 +11,7 @@ enum Kind {
     AsWwn,
     AsFabric,
     AsPlace,
+    AsAddress,
     AsMember,
 }
 
@@ -64,6 +65,31 @@ const FAULTS: &[(Kind, &str, Option<NameFault>)] = &[
         "1,000000000000000000007",
         Some(NameFault::BadChar),
     ),
+    (Kind::AsAddress, "010100", None),
+    (Kind::AsAddress, "0x010100", None),
+    (Kind::AsAddress, "0xABCDEF", None),
+    (Kind::AsAddress, "abcdef", None),
+    (Kind::AsAddress, "ABCDEF", None),
+    (Kind::AsAddress, "010000", None),
+    (Kind::AsAddress, "efffff", None),
+    (Kind::AsAddress, "00ffff", Some(NameFault::OutOfRange)),
+    (Kind::AsAddress, "f00000", Some(NameFault::OutOfRange)),
+    (Kind::AsAddress, "ffffff", Some(NameFault::OutOfRange)),
+    (Kind::AsAddress, "000000", Some(NameFault::OutOfRange)),
+    (Kind::AsAddress, "", Some(NameFault::BadLength)),
+    (Kind::AsAddress, "01010", Some(NameFault::BadLength)),
+    (Kind::AsAddress, "0101000", Some(NameFault::BadLength)),
+    (Kind::AsAddress, "0x01010", Some(NameFault::BadLength)),
+    (Kind::AsAddress, "0x0101000", Some(NameFault::BadLength)),
+    (Kind::AsAddress, "0X010100", Some(NameFault::BadLength)),
+    (Kind::AsAddress, " 010100", Some(NameFault::BadLength)),
+    (Kind::AsAddress, "010100 ", Some(NameFault::BadLength)),
+    (Kind::AsAddress, "01010é", Some(NameFault::BadLength)),
+    (Kind::AsAddress, "01010g", Some(NameFault::BadChar)),
+    (Kind::AsAddress, "0x01010g", Some(NameFault::BadChar)),
+    (Kind::AsAddress, "+10100", Some(NameFault::BadChar)),
+    (Kind::AsAddress, "01 100", Some(NameFault::BadChar)),
+    (Kind::AsAddress, "01:1:0", Some(NameFault::BadChar)),
     (Kind::AsMember, "", Some(NameFault::BadChar)),
     (Kind::AsMember, "wwpn", Some(NameFault::BadChar)),
     (Kind::AsMember, "port=1", Some(NameFault::BadChar)),
@@ -71,6 +97,12 @@ const FAULTS: &[(Kind, &str, Option<NameFault>)] = &[
     (Kind::AsMember, "alias=", Some(NameFault::Empty)),
     (Kind::AsMember, "dp=1", Some(NameFault::BadChar)),
     (Kind::AsMember, "wwnn=0", Some(NameFault::BadLength)),
+    (Kind::AsMember, "id=", Some(NameFault::BadLength)),
+    (Kind::AsMember, "id=f00000", Some(NameFault::OutOfRange)),
+    (Kind::AsMember, "id=1,1", Some(NameFault::BadLength)),
+    (Kind::AsMember, "id=01010x", Some(NameFault::BadChar)),
+    (Kind::AsMember, "ID=010100", Some(NameFault::BadChar)),
+    (Kind::AsMember, "id 010100", Some(NameFault::BadChar)),
 ];
 
 const LONG: &str = "a123456789b123456789c123456789d123456789e123456789f123456789g123";
@@ -90,6 +122,7 @@ fn fault_of(kind: Kind, text: &str) -> Option<NameFault> {
         Kind::AsWwn => Wwn::read(text).err(),
         Kind::AsFabric => Fabric::read(text).err(),
         Kind::AsPlace => Place::read(text).err(),
+        Kind::AsAddress => Address::read(text).err(),
         Kind::AsMember => Member::read(text).err(),
     }
 }
@@ -110,6 +143,11 @@ const PRINTED: &[(Kind, &str, &str)] = &[
     (Kind::AsFabric, "B", "B"),
     (Kind::AsPlace, "012,00000000000000000005", "12,5"),
     (Kind::AsPlace, "7,0", "7,0"),
+    (Kind::AsAddress, "010100", "010100"),
+    (Kind::AsAddress, "0x010100", "010100"),
+    (Kind::AsAddress, "0xABCDEF", "abcdef"),
+    (Kind::AsAddress, "010000", "010000"),
+    (Kind::AsAddress, "EFFFFF", "efffff"),
     (
         Kind::AsMember,
         "wwpn=0x5000000000000001",
@@ -127,6 +165,7 @@ const PRINTED: &[(Kind, &str, &str)] = &[
     ),
     (Kind::AsMember, "dp=007,4095", "dp=7,4095"),
     (Kind::AsMember, "dp=12,0", "dp=12,0"),
+    (Kind::AsMember, "id=0x0101AB", "id=0101ab"),
     (Kind::AsMember, "alias=Disk", "alias=Disk"),
     (Kind::AsMember, "alias=disk", "alias=disk"),
 ];
@@ -188,6 +227,10 @@ fn is_shown(
             let place = Place::read(text).expect(rt, "a place");
             shows(&place, printed) && is_text(place.print(alloc).expect(rt, "memory"), printed)
         }
+        Kind::AsAddress => {
+            let address = Address::read(text).expect(rt, "an address");
+            shows(&address, printed) && is_text(address.print(alloc).expect(rt, "memory"), printed)
+        }
         Kind::AsMember => {
             let member = Member::read(text).expect(rt, "a member");
             shows(&member, printed) && is_text(member.print(alloc).expect(rt, "memory"), printed)
@@ -211,11 +254,18 @@ const EXACT: &[(Kind, &str, bool)] = &[
     (Kind::AsPlace, "12,0", true),
     (Kind::AsPlace, "12,05", false),
     (Kind::AsPlace, "012,5", false),
+    (Kind::AsAddress, "0101ab", true),
+    (Kind::AsAddress, "010000", true),
+    (Kind::AsAddress, "0101AB", false),
+    (Kind::AsAddress, "0x0101ab", false),
+    (Kind::AsAddress, "f00000", false),
     (Kind::AsMember, "wwpn=50:00:00:00:00:00:00:01", true),
     (Kind::AsMember, "wwnn=50:00:00:00:00:00:00:01", true),
     (Kind::AsMember, "wwnn=5000000000000001", false),
     (Kind::AsMember, "dp=7,10", true),
     (Kind::AsMember, "dp=7,010", false),
+    (Kind::AsMember, "id=010100", true),
+    (Kind::AsMember, "id=0x010100", false),
     (Kind::AsMember, "alias=disk", true),
 ];
 
@@ -224,6 +274,7 @@ fn is_exact(kind: Kind, text: &str) -> bool {
     match kind {
         Kind::AsWwn => Wwn::read_printed(text).is_some(),
         Kind::AsPlace => Place::read_printed(text).is_some(),
+        Kind::AsAddress => Address::read_printed(text).is_some(),
         Kind::AsMember => Member::read_printed(text).is_some(),
         _ => false,
     }
@@ -253,6 +304,26 @@ fn plain_number(text: &str) -> Option<u64> {
         return None;
     }
     Some(name.number())
+}
+
+/// Texts, and the number of the address that they spell.
+const ADDRESSES: &[(&str, Option<u32>)] = &[
+    ("010100", Some(0x01_0100)),
+    ("0xABCDEF", Some(0xab_cdef)),
+    ("010000", Some(65536)),
+    ("efffff", Some(15_728_639)),
+    ("f00000", None),
+];
+
+#[test]
+fn numbers_of_addresses(rt: HostRuntime) {
+    for &(text, number) in ADDRESSES {
+        let found = match Address::read(text) {
+            Ok(address) => Some(address.number()),
+            Err(_) => None,
+        };
+        assert!(rt; found == number);
+    }
 }
 
 #[test]
@@ -291,6 +362,9 @@ const IN_ORDER: &[(Kind, &str, &str)] = &[
     (Kind::AsFabric, "A", "B"),
     (Kind::AsPlace, "7,4095", "12,0"),
     (Kind::AsPlace, "12,2", "12,10"),
+    (Kind::AsAddress, "010100", "010101"),
+    (Kind::AsAddress, "0101ff", "010200"),
+    (Kind::AsAddress, "01ffff", "0x020000"),
     (
         Kind::AsMember,
         "wwpn=0000000000000002",
@@ -304,7 +378,9 @@ const IN_ORDER: &[(Kind, &str, &str)] = &[
     (Kind::AsMember, "wwnn=0000000000000002", "dp=1,0"),
     (Kind::AsMember, "dp=7,4095", "dp=12,0"),
     (Kind::AsMember, "dp=12,2", "dp=12,10"),
-    (Kind::AsMember, "dp=239,4095", "alias=A"),
+    (Kind::AsMember, "dp=239,4095", "id=010000"),
+    (Kind::AsMember, "id=020000", "id=EFFFFF"),
+    (Kind::AsMember, "id=efffff", "alias=A"),
     (Kind::AsMember, "alias=B", "alias=a"),
 ];
 
@@ -323,6 +399,10 @@ fn is_before(rt: &impl Abort, kind: Kind, first: &str, second: &str) -> bool {
         }
         Kind::AsPlace => {
             Place::read(first).expect(rt, "a place") < Place::read(second).expect(rt, "a place")
+        }
+        Kind::AsAddress => {
+            Address::read(first).expect(rt, "an address")
+                < Address::read(second).expect(rt, "an address")
         }
         Kind::AsMember => {
             Member::read(first).expect(rt, "a member") < Member::read(second).expect(rt, "a member")

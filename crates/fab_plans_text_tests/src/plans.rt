@@ -65,6 +65,9 @@ const FAULTS: &[(&str, usize, PlanFaultKind)] = &[
     ("default A Permit\n", 1, PlanFaultKind::Flag),
     ("activate A 1\n", 1, PlanFaultKind::Name),
     ("zone.put A z dp=1,1  dp=1,2\n", 1, PlanFaultKind::Member),
+    ("zone.put A z1 id=f00000\n", 1, PlanFaultKind::Member),
+    ("zone.put A z1 id=0X010100\n", 1, PlanFaultKind::Member),
+    ("zone.put A z1 id=01:01:00\n", 1, PlanFaultKind::Member),
     ("set.put A s z1  z2\n", 1, PlanFaultKind::Name),
     (
         "alias.put A a wwpn=1000000000000001 alias=b\n",
@@ -190,7 +193,7 @@ fn long_texts(rt: HostRuntime) {
 /// A plan of each line, of which some words are not in their printed form.
 const PLAN: &str = "alias.put A disk wwpn=0x5000000000000001 wwpn=5000000000000001
 alias.drop B disk
-zone.put A z1 wwnn=10:00:00:00:00:00:00:aF dp=007,00 alias=disk
+zone.put A z1 wwnn=10:00:00:00:00:00:00:aF dp=007,00 id=0x0101AB alias=disk
 zone.drop A z1
 set.put B s1 z2 z1 z2
 set.drop B s1
@@ -214,7 +217,7 @@ sg.hide g2";
 /// The same plan in its printed form.
 const PRINTED: &str = "alias.put A disk wwpn=50:00:00:00:00:00:00:01 wwpn=50:00:00:00:00:00:00:01
 alias.drop B disk
-zone.put A z1 wwnn=10:00:00:00:00:00:00:af dp=7,0 alias=disk
+zone.put A z1 wwnn=10:00:00:00:00:00:00:af dp=7,0 id=0101ab alias=disk
 zone.drop A z1
 set.put B s1 z2 z1 z2
 set.drop B s1

@@ -3,26 +3,8 @@ use Rattle.std.specs.Prelude.{ℕ, ◌≡◌, ◌⊎◌, Result, Ok, Err}
 use Rattle.fab_files.specs.declared.printing.End.{End}
 use Rattle.fab_files.specs.declared.printing.End.TheVariants.{Done, Refused}
 use Rattle.fab_program_outside.specs.declared.faults.Fault.{Fault}
-use Rattle.fab_program_outside.specs.declared.faults.Fault.TheVariants.{Stream, Listen, Clock}
-use Rattle.fab_wire_serving.specs.declared.serving.ServeFault.{ServeFault}
-use Rattle.fab_wire_serving.specs.declared.serving.ServeFault.TheVariants as serving
-use Rattle.fab_wire.specs.declared.outcome.Outcome.{Outcome}
-use Rattle.fab_wire.specs.declared.outcome.Outcome.TheVariants as outcome
 use Rattle.fab_program_options.specs.declared.reading.WordsFault.{WordsFault}
 use Rattle.fab_program_options.specs.declared.reading.WordsFault.TheVariants as words
-
--- a request is done where its answer was written, or there was none; else a stream failed
-abbrev pub ended : Outcome → Result End Fault
-ended (outcome.Answered status) = Ok Done
-ended outcome.Empty = Ok Done
-ended outcome.Unsent = Err Stream
-ended outcome.ReadFailed = Err Stream
-
--- serving is done where as many connections were served as were asked for; else accepting one, or a clock, failed
-abbrev pub served : {V : Type 0} → Result V ServeFault → Result End Fault
-served (Ok none) = Ok Done
-served (Err (serving.Listener error)) = Err Listen
-served (Err serving.NoClock) = Err Clock
 
 -- making a database is done, where it was made
 abbrev pub end_of_making : Result (Unit {0}) Fault → Result End Fault

@@ -1,13 +1,4 @@
-pub mod Commands
-pub mod Looks
-pub mod Databases
-pub mod Desks
 pub mod Exits
-pub mod Fronts
-pub mod Once
-pub mod Prints
-pub mod Tries
+pub mod Looks
 pub mod Runs
-pub mod Servings
-pub mod Tasks
-pub mod Tables
+pub mod Tries

@@ -16,7 +16,7 @@ use Rattle.fab_program_outside.specs.Contents.{IsPolicyAt}
 use Rattle.fab_program_outside.specs.declared.faults.Fault.{Fault}
 use Rattle.fab_program_outside.specs.declared.files.Files as files
 use Rattle.fab_store.specs.declared.Store as store
-use Rattle.fab_program_base.specs.declared.database.Databases as databases
+use Rattle.fab_program_desks.specs.declared.database.Databases as databases
 
 abbrev pub who_look : WhoOf → Look
 who_look (of.Volume volume) = look.Who volume

@@ -21,16 +21,16 @@ use Rattle.fab_program_words.specs.declared.words.Words.TheVariants as words
 use Rattle.fab_program_checks.specs.Checks.{CheckComes}
 use Rattle.fab_program_checks.specs.declared.modes.Modes as modes
 use Rattle.fab_program_explains.specs.Explains.{ExplainComes, now_in}
-use Rattle.fab_program_base.specs.Commands.{DryRunComes, ImportComes, ShowComes}
-use Rattle.fab_program_base.specs.Databases.{IsMade}
-use Rattle.fab_program_base.specs.Desks.{ProgramDesk}
+use Rattle.fab_program_commands.specs.Commands.{DryRunComes, ImportComes, ShowComes}
+use Rattle.fab_program_desks.specs.Databases.{IsMade}
+use Rattle.fab_program_desks.specs.Desks.{ProgramDesk}
 use Rattle.fab_program_base.specs.Exits.{end_of_making, end_only}
 use Rattle.fab_program_base.specs.Looks.{WhyComes, WhoComes, NamesComes}
-use Rattle.fab_program_base.specs.Once.{ComesOnce}
-use Rattle.fab_program_base.specs.Servings.{ComesServing}
+use Rattle.fab_program_once.specs.Once.{ComesOnce}
+use Rattle.fab_program_serving.specs.Servings.{ComesServing}
 use Rattle.fab_program_base.specs.Tries.{DiffComes, TryImportComes}
-use Rattle.fab_program_base.specs.declared.addresses.Addresses as addresses
-use Rattle.fab_program_base.specs.declared.database.Databases as databases
+use Rattle.fab_program_desks.specs.declared.addresses.Addresses as addresses
+use Rattle.fab_program_desks.specs.declared.database.Databases as databases
 
 -- a fault has its line on standard error; nothing else is told
 abbrev pub IsToldOf : {E : Type 0} → (E → List ℕ → E → Type 0) → (E → List ℕ → E → Type 0) → E → Result End Fault → E → Type 0

@@ -5,9 +5,9 @@ ghost use Rattle.fab_program_base.specs.Looks.{ComesLooking, WhyComes, WhoComes,
 ghost use Rattle.fab_program_looks.specs.Looks.{LooksOver};
 ghost use Rattle.fab_program_outside.specs.Coming.{After, Then};
 
-use crate::database::Databases;
 use fab_files::End;
 use fab_policy_base::Policy;
+use fab_program_desks::Databases;
 use fab_program_looks::{Asked, Look, look_over};
 use fab_program_outside::{Fault, Files, policy_of};
 use fab_program_words::{Access, Names, Who, WhoOf, Why};

@@ -5,10 +5,10 @@ ghost use Rattle.fab_program_outside.specs.Coming.{After, Then};
 ghost use Rattle.fab_program_tries.specs.Telling.{TellsImport};
 ghost use Rattle.fab_program_tries.specs.Tries.{ComesTold, TriesOver};
 
-use crate::database::Databases;
 use fab_files::End;
 use fab_names::Fabric;
 use fab_policy_base::Policy;
+use fab_program_desks::Databases;
 use fab_program_outside::{Fault, Files, bytes_of, policy_of};
 use fab_program_tries::{Asked, Trial, try_over};
 use fab_program_words::{Diff, TryImport};

@@ -14,6 +14,7 @@ use Rattle.fab_world.specs.Worlds.{WorldRows}
 abbrev pub fault_of_opening : OpenFault → Fault
 fault_of_opening (opening.Damaged table) = fault.Damaged table
 fault_of_opening (opening.NewerSchema schema) = fault.NewerSchema schema
+fault_of_opening (opening.OldSchema schema) = fault.Store
 fault_of_opening opening.Store = fault.Store
 fault_of_opening opening.Memory = fault.Memory
 

@@ -14,6 +14,7 @@ pub fn of_opening(fault: OpenFault) -> Fault
     match fault {
         OpenFault::Damaged(table) => Fault::Damaged(table),
         OpenFault::NewerSchema(schema) => Fault::NewerSchema(schema),
+        OpenFault::OldSchema(_) => Fault::Store,
         OpenFault::Store => Fault::Store,
         OpenFault::Memory => Fault::Memory,
     }

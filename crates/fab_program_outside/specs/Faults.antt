@@ -21,6 +21,7 @@ word_of (NewerSchema n) = codes "newer-schema"
 abbrev pub table_name : Table → List ℕ
 table_name table.Meta = codes "meta"
 table_name table.Ports = codes "ports"
+table_name table.Addresses = codes "addresses"
 table_name table.Holders = codes "holders"
 table_name table.Volumes = codes "volumes"
 table_name table.Zoning = codes "zoning"

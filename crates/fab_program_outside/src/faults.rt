@@ -53,6 +53,7 @@ pub(crate) fn table_name(table: Table) -> &'static str
     match table {
         Table::Meta => "meta",
         Table::Ports => "ports",
+        Table::Addresses => "addresses",
         Table::Holders => "holders",
         Table::Volumes => "volumes",
         Table::Zoning => "zoning",

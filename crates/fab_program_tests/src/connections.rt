@@ -4,7 +4,7 @@
 use super::answers::{Asking, asking_of};
 use super::desks::made;
 use fab_policy_base::Policy;
-use fab_program_base::front::Front;
+use fab_program_serving::Front;
 use fab_store::{OpenFault, SqlStore, Store};
 use fab_wire::Desk;
 use fab_wire_base::routes::Routes;
@@ -40,7 +40,7 @@ const ASKED: &[&str] = &[
  -> 200 OK: {"revision":1}"#,
     r#"ada POST /imports/A port_name,node_name,domain,port
  -> 403 Forbidden: {"code":8,"error":"denied","need":"window","rule":1,"rule_name":"in-time"}"#,
-    r#"ada GET /ports/10:00:00:00:00:00:00:01 -> 200 OK: {"at":{"domain":1,"fabric":"A","port":1},"node_name":"20:00:00:00:00:00:00:01","port_name":"10:00:00:00:00:00:00:01"}"#,
+    r#"ada GET /ports/10:00:00:00:00:00:00:01 -> 200 OK: {"at":{"address":null,"domain":1,"fabric":"A","port":1},"node_name":"20:00:00:00:00:00:00:01","port_name":"10:00:00:00:00:00:00:01"}"#,
 ];
 
 /// A desk over this store, to be served.

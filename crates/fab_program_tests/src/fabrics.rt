@@ -49,12 +49,12 @@ const ASKED: Run<'static> = Run {
 const LOGGED_IN: &[Run<'static>] = &[
     Run {
         input: "GET /ports/10:00:00:00:00:00:00:11 HTTP/1.1\r\nAuthorization: Bearer t-ada\r\n\r\n",
-        output: "HTTP/1.1 200 OK\r\nContent-Type: application/json\r\nContent-Length: 117\r\nConnection: close\r\n\r\n{\"at\":{\"domain\":2,\"fabric\":\"B\",\"port\":7},\"node_name\":\"20:00:00:00:00:00:00:11\",\"port_name\":\"10:00:00:00:00:00:00:11\"}",
+        output: "HTTP/1.1 200 OK\r\nContent-Type: application/json\r\nContent-Length: 132\r\nConnection: close\r\n\r\n{\"at\":{\"address\":null,\"domain\":2,\"fabric\":\"B\",\"port\":7},\"node_name\":\"20:00:00:00:00:00:00:11\",\"port_name\":\"10:00:00:00:00:00:00:11\"}",
         ..ASKED
     },
     Run {
         input: "GET /ports/10:00:00:00:00:00:00:01 HTTP/1.1\r\nAuthorization: Bearer t-ada\r\n\r\n",
-        output: "HTTP/1.1 200 OK\r\nContent-Type: application/json\r\nContent-Length: 117\r\nConnection: close\r\n\r\n{\"at\":{\"domain\":1,\"fabric\":\"A\",\"port\":1},\"node_name\":\"20:00:00:00:00:00:00:01\",\"port_name\":\"10:00:00:00:00:00:00:01\"}",
+        output: "HTTP/1.1 200 OK\r\nContent-Type: application/json\r\nContent-Length: 132\r\nConnection: close\r\n\r\n{\"at\":{\"address\":null,\"domain\":1,\"fabric\":\"A\",\"port\":1},\"node_name\":\"20:00:00:00:00:00:00:01\",\"port_name\":\"10:00:00:00:00:00:00:01\"}",
         ..ASKED
     },
 ];

@@ -51,6 +51,11 @@ matches_told (member.Place place) p = by p.at
     by : (a : Option (Fabric × Position)) → Told ((f : Fabric) × (a ≡ Some (f, place)))
     by None = inr (λ w. absurd cc)
     by (Some (g, q)) = as_told (λ e. (g, λ i. Some (g, e i))) (λ w. ap (λ (x : Fabric × Position). x.1) (same_Some (g, q) (w.0, place) w.1)) (same_by position_code q place)
+matches_told (member.Address address) p = by p.address
+  where
+    by : (a : Option ℕ) → Told (a ≡ Some address)
+    by None = inr (λ w. absurd cc)
+    by (Some n) = as_told (λ e. ap Some e) (λ w. same_Some n address w) (same_by coded_ℕ n address)
 matches_told (member.Alias name) p = inr (λ h. h)
 
 -- some row of the zoning has it

@@ -53,7 +53,7 @@ config_only w v cs only same xs is = record {
 -- ---- ports and holders
 
 port_code : Coded Port
-port_code = code_by (ℕ × Known) (coded× coded_ℕ known_code) (λ p. (p.name, record { node = p.node; at = p.at; holder = p.holder })) (λ q. port_of q.0 q.1) (λ _. refl)
+port_code = code_by (ℕ × Known) (coded× coded_ℕ known_code) (λ p. (p.name, record { node = p.node; at = p.at; address = p.address; holder = p.holder })) (λ q. port_of q.0 q.1) (λ _. refl)
 
 port_told : (v : InventoryRows) (p : Port) → Told (rows.IsKnown v (inventory.Port p))
 port_told v p = same_by (coded_option port_code) (port_at v.ports p.name) (Some p)

@@ -14,7 +14,7 @@ use crate::row::{Row, RowDiff};
 use fab_inventory::{Holder, Known, Port};
 use fab_names::{Name, Wwn};
 use fab_reach_base::View;
-use fab_store_rows::{ConfigRow, HolderRow, SettingRow, difference};
+use fab_store_rows::{ConfigRow, HolderRow, SettingRow, difference, has_port};
 use std::alloc::{AllocError, Allocator};
 
 /// What is known of a port, with its name.
@@ -25,6 +25,7 @@ fn port_row(name: &Wwn, known: &Known) -> Port
         name: *name,
         node: known.node,
         at: known.at,
+        address: known.address,
         holder: known.holder,
     }
 }
@@ -33,7 +34,7 @@ fn port_row(name: &Wwn, known: &Known) -> Port
 fn is_port<A: Allocator + Copy>(view: &View<'_, A>, port: &Port) -> bool
     ensures { IsTrue result ↔ Stands (seen view.now) (row_of.Port port.now) }
 {
-    view.inventory.port(&port.name) == Some(*port)
+    has_port(view.inventory, port)
 }
 
 /// Puts the row of a port at the end, unless it stands in the other world.

@@ -48,22 +48,20 @@ module _ (port : ℕ) (f : Fabric) where
       (λ e h. (e.1.1, h.0, λ i. (h.1 i, (h.2 i, e.1.1))))
       (all_names (λ z (e : Placed). e ≡ (port, (f, z))) s ks old new is a)
 
-  pub zones_three : (a b c : List ℕ → Bool) (s0 s1 s2 s3 : Placed → Type 0) → Adds (ByZones (λ z. a z ≡ true) port f) s0 s1 → Adds (ByZones (λ z. b z ≡ true) port f) s1 s2 → Adds (ByZones (λ z. c z ≡ true) port f) s2 s3
-      → Adds (ByZones (λ z. (a z || (b z || c z)) ≡ true) port f) s0 s3
-  zones_three a b c s0 s1 s2 s3 x y w = record {
-    sound = λ e h. elim (w.sound e h) [
-      | inr k ↦ inr (or_right (a e.1.1) (b e.1.1 || c e.1.1) (or_right (b e.1.1) (c e.1.1) k.0), k.1, k.2)
-      | inl h ↦ elim (y.sound e h) [
-        | inr k ↦ inr (or_right (a e.1.1) (b e.1.1 || c e.1.1) (or_left (b e.1.1) (c e.1.1) k.0), k.1, k.2)
-        | inl h ↦ elim (x.sound e h) [ inr k ↦ inr (or_left (a e.1.1) (b e.1.1 || c e.1.1) k.0, k.1, k.2) | inl o ↦ inl o ]
-      ]
+  pub zones_two : (a b : List ℕ → Bool) (s0 s1 s2 : Placed → Type 0) → Adds (ByZones (λ z. a z ≡ true) port f) s0 s1 → Adds (ByZones (λ z. b z ≡ true) port f) s1 s2 → Adds (ByZones (λ z. (a z || b z) ≡ true) port f) s0 s2
+  zones_two a b s0 s1 s2 x y = record {
+    sound = λ e h. elim (y.sound e h) [
+      | inr k ↦ inr (or_right (a e.1.1) (b e.1.1) k.0, k.1, k.2)
+      | inl h ↦ elim (x.sound e h) [ inr k ↦ inr (or_left (a e.1.1) (b e.1.1) k.0, k.1, k.2) | inl o ↦ inl o ]
     ];
-    kept = λ e h. w.kept e (y.kept e (x.kept e h));
-    there = λ e k. elim (or_true (a e.1.1) (b e.1.1 || c e.1.1) k.0) [
-      | inl h ↦ w.kept e (y.kept e (x.there e (h, k.1, k.2)))
-      | inr h ↦ elim (or_true (b e.1.1) (c e.1.1) h) [ inl h ↦ w.kept e (y.there e (h, k.1, k.2)) | inr h ↦ w.there e (h, k.1, k.2) ]
-    ];
+    kept = λ e h. y.kept e (x.kept e h);
+    there = λ e k. elim (or_true (a e.1.1) (b e.1.1) k.0) [ inl h ↦ y.kept e (x.there e (h, k.1, k.2)) | inr h ↦ y.there e (h, k.1, k.2) ];
   }
+
+  -- the zones that four tests find, one after the other
+  pub zones_four : (a b c d : List ℕ → Bool) (s0 s1 s2 s3 s4 : Placed → Type 0) → Adds (ByZones (λ z. a z ≡ true) port f) s0 s1 → Adds (ByZones (λ z. b z ≡ true) port f) s1 s2 → Adds (ByZones (λ z. c z ≡ true) port f) s2 s3 → Adds (ByZones (λ z. d z ≡ true) port f) s3 s4
+      → Adds (ByZones (λ z. (a z || (b z || (c z || d z))) ≡ true) port f) s0 s4
+  zones_four a b c d s0 s1 s2 s3 s4 x y v w = zones_two a (λ z. b z || (c z || d z)) s0 s1 s4 x (zones_two b (λ z. c z || d z) s1 s2 s4 y (zones_two c d s2 s3 s4 v w))
 
 module _ (w : Records) (serving : IsServing w) (name : ℕ) where
   pub zones_at : (f : Fabric) (port : Port) (t : List ℕ → Bool) (old new : Placed → Type 0) → IsPort w name port → IsLoggedInAt f port → ((z : List ℕ) → (t z ≡ true → Holds (zoning_at w.config f).rows port z) × (Holds (zoning_at w.config f).rows port z → t z ≡ true))

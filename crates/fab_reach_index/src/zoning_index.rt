@@ -70,6 +70,7 @@ fn add_port_zones<A: Allocator + Copy>(
     add_some_zones(alloc, zones, port, fabric, these.by_port)?;
     add_some_zones(alloc, zones, port, fabric, these.by_node)?;
     add_some_zones(alloc, zones, port, fabric, these.by_place)?;
+    add_some_zones(alloc, zones, port, fabric, these.by_address)?;
     Ok(())
 }
 

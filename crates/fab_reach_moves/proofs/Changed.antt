@@ -21,7 +21,8 @@ use Rattle.fab_inventory.specs.declared.port.Port.{Port}
 use Rattle.fab_inventory.specs.Ports.{port_at, port_of}
 use Rattle.fab_lemmas.proofs.SeenEntries.{entry_decides}
 use Rattle.fab_lemmas.proofs.Tests.{or_true, or_left, or_right}
-use Rattle.fab_zoning_rows.specs.Holding.{Matches, IsLoggedInAt, Holds}
+use Rattle.fab_zoning_rows.specs.Holding.{Matches, IsLoggedInAt, Holds, place_member, address_member, has_row}
+use Rattle.fab_zoning_rows.proofs.PortMembers.{held_exactly}
 use Rattle.fab_zoning_rows.specs.Rows.{Rows}
 use Rattle.fab_reach_base.specs.Adding.{Adds}
 use Rattle.fab_reach_base.specs.Reach.{IsPort}
@@ -68,66 +69,45 @@ keys_from_nothing rows s t none a = from_none (λ (k : Key). Contains rows (acti
 
 -- ---- ports in zones
 
-place_test : Rows → Option (Fabric × Position) → List ℕ → Bool
-place_test rows None z = false
-place_test rows (Some at) z = set.contains rows (z, member.Place at.1)
-
 -- whether the zone has the port
 zoned : Rows → Port → List ℕ → Bool
-zoned rows p z = set.contains rows (z, member.Port p.name) || (set.contains rows (z, member.Node p.node) || place_test rows p.at z)
+zoned rows p z = set.contains rows (z, member.Port p.name) || (set.contains rows (z, member.Node p.node) || (has_row rows z (place_member p) || has_row rows z (address_member p)))
 
 module _ (rows : Rows) (p : Port) (z : List ℕ) where
-  by_place : (o : Option (Fabric × Position)) → p.at ≡ o → place_test rows o z ≡ true → Holds rows p z
-  unfolding place_test
-  by_place None is h = absurd (true≢false (sym h))
-  by_place (Some at) is h = (member.Place at.1, h, (at.0, is))
-
-  zoned_holds : zoned rows p z ≡ true → Holds rows p z
-  unfolding zoned place_test
-  zoned_holds h = elim (or_true (set.contains rows (z, member.Port p.name)) (set.contains rows (z, member.Node p.node) || place_test rows p.at z) h) [
-    | inl a ↦ (member.Port p.name, a, refl)
-    | inr k ↦ elim (or_true (set.contains rows (z, member.Node p.node)) (place_test rows p.at z) k) [ inl a ↦ (member.Node p.node, a, refl) | inr l ↦ by_place p.at refl l ]
-  ]
-
-  by_member : (m : Member) → set.contains rows (z, m) ≡ true → Matches m p → zoned rows p z ≡ true
-  unfolding zoned place_test
-  by_member (member.Port name) c h = or_left (set.contains rows (z, member.Port p.name)) (set.contains rows (z, member.Node p.node) || place_test rows p.at z) (ap (λ x. set.contains rows (z, member.Port x)) h ∙ c)
-  by_member (member.Node name) c h = or_right (set.contains rows (z, member.Port p.name)) (set.contains rows (z, member.Node p.node) || place_test rows p.at z) (or_left (set.contains rows (z, member.Node p.node)) (place_test rows p.at z) (ap (λ x. set.contains rows (z, member.Node x)) h ∙ c))
-  by_member (member.Place place) c h = or_right (set.contains rows (z, member.Port p.name)) (set.contains rows (z, member.Node p.node) || place_test rows p.at z) (or_right (set.contains rows (z, member.Node p.node)) (place_test rows p.at z) (ap (λ o. place_test rows o z) h.1 ∙ c))
-  by_member (member.Alias name) c h = absurd h
+  exactly : (zoned rows p z ≡ true → Holds rows p z) × (Holds rows p z → zoned rows p z ≡ true)
+  unfolding zoned
+  exactly = held_exactly rows p z (set.contains rows (z, member.Port p.name)) (set.contains rows (z, member.Node p.node)) (has_row rows z (place_member p)) (has_row rows z (address_member p)) refl refl refl refl
 
   -- it is in the zone, unless it can not be out of it
   pub stable : ¬ (¬ Holds rows p z) → Holds rows p z
   stable h = case (zoned rows p z) refl
     where
       case : (b : Bool) → zoned rows p z ≡ b → Holds rows p z
-      case true is = zoned_holds is
-      case false is = absurd (h (λ x. true≢false (sym (by_member x.0 x.1 x.2) ∙ is)))
+      case true is = exactly.0 is
+      case false is = absurd (h (λ x. true≢false (sym (exactly.1 x) ∙ is)))
 
   tested : (b : Bool) → b ≡ zoned rows p z → (IsTrue b → Holds rows p z) × (Holds rows p z → IsTrue b)
-  tested b is = ((λ h. zoned_holds (sym is ∙ h)), λ x. is ∙ by_member x.0 x.1 x.2)
+  tested b is = ((λ h. exactly.0 (sym is ∙ h)), λ x. is ∙ exactly.1 x)
 
   pub held_by_name : set.contains rows (z, member.Port p.name) ≡ true → (IsTrue true → Holds rows p z) × (Holds rows p z → IsTrue true)
-  held_by_name h = tested true (sym (by_member (member.Port p.name) h refl))
+  held_by_name h = tested true (sym (exactly.1 (member.Port p.name, h, refl)))
 
   pub held_by_node : set.contains rows (z, member.Node p.node) ≡ true → (IsTrue true → Holds rows p z) × (Holds rows p z → IsTrue true)
-  held_by_node h = tested true (sym (by_member (member.Node p.node) h refl))
+  held_by_node h = tested true (sym (exactly.1 (member.Node p.node, h, refl)))
 
-  pub held_by_none : set.contains rows (z, member.Port p.name) ≡ false → set.contains rows (z, member.Node p.node) ≡ false → p.at ≡ None → (IsTrue false → Holds rows p z) × (Holds rows p z → IsTrue false)
-  unfolding zoned place_test
-  held_by_none a b none = tested false (λ i. sym a i || (sym b i || place_test rows (sym none i) z))
+  pub held_by_place : has_row rows z (place_member p) ≡ true → (IsTrue true → Holds rows p z) × (Holds rows p z → IsTrue true)
+  unfolding zoned
+  held_by_place h = tested true (sym (or_right (set.contains rows (z, member.Port p.name)) _ (or_right (set.contains rows (z, member.Node p.node)) _ (or_left (has_row rows z (place_member p)) (has_row rows z (address_member p)) h))))
 
-  pub held_by_place : (r : Bool) (f : Fabric) (place : Position) → set.contains rows (z, member.Port p.name) ≡ false → set.contains rows (z, member.Node p.node) ≡ false → p.at ≡ Some (f, place) → r ≡ set.contains rows (z, member.Place place) → (IsTrue r → Holds rows p z) × (Holds rows p z → IsTrue r)
-  unfolding zoned place_test
-  held_by_place r f place a b at is = tested r (is ∙ (λ i. sym a i || (sym b i || place_test rows (sym at i) z)))
+  pub held_by_address : (r : Bool) → set.contains rows (z, member.Port p.name) ≡ false → set.contains rows (z, member.Node p.node) ≡ false → has_row rows z (place_member p) ≡ false → r ≡ has_row rows z (address_member p) → (IsTrue r → Holds rows p z) × (Holds rows p z → IsTrue r)
+  unfolding zoned
+  held_by_address r a b c is = tested r (is ∙ (λ i. sym a i || (sym b i || (sym c i || has_row rows z (address_member p)))))
 
--- by the three members that stand for a port that is logged in
-pub zoned_by_three : (rows : Rows) (p : Port) (z : List ℕ) (f : Fabric) (place : Position) → p.at ≡ Some (f, place)
-    → ((set.contains rows (z, member.Port p.name) || (set.contains rows (z, member.Node p.node) || set.contains rows (z, member.Place place))) ≡ true → Holds rows p z)
-    × (Holds rows p z → (set.contains rows (z, member.Port p.name) || (set.contains rows (z, member.Node p.node) || set.contains rows (z, member.Place place))) ≡ true)
-unfolding zoned place_test
-zoned_by_three rows p z f place at = tested rows p z (set.contains rows (z, member.Port p.name) || (set.contains rows (z, member.Node p.node) || set.contains rows (z, member.Place place)))
-    (λ i. set.contains rows (z, member.Port p.name) || (set.contains rows (z, member.Node p.node) || place_test rows (sym at i) z))
+-- by the four members that stand for a port that is logged in
+pub zoned_by_four : (rows : Rows) (p : Port) (z : List ℕ) (f : Fabric) (place : Position) → p.at ≡ Some (f, place)
+    → ((set.contains rows (z, member.Port p.name) || (set.contains rows (z, member.Node p.node) || (set.contains rows (z, member.Place place) || has_row rows z (address_member p)))) ≡ true → Holds rows p z)
+    × (Holds rows p z → (set.contains rows (z, member.Port p.name) || (set.contains rows (z, member.Node p.node) || (set.contains rows (z, member.Place place) || has_row rows z (address_member p)))) ≡ true)
+zoned_by_four rows p z f place at = held_exactly rows p z (set.contains rows (z, member.Port p.name)) (set.contains rows (z, member.Node p.node)) (set.contains rows (z, member.Place place)) (has_row rows z (address_member p)) refl refl (ap (λ (o : Option (Fabric × Position)). has_row rows z (option_map (λ x. member.Place x.1) o)) at) refl
 
 module _ (w v : Records) (gone come : List Row) (d : IsRowDiff w v gone come) where
   -- ---- active rows after the step

@@ -3,7 +3,7 @@
 ghost use Rattle.std.specs.Prelude.{◌≡◌, ◌↔◌, ℕ, List, Contains, true, IsTrue, OnOk, IfOk};
 ghost use Rattle.std.specs.FinSet as set;
 ghost use Rattle.fab_inventory.specs.declared.port.Port.{Port};
-ghost use Rattle.fab_zoning_rows.specs.Holding.{Matches, Holds};
+ghost use Rattle.fab_zoning_rows.specs.Holding.{Matches, Holds, has_row};
 ghost use Rattle.fab_reach_base.specs.Adding.{Adds};
 ghost use Rattle.fab_reach_base.specs.Reach.{IsPort};
 ghost use Rattle.fab_reach_base.specs.Records.{Records, zoning_at};
@@ -20,6 +20,7 @@ use fab_names::{Fabric, Member, Name, Wwn};
 use fab_reach_base::View;
 use fab_reach_books::{Row, RowDiff};
 use fab_reach_index::is_at;
+use fab_zoning_rows::{address_member, place_member};
 use std::alloc::{AllocError, Allocator};
 use std::collections::BTreeSet;
 
@@ -69,16 +70,19 @@ fn keys_of<A: Allocator + Copy>(
     Ok(keys)
 }
 
-/// Whether the zone has the member after the step.
+/// Whether the zone has the member after the step, if there is a member.
 fn has_after<A: Allocator + Copy>(
     before: &View<'_, A>,
     active: &Active<A>,
     zone: &(Fabric, Name),
-    member: Member,
+    member: Option<Member>,
 ) -> bool
     ensures { (v : Records) (gone come : List Row) → IsRowDiff (seen before.now) v gone come → AreActive gone active.now.gone → AreActive come active.now.come
-        → result ≡ set.contains (zoning_at v.config zone.now.0).rows (zone.now.1, member) }
+        → result ≡ has_row (zoning_at v.config zone.now.0).rows zone.now.1 member }
 {
+    let Some(member) = member else {
+        return false;
+    };
     if active.come.contains(&(*zone, member)) {
         return true;
     }
@@ -98,16 +102,16 @@ fn holds_after<A: Allocator + Copy>(
     ensures { (v : Records) (gone come : List Row) → IsRowDiff (seen before.now) v gone come → AreActive gone active.now.gone → AreActive come active.now.come
         → IsTrue result ↔ Holds (zoning_at v.config zone.now.0).rows port.now zone.now.1 }
 {
-    if has_after(before, active, zone, Member::Port(port.name)) {
+    if has_after(before, active, zone, Some(Member::Port(port.name))) {
         return true;
     }
-    if has_after(before, active, zone, Member::Node(port.node)) {
+    if has_after(before, active, zone, Some(Member::Node(port.node))) {
         return true;
     }
-    let Some((_fabric, place)) = port.at else {
-        return false;
-    };
-    has_after(before, active, zone, Member::Place(place))
+    if has_after(before, active, zone, place_member(port)) {
+        return true;
+    }
+    has_after(before, active, zone, address_member(port))
 }
 
 /// Whether the zone had the port before the step, wherever it is logged in.
@@ -154,6 +158,7 @@ fn is_match(member: &Member, port: &Port) -> bool
             Some((_, at)) => at == *place,
             None => false,
         },
+        Member::Address(address) => port.address == Some(*address),
         Member::Alias(_) => false,
     }
 }

@@ -24,9 +24,9 @@ use Rattle.fab_reach_books.specs.Inner.Sets.{HasPortIn}
 use Rattle.fab_reach_index.specs.Indexes.{Zone, zone_cmp, PortInZone}
 use Rattle.fab_reach_index.specs.Inner.Placing.{IsIn, ByZone, ByZones}
 use Rattle.fab_reach_index.specs.Inner.Regathering.{HasIn}
-use Rattle.fab_reach_index.proofs.ZonesPlaced.{Placed, zones_three}
-use Rattle.fab_reach_moves.proofs.Changed.{zoned_by_three}
-use Rattle.fab_zoning_rows.specs.Holding.{IsLoggedInAt, Holds}
+use Rattle.fab_reach_index.proofs.ZonesPlaced.{Placed, zones_four}
+use Rattle.fab_reach_moves.proofs.Changed.{zoned_by_four}
+use Rattle.fab_zoning_rows.specs.Holding.{IsLoggedInAt, Holds, address_member, has_row}
 
 module _ (zones : BTreeMap ℕ (BTreeSet Zone)) where
   -- a port, with its zones
@@ -68,17 +68,22 @@ module _ (v : Records) (serving : IsServing v) (name : ℕ) where
       rows : List ℕ → Type 0
       rows z = Holds (zoning_at v.config f).rows port z
 
-      pub three_zones : (s0 s1 s2 s3 : Placed → Type 0) → Adds (ByZones (λ z. set.contains (zoning_at v.config f).rows (z, member.Port port.name) ≡ true) name f) s0 s1 → Adds (ByZones (λ z. set.contains (zoning_at v.config f).rows (z, member.Node port.node) ≡ true) name f) s1 s2
-          → Adds (ByZones (λ z. set.contains (zoning_at v.config f).rows (z, member.Place place) ≡ true) name f) s2 s3 → Adds (ByZone v name) s0 s3
-      three_zones s0 s1 s2 s3 a b c =
-          let all = zones_three name f (λ z. set.contains (zoning_at v.config f).rows (z, member.Port port.name)) (λ z. set.contains (zoning_at v.config f).rows (z, member.Node port.node)) (λ z. set.contains (zoning_at v.config f).rows (z, member.Place place)) s0 s1 s2 s3 a b c in
-          let test = λ (z : List ℕ). (set.contains (zoning_at v.config f).rows (z, member.Port port.name) || (set.contains (zoning_at v.config f).rows (z, member.Node port.node) || set.contains (zoning_at v.config f).rows (z, member.Place place))) ≡ true in
-          adds_as (ByZones test name f) (ByZone v name) s0 s3
-          (λ e h. (subst (λ g. IsInZone v g e.1.1 name) (sym h.2) (port, sym is, (subst (λ g. IsLoggedInAt g port) (sym (serving.fabrics f)) (place, at), (zoned_by_three (zoning_at v.config f).rows port e.1.1 f place at).0 h.0)), h.1))
+      pub four_zones : (s0 s1 s2 s3 s4 : Placed → Type 0) → Adds (ByZones (λ z. set.contains (zoning_at v.config f).rows (z, member.Port port.name) ≡ true) name f) s0 s1 → Adds (ByZones (λ z. set.contains (zoning_at v.config f).rows (z, member.Node port.node) ≡ true) name f) s1 s2
+          → Adds (ByZones (λ z. set.contains (zoning_at v.config f).rows (z, member.Place place) ≡ true) name f) s2 s3 → Adds (ByZones (λ z. has_row (zoning_at v.config f).rows z (address_member port) ≡ true) name f) s3 s4 → Adds (ByZone v name) s0 s4
+      four_zones s0 s1 s2 s3 s4 a b c d =
+          let here = (zoning_at v.config f).rows in
+          let by_port = λ (z : List ℕ). set.contains here (z, member.Port port.name) in
+          let by_node = λ (z : List ℕ). set.contains here (z, member.Node port.node) in
+          let by_place = λ (z : List ℕ). set.contains here (z, member.Place place) in
+          let by_address = λ (z : List ℕ). has_row here z (address_member port) in
+          let all = zones_four name f by_port by_node by_place by_address s0 s1 s2 s3 s4 a b c d in
+          let test = λ (z : List ℕ). (by_port z || (by_node z || (by_place z || by_address z))) ≡ true in
+          adds_as (ByZones test name f) (ByZone v name) s0 s4
+          (λ e h. (subst (λ g. IsInZone v g e.1.1 name) (sym h.2) (port, sym is, (subst (λ g. IsLoggedInAt g port) (sym (serving.fabrics f)) (place, at), (zoned_by_four here port e.1.1 f place at).0 h.0)), h.1))
           (λ e h.
           let q = own h.0.0 h.0.1 in
-          let here = subst (λ (p : Port). IsLoggedInAt (zoning_at v.config e.1.0).fabric p) q h.0.2.0 in
-          let same : e.1.0 ≡ f = same_fabric port e.1.0 f (subst (λ g. IsLoggedInAt g port) (serving.fabrics e.1.0) here) (place, at) in
+          let there = subst (λ (p : Port). IsLoggedInAt (zoning_at v.config e.1.0).fabric p) q h.0.2.0 in
+          let same : e.1.0 ≡ f = same_fabric port e.1.0 f (subst (λ g. IsLoggedInAt g port) (serving.fabrics e.1.0) there) (place, at) in
           let holds = subst (λ (p : Port). Holds (zoning_at v.config e.1.0).rows p e.1.1) q h.0.2.1 in
-          ((zoned_by_three (zoning_at v.config f).rows port e.1.1 f place at).1 (subst (λ g. Holds (zoning_at v.config g).rows port e.1.1) same holds), h.1, same))
+          ((zoned_by_four here port e.1.1 f place at).1 (subst (λ g. Holds (zoning_at v.config g).rows port e.1.1) same holds), h.1, same))
           all

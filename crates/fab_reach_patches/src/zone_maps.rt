@@ -10,11 +10,13 @@ ghost use Rattle.fab_reach_books.specs.Inner.Sets.{HasName, HasPortIn};
 ghost use Rattle.fab_reach_index.specs.Indexes.{IsTreeOf, zone_cmp, PortInZone};
 ghost use Rattle.fab_reach_index.specs.Inner.Placing.{IsIn, ByZone, ByZones};
 ghost use Rattle.fab_reach_moves.specs.Inner.Telling.{IsTold};
+ghost use Rattle.fab_zoning_rows.specs.Holding.{has_row};
 
 use fab_names::{Fabric, Member, Name, Wwn};
 use fab_reach_base::View;
 use fab_reach_index::{Index, add_all_at, add_some_left, add_zones};
 use fab_reach_moves::{Told, port_after};
+use fab_zoning_rows::address_member;
 use std::alloc::{AllocError, Allocator};
 use std::collections::{BTreeMap, BTreeSet};
 
@@ -86,16 +88,34 @@ fn add_zones_with<A: Allocator + Copy>(
     zones: &mut BTreeMap<Wwn, BTreeSet<(Fabric, Name), A>, A>,
     before: &View<'_, A>,
     told: &Told<A>,
-    port: Wwn,
-    fabric: Fabric,
+    at: &(Wwn, Fabric),
     member: &Member,
 ) -> Result<(), AllocError>
     ensures { (v : Records) → IsTold (seen before.now) v told.now
-        → OnOk result (Adds (ByZones (λ z. set.contains (zoning_at v.config fabric).rows (z, member.now) ≡ true) port fabric) (IsIn nat_cmp zone_cmp zones.old) (IsIn nat_cmp zone_cmp zones.new)) }
+        → OnOk result (Adds (ByZones (λ z. set.contains (zoning_at v.config at.now.1).rows (z, member.now) ≡ true) at.now.0 at.now.1) (IsIn nat_cmp zone_cmp zones.old) (IsIn nat_cmp zone_cmp zones.new)) }
 {
-    let these = zones_with(alloc, before, told, fabric, member)?;
-    add_zones(alloc, zones, port, fabric, &these)?;
+    let these = zones_with(alloc, before, told, at.1, member)?;
+    add_zones(alloc, zones, at.0, at.1, &these)?;
     Ok(())
+}
+
+/// Adds the active zones of the fabric that have the member after the step to those of the port, if
+/// there is a member.
+fn add_some_zones_with<A: Allocator + Copy>(
+    alloc: A,
+    zones: &mut BTreeMap<Wwn, BTreeSet<(Fabric, Name), A>, A>,
+    before: &View<'_, A>,
+    told: &Told<A>,
+    at: &(Wwn, Fabric),
+    member: Option<Member>,
+) -> Result<(), AllocError>
+    ensures { (v : Records) → IsTold (seen before.now) v told.now
+        → OnOk result (Adds (ByZones (λ z. has_row (zoning_at v.config at.now.1).rows z member ≡ true) at.now.0 at.now.1) (IsIn nat_cmp zone_cmp zones.old) (IsIn nat_cmp zone_cmp zones.new)) }
+{
+    let Some(member) = member else {
+        return Ok(());
+    };
+    add_zones_with(alloc, zones, before, told, at, &member)
 }
 
 /// Adds the zones that the port is in after the step.
@@ -115,33 +135,11 @@ fn add_zones_after<A: Allocator + Copy>(
     let Some((fabric, place)) = port.at else {
         return Ok(());
     };
-    add_zones_with(
-        alloc,
-        zones,
-        before,
-        told,
-        *name,
-        fabric,
-        &Member::Port(port.name),
-    )?;
-    add_zones_with(
-        alloc,
-        zones,
-        before,
-        told,
-        *name,
-        fabric,
-        &Member::Node(port.node),
-    )?;
-    add_zones_with(
-        alloc,
-        zones,
-        before,
-        told,
-        *name,
-        fabric,
-        &Member::Place(place),
-    )?;
+    let at = (*name, fabric);
+    add_zones_with(alloc, zones, before, told, &at, &Member::Port(port.name))?;
+    add_zones_with(alloc, zones, before, told, &at, &Member::Node(port.node))?;
+    add_zones_with(alloc, zones, before, told, &at, &Member::Place(place))?;
+    add_some_zones_with(alloc, zones, before, told, &at, address_member(&port))?;
     Ok(())
 }
 

@@ -155,7 +155,7 @@ const CASES: &[Case] = &[
 ];
 
 /// The configuration after these acts.
-fn changed(
+pub fn changed(
     rt: &(impl Abort + AllocGlobal),
     inventory: &Inventory<Global>,
     config: &Config<Global>,
@@ -200,7 +200,7 @@ pub fn assert_tried<B: PathBook<Global>>(
 
 /// A book that is opened at the first world is led to the second: the step is tried first. Gives how
 /// many questions each of both was.
-fn questions<B: PathBook<Global>>(
+pub fn questions<B: PathBook<Global>>(
     rt: &(impl Abort + AllocGlobal),
     before: &View<'_, Global>,
     after: &View<'_, Global>,

@@ -31,11 +31,7 @@ fn ports(rt: &(impl Abort + AllocGlobal), first: u64, end: u64) -> Vec<Wwn, Glob
 
 /// The row of a port in a port list.
 fn row(rt: &impl Abort, number: u64) -> PortRow {
-    PortRow {
-        name: wwn(rt, number),
-        node: wwn(rt, 1),
-        place: place(rt, 1, 1),
-    }
+    PortRow::plain(wwn(rt, number), wwn(rt, 1), place(rt, 1, 1))
 }
 
 /// The fabric lists the ports of these numbers.

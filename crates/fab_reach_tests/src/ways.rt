@@ -27,6 +27,12 @@ pub enum Ways {
     OtherVolume,
     /// Those of the second host to the second volume.
     Second,
+    /// That of the second host from its first port to the second target.
+    SecondFar,
+    /// That of the second host from its other port to the first target.
+    Third,
+    /// Those of the second host from its first port to both targets.
+    SecondNearAndFar,
     /// Those of both hosts.
     Both,
     /// That of the first host to the first volume at unit 5.
@@ -43,8 +49,24 @@ fn way(ways: Ways, number: usize) -> Option<Way> {
         (Ways::One | Ways::Both | Ways::TwoUnits | Ways::Units, 0) => Some(ONE),
         (Ways::OtherTarget, 0) => Some((FIRST_INITIATOR, SECOND_TARGET, V1, 0)),
         (Ways::OtherVolume, 0) => Some((FIRST_INITIATOR, FIRST_TARGET, V2, 0)),
-        (Ways::Second, 0) | (Ways::Both, 1) => Some((SECOND_INITIATOR, FIRST_TARGET, V2, 0)),
-        (Ways::Second, 1) | (Ways::Both, 2) => Some((THIRD_INITIATOR, FIRST_TARGET, V2, 0)),
+        (Ways::Second | Ways::SecondNearAndFar, 0) | (Ways::Both, 1) => Some((
+            SECOND_INITIATOR,
+            FIRST_TARGET,
+            V2,
+            0,
+        )),
+        (Ways::SecondFar, 0) | (Ways::SecondNearAndFar, 1) => Some((
+            SECOND_INITIATOR,
+            SECOND_TARGET,
+            V2,
+            0,
+        )),
+        (Ways::Third, 0) | (Ways::Second, 1) | (Ways::Both, 2) => Some((
+            THIRD_INITIATOR,
+            FIRST_TARGET,
+            V2,
+            0,
+        )),
         (Ways::UnitFive, 0) | (Ways::TwoUnits | Ways::Units, 1) => Some((
             FIRST_INITIATOR,
             FIRST_TARGET,

@@ -1,24 +1,25 @@
 -- The lines of all tables, and tables with the same rows.
-use Rattle.std.proofs.Common.{◌↔◌, List, map, Contains, subst}
+use Rattle.std.proofs.Common.{◌≡◌, ◌↔◌, List, map, Contains, IsTrue, subst, arith}
 use Rattle.sqlite.specs.Effect.{Database}
 use Rattle.sqlite.specs.Order.{Row}
+use Rattle.sqlite.specs.State.{State, HasCleanDisk}
 use Rattle.fab_store_load.specs.declared.fault.Table.{Table}
 use Rattle.fab_store_load.specs.declared.fault.Table.TheVariants as table
 use Rattle.fab_store_base.proofs.Distinct.{in_map, map_in}
 use Rattle.fab_store_base.specs.Opened.{tables_of}
 use Rattle.fab_store_tables.specs.declared.lines.TableLines.{TableLines}
-use Rattle.fab_store_sql.specs.Reading.{IsAny, AreLinesOf}
+use Rattle.fab_store_sql.specs.Reading.{IsAny, AreLinesOf, Stays}
 use Rattle.fab_store_sql.specs.Rows.{IsKeyed}
 use Rattle.fab_store_sql.specs.Trees.{tree_of, show_of}
 use Rattle.fab_store_sql.specs.Trees as sql
 use Rattle.fab_store_base.specs.Calls.{OpensNot}
 use Rattle.fab_store_base.specs.Worlds.{HoldsWorld}
 use Rattle.fab_store_base.specs.declared.faults.OpenFault.{OpenFault}
-use Rattle.fab_store_base.specs.declared.faults.OpenFault.TheVariants.{Damaged, NewerSchema, Store, Memory}
-use Rattle.fab_store_tables.specs.Columns.{meta_row, port_row, holder_row, volume_row, zoning_row, active_row, group_row, part_row, plan_row, approval_row, undo_row, path_row}
+use Rattle.fab_store_base.specs.declared.faults.OpenFault.TheVariants.{Damaged, NewerSchema, OldSchema, Store, Memory}
+use Rattle.fab_store_tables.specs.Columns.{meta_row, port_row, address_row, holder_row, volume_row, zoning_row, active_row, group_row, part_row, plan_row, approval_row, undo_row, path_row}
 use Rattle.fab_store_tables.specs.Tables.{Tables}
 use Rattle.fab_world.specs.Worlds.{WorldRows}
-use Rattle.fab_store.specs.Reads.{IsTableOf, HaveSame, AreTablesOf}
+use Rattle.fab_store.specs.Reads.{IsTableOf, HaveSame, OnlyReads, SeesSame, AreTablesOf}
 
 -- a table has the columns of its lines
 same_rows : {L : Type 0} (row : L → Row) (rows : List Row) (found : List L) → AreLinesOf row IsAny rows found → (r : Row) → Contains rows r ↔ Contains (map row found) r
@@ -31,6 +32,7 @@ same_rows row rows found are r = (
 pub record AreRead (found : TableLines) (db : Database) : Type 0 where
   pub meta : IsTableOf table.Meta meta_row found.meta.items db
   pub ports : IsTableOf table.Ports port_row found.ports.items db
+  pub addresses : IsTableOf table.Addresses address_row found.addresses.items db
   pub holders : IsTableOf table.Holders holder_row found.holders.items db
   pub volumes : IsTableOf table.Volumes volume_row found.volumes.items db
   pub zoning : IsTableOf table.Zoning zoning_row found.zoning.items db
@@ -46,6 +48,7 @@ module _ (found : TableLines) (db : Database) (read : AreRead found db) where
   all_keyed : (t : Table) → IsKeyed (show_of t) (db.trees (tree_of t))
   all_keyed table.Meta = read.meta.keyed
   all_keyed table.Ports = read.ports.keyed
+  all_keyed table.Addresses = read.addresses.keyed
   all_keyed table.Holders = read.holders.keyed
   all_keyed table.Volumes = read.volumes.keyed
   all_keyed table.Zoning = read.zoning.keyed
@@ -60,6 +63,7 @@ module _ (found : TableLines) (db : Database) (read : AreRead found db) where
   all_rows : HaveSame (sql.tables_of db.trees) (tables_of found)
   all_rows table.Meta = same_rows meta_row (sql.tables_of db.trees table.Meta) found.meta.items read.meta.are
   all_rows table.Ports = same_rows port_row (sql.tables_of db.trees table.Ports) found.ports.items read.ports.are
+  all_rows table.Addresses = same_rows address_row (sql.tables_of db.trees table.Addresses) found.addresses.items read.addresses.are
   all_rows table.Holders = same_rows holder_row (sql.tables_of db.trees table.Holders) found.holders.items read.holders.are
   all_rows table.Volumes = same_rows volume_row (sql.tables_of db.trees table.Volumes) found.volumes.items read.volumes.are
   all_rows table.Zoning = same_rows zoning_row (sql.tables_of db.trees table.Zoning) found.zoning.items read.zoning.are
@@ -74,6 +78,13 @@ module _ (found : TableLines) (db : Database) (read : AreRead found db) where
   pub all_told : AreTablesOf found db
   all_told = record { schema = read.meta.schema; keyed = all_keyed; rows = all_rows }
 
+-- a look before that left the connection as it was, if it is still open, changed none of them
+pub told_before : (found : TableLines) (old mid new : State) → (IsTrue old.is_open → old.now ≡ old.committed) → (HasCleanDisk mid → Stays old mid) → OnlyReads mid new → (HasCleanDisk new → AreTablesOf found mid.now × SeesSame mid new) → HasCleanDisk new
+    → AreTablesOf found old.now
+told_before found old mid new settled stays only told clean =
+    let early : HasCleanDisk mid = omega (arith, clean, only.survives.clean) in
+    let seen = told clean in subst (AreTablesOf found) (stays early settled seen.1.was_open).1 seen.0
+
 module _ (a b : Tables) (same : HaveSame a b) where
   pub holds_there : (w : WorldRows) → HoldsWorld b w → HoldsWorld a w
   holds_there w holds t r = (λ there. (holds t r).0 ((same t r).0 there), λ stands. (same t r).1 ((holds t r).1 stands))
@@ -87,5 +98,6 @@ module _ (a b : Tables) (same : HaveSame a b) where
     λ w is rows holds. not.1 w is rows (holds_here w holds),
   )
   opens_there (NewerSchema n) told = ((told.0.0, (same table.Meta told.0.0).1 told.0.1, told.0.2), told.1)
+  opens_there (OldSchema n) told = ((told.0.0, (same table.Meta (meta_row told.0.0)).1 told.0.1, told.0.2), told.1)
   opens_there Store h = tt
   opens_there Memory h = tt

@@ -12,15 +12,16 @@ use Rattle.fab_store_base.proofs.Distinct.{in_map, map_in}
 use Rattle.fab_store_base.specs.Opened.{tables_of, HasLines, HasNoWorld}
 use Rattle.fab_store_base.specs.Standing.{StandsRow}
 use Rattle.fab_store_tables.specs.Listing.{AreDistinct}
-use Rattle.fab_store_tables.specs.Rows.{AnyRow, count, port, holder, volume, config_row, plan, approval, undo, path, ShowsRow}
+use Rattle.fab_store_tables.specs.Rows.{AnyRow, count, port, address, holder, volume, config_row, plan, approval, undo, path, ShowsRow}
 use Rattle.fab_store_tables.specs.declared.lines.TableLines.{TableLines}
 use Rattle.fab_store_rows.specs.declared.config_row.ConfigRow.TheVariants as config
 use Rattle.fab_store_rows.specs.declared.table_rows.CountRow.TheVariants.{Schema, Revision}
 use Rattle.fab_store_rows.specs.declared.table_rows.TheConstants.{SCHEMA}
 use Rattle.fab_store_base.specs.Calls.{OpensNot, TellsNoNewer}
 use Rattle.fab_store_base.specs.Worlds.{IsMetaRow, IsWritten}
-use Rattle.fab_store_base.specs.declared.faults.OpenFault.TheVariants.{Damaged, NewerSchema}
+use Rattle.fab_store_base.specs.declared.faults.OpenFault.TheVariants.{Damaged, NewerSchema, OldSchema}
 use Rattle.fab_store_tables.specs.Columns.{meta_row}
+use Rattle.fab_store_tables.specs.Versions.{TellSchema}
 use Rattle.fab_store_tables.specs.declared.stored_line.TableLine.{TableLine}
 use Rattle.fab_store_tables.specs.declared.stored_line.TableLine.TheVariants as line
 use Rattle.fab_world.specs.Worlds.{WorldRows}
@@ -38,6 +39,7 @@ module _ (A : Type 0) (w : WorldRows) where
     pub written : IsWritten w
     written table.Meta = setting_shown
     written table.Ports = λ r stands. let f = has.rows (port r) stands in (f.1.columns, f.1.shows)
+    written table.Addresses = λ r stands. let f = has.rows (address r) stands in (f.1.columns, f.1.shows)
     written table.Holders = λ r stands. let f = has.rows (holder r) stands in (f.1.columns, f.1.shows)
     written table.Volumes = λ r stands. let f = has.rows (volume r) stands in (f.1.columns, f.1.shows)
     written table.Zoning = λ r stands. let f = has.rows (config_row (config.Zoning r)) stands in (f.1.columns, f.1.shows)
@@ -54,6 +56,7 @@ module _ (A : Type 0) (w : WorldRows) where
     row_lined (count (Schema n)) stands = let f = is table.Meta (meta.Schema n) stands in (line.Meta f.0, record { columns = f.0; shows = f.1; is = refl })
     row_lined (count (Revision n)) stands = let f = is table.Meta (meta.Revision n) stands in (line.Meta f.0, record { columns = f.0; shows = f.1; is = refl })
     row_lined (port r) stands = let f = is table.Ports r stands in (line.Port f.0, record { columns = f.0; shows = f.1; is = refl })
+    row_lined (address r) stands = let f = is table.Addresses r stands in (line.Address f.0, record { columns = f.0; shows = f.1; is = refl })
     row_lined (holder r) stands = let f = is table.Holders r stands in (line.Holder f.0, record { columns = f.0; shows = f.1; is = refl })
     row_lined (volume r) stands = let f = is table.Volumes r stands in (line.Volume f.0, record { columns = f.0; shows = f.1; is = refl })
     row_lined (config_row (config.Setting r)) stands = let f = is table.Meta (meta.Setting r) stands in (line.Meta f.0, record { columns = f.0; shows = f.1; is = refl })
@@ -104,3 +107,7 @@ damaged A found t old once none = (no_newer found old, λ w is rows holds. none 
 -- a setting tells a newer schema
 pub newer : (found : TableLines) (n : ℕ) → TellNewer found.meta.items n → OpensNot (tables_of found) (NewerSchema n)
 newer found n (l, there, tells) = ((meta_row l, map_in meta_row found.meta.items l there, record { line = l; is = refl; shown = meta.Schema n; shows = tells.shows; stands = refl }), tells.newer)
+
+-- a setting tells an older one
+pub older : (found : TableLines) (n : ℕ) → TellSchema found.meta.items n → n < SCHEMA → OpensNot (tables_of found) (OldSchema n)
+older found n (l, there, tells) old = ((l, map_in meta_row found.meta.items l there, tells), old)

@@ -1,5 +1,5 @@
 //! The world that the tables of a database have.
-ghost use Rattle.std.specs.Prelude.{◌≡◌, ◌↔◌, ◌<◌, ◌≤◌, ℕ, Err, IfOk, IfErr, MatchOption, OnOk, IsTrue};
+ghost use Rattle.std.specs.Prelude.{◌≡◌, ◌↔◌, ◌<◌, ◌≤◌, ℕ, false, Err, IfOk, IfErr, IfSome, MatchOption, OnOk, IsTrue};
 ghost use Rattle.sqlite.specs.Held.{state};
 ghost use Rattle.sqlite.specs.State.{HasCleanDisk};
 ghost use Rattle.fab_store_base.specs.Opened as opened;
@@ -10,6 +10,7 @@ ghost use Rattle.fab_store_base.specs.Calls.{OpensNot};
 ghost use Rattle.fab_store_base.specs.Worlds.{HoldsWorld, IsWritten};
 ghost use Rattle.fab_store_base.specs.declared.faults.OpenFault.TheVariants as faults;
 ghost use Rattle.fab_world.specs.Soundness.{IsSound};
+ghost use Rattle.fab_store_tables.specs.Versions.{TellSchema};
 ghost use Rattle.fab_store.specs.Loading.{HaveNamesOnce, TellsNewer, TellNewer};
 ghost use Rattle.fab_store.specs.Reads.{OnlyReads, SeesSame, AreTablesOf};
 
@@ -17,8 +18,10 @@ use crate::reading::read_tables;
 use fab_store_base::{OpenFault, TableLines, world_of_lines};
 use fab_store_columns::{MetaLine, MetaRow, PlanLine};
 use fab_store_load::LoadFault;
+use fab_store_migration::has_old_schema;
 use fab_store_rows::SCHEMA;
 use fab_store_sql::ReadFault;
+use fab_store_tables::schema_told;
 use fab_world::World;
 use sqlite::{Alter, Connection};
 use std::alloc::{AllocError, Allocator, Global};
@@ -55,6 +58,19 @@ fn newer_schema(lines: &[MetaLine<Global>]) -> Option<u64>
     None
 }
 
+/// The older schema that one of the settings tells.
+fn older_schema(lines: &[MetaLine<Global>]) -> Option<u64>
+    ensures { IfSome result (λ n. TellSchema lines.now n × (n < SCHEMA)) }
+{
+    let Some(schema) = schema_told(lines) else {
+        return None;
+    };
+    if schema == 0 || schema >= SCHEMA {
+        return None;
+    }
+    Some(schema)
+}
+
 /// Whether no two lines have one name.
 fn are_once(alloc: Global, lines: &[PlanLine<Global>]) -> Result<bool, AllocError>
     ensures { IfOk result (λ once. IsTrue once ↔ HaveNamesOnce lines.now) }
@@ -86,6 +102,9 @@ fn open_lines<A: Allocator + Copy>(
     if let Some(schema) = newer_schema(lines.meta.as_slice()) {
         return Err(OpenFault::NewerSchema(schema));
     }
+    if let Some(schema) = older_schema(lines.meta.as_slice()) {
+        return Err(OpenFault::OldSchema(schema));
+    }
     match world_of_lines(alloc, lines) {
         Ok(world) => Ok(world),
         Err(LoadFault::Memory) => Err(OpenFault::Memory),
@@ -106,6 +125,7 @@ pub(crate) fn load_world<A: Allocator + Copy, S: Alter>(
     heap: Global,
     conn: &mut Connection<S>,
 ) -> Result<World<A>, OpenFault>
+    requires outside { conn.old.in_transaction ≡ false }
     ensures only { OnlyReads (state S.Store conn.old) (state S.Store conn.new) }
     ensures same { HasCleanDisk (state S.Store conn.new) → OnOk result (SeesSame (state S.Store conn.old) (state S.Store conn.new)) }
     ensures desk { HasCleanDisk (state S.Store conn.new) → OnOk result (IsDesk (state S.Store conn.old).now) }
@@ -113,6 +133,10 @@ pub(crate) fn load_world<A: Allocator + Copy, S: Alter>(
     ensures rows { HasCleanDisk (state S.Store conn.new) → IfOk result (HoldsWorld (tables_of (state S.Store conn.old).now.trees)) }
     ensures fault { HasCleanDisk (state S.Store conn.new) → IfErr result (OpensNot (tables_of (state S.Store conn.old).now.trees)) }
 {
+    let _outside = conn.is_autocommit();
+    if has_old_schema(conn, heap) {
+        return Err(OpenFault::OldSchema(1));
+    }
     match read_tables(conn, heap) {
         Ok(lines) => open_lines(alloc, heap, &lines),
         Err(ReadFault::Memory) => Err(OpenFault::Memory),

@@ -7,8 +7,8 @@ ghost use Rattle.fab_store.specs.Reads.{OnlyReads, SeesSame, AreTablesOf};
 use crate::lots::{Both, Lot};
 use fab_store_base::TableLines;
 use fab_store_columns::{
-    ActiveLine, ApprovalLine, GroupLine, HolderLine, MetaLine, PartLine, PathLine, PlanLine,
-    PortLine, VolumeLine, ZoningLine,
+    ActiveLine, AddressLine, ApprovalLine, GroupLine, HolderLine, MetaLine, PartLine, PathLine,
+    PlanLine, PortLine, VolumeLine, ZoningLine,
 };
 use fab_store_sql::ReadFault;
 use fab_store_tables::UndoLine;
@@ -20,7 +20,13 @@ type Lines<L> = Vec<L, Global>;
 /// The settings, and the tables of the inventory.
 type Known = Both<
     Lines<MetaLine<Global>>,
-    Both<Lines<PortLine<Global>>, Both<Lines<HolderLine<Global>>, Lines<VolumeLine<Global>>>>,
+    Both<
+        Lines<PortLine<Global>>,
+        Both<
+            Lines<AddressLine<Global>>,
+            Both<Lines<HolderLine<Global>>, Lines<VolumeLine<Global>>>,
+        >,
+    >,
 >;
 
 /// The tables of the configuration.
@@ -39,8 +45,9 @@ type Planned = Both<
 fn gathered(known: Known, configured: Configured, planned: Planned) -> TableLines
     ensures meta { result.meta ≡ known.first }
     ensures ports { result.ports ≡ known.rest.first }
-    ensures holders { result.holders ≡ known.rest.rest.first }
-    ensures volumes { result.volumes ≡ known.rest.rest.rest }
+    ensures addresses { result.addresses ≡ known.rest.rest.first }
+    ensures holders { result.holders ≡ known.rest.rest.rest.first }
+    ensures volumes { result.volumes ≡ known.rest.rest.rest.rest }
     ensures zoning { result.zoning ≡ configured.first }
     ensures active { result.active ≡ configured.rest.first }
     ensures groups { result.groups ≡ configured.rest.rest.first }
@@ -53,8 +60,9 @@ fn gathered(known: Known, configured: Configured, planned: Planned) -> TableLine
     TableLines {
         meta: known.first,
         ports: known.rest.first,
-        holders: known.rest.rest.first,
-        volumes: known.rest.rest.rest,
+        addresses: known.rest.rest.first,
+        holders: known.rest.rest.rest.first,
+        volumes: known.rest.rest.rest.rest,
         zoning: configured.first,
         active: configured.rest.first,
         groups: configured.rest.rest.first,

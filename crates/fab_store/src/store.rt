@@ -5,7 +5,10 @@ ghost use Rattle.sqlite.specs.State.{HasCleanDisk};
 ghost use Rattle.fab_store_sql.specs.NewDesk.{IsNewDesk};
 ghost use Rattle.fab_store_sql.specs.States.{IsReady};
 ghost use Rattle.fab_store_sql.specs.Trees.{tables_of};
+ghost use Rattle.fab_store_base.specs.Calls as store;
 ghost use Rattle.fab_store_base.specs.Calls.{IsCounted, Rises};
+ghost use Rattle.fab_store_migration.specs.Judging.{MigratesNot};
+ghost use Rattle.fab_store_migration.specs.Migrations.{IsKnown, IsOld};
 ghost use Rattle.fab_store_tables.specs.Tables.{Tables};
 ghost use Rattle.fab_store.specs.Laws.{Leaves};
 
@@ -14,7 +17,9 @@ use crate::paths::find_paths;
 use fab_names::Name;
 use fab_reach_base::Path;
 use fab_store_base::{LineChanges, OpenFault, Store, StoreFault};
+use fab_store_migration::{MigrationFault, migrate};
 use fab_store_sql::{apply, init};
+use fab_store_tables::Table;
 use fab_world::World;
 use sqlite::{Alter, Connection};
 use std::alloc::{Allocator, Global};
@@ -43,13 +48,28 @@ fn raised(refusals: u64) -> u64
     refusals.saturating_add(1)
 }
 
-/// The count of refused calls after a `load` that gave this fault.
+/// The count of refused calls after a `load` or a `migrate` that gave this fault.
 fn counted(refusals: u64, fault: OpenFault) -> u64
     ensures { IsCounted refusals result fault }
 {
     match fault {
         OpenFault::Store => raised(refusals),
-        OpenFault::Damaged(_) | OpenFault::NewerSchema(_) | OpenFault::Memory => refusals,
+        OpenFault::Damaged(_)
+        | OpenFault::NewerSchema(_)
+        | OpenFault::OldSchema(_)
+        | OpenFault::Memory => refusals,
+    }
+}
+
+/// Why tables are not brought to the schema, as a store tells it.
+fn unmigrated(fault: MigrationFault) -> OpenFault
+    ensures { (t : Tables) → MigratesNot t fault → store.MigratesNot t result }
+{
+    match fault {
+        MigrationFault::NewerSchema(schema) => OpenFault::NewerSchema(schema),
+        MigrationFault::NoSchema => OpenFault::Damaged(Table::Meta),
+        MigrationFault::Store => OpenFault::Store,
+        MigrationFault::Memory => OpenFault::Memory,
     }
 }
 
@@ -129,6 +149,10 @@ impl<A: Allocator + Copy, S: Alter + Drop> Store<A> for SqlStore<S> {
 
     ghost is_ready = { λ s. IsReady (state S.Store s.conn) };
 
+    ghost is_old = { λ s. IsOld (state S.Store s.conn) };
+
+    ghost is_known = { λ s. IsKnown (state S.Store s.conn).now.schema };
+
     ghost tables = { λ s. tables_of (state S.Store s.conn).now.trees };
 
     ghost may_leave = { λ s. Leaves (state S.Store s.conn).may_leave };
@@ -153,7 +177,15 @@ impl<A: Allocator + Copy, S: Alter + Drop> Store<A> for SqlStore<S> {
     }
 
     fn migrate(&mut self) -> Result<bool, OpenFault> {
-        Ok(false)
+        let _outside = self.conn.is_autocommit();
+        match migrate(&mut self.conn, self.heap) {
+            Ok(changed) => Ok(changed),
+            Err(fault) => {
+                let fault = unmigrated(fault);
+                self.refusals = counted(self.refusals, fault);
+                Err(fault)
+            }
+        }
     }
 
     fn commit(&mut self, changes: &LineChanges<A>) -> Result<(), StoreFault> {

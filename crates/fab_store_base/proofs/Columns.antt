@@ -3,7 +3,7 @@ use Rattle.std.proofs.Common.{ℕ, ℤ, pos, ◌≡◌, List, [], Option, None, 
 use Rattle.sqlite.specs.Order.{Row, column}
 use Rattle.sqlite.specs.declared.types.Value.{Value}
 use Rattle.sqlite.specs.declared.types.Value.TheVariants.{Int, Text}
-use Rattle.fab_store_tables.specs.Columns.{text_or_null, number_or_null, meta_row, port_row, holder_row, volume_row, zoning_row, active_row, group_row, part_row, plan_row, approval_row, undo_row, path_row}
+use Rattle.fab_store_tables.specs.Columns.{text_or_null, number_or_null, meta_row, port_row, address_row, holder_row, volume_row, zoning_row, active_row, group_row, part_row, plan_row, approval_row, undo_row, path_row}
 
 -- lines with the same columns are one
 abbrev pub IsToldByColumns : {L : Type 0} → (L → Row) → Type 0
@@ -85,6 +85,10 @@ one_undo = by_back undo_row (λ r. record { plan = text_in (column r 0); sign = 
 pub one_path : IsToldByColumns path_row
 unfolding text_in number_in
 one_path = by_back path_row (λ r. record { host = text_in (column r 0); fabric = text_in (column r 1); initiator = text_in (column r 2); target = text_in (column r 3); volume = text_in (column r 4); lun = number_in (column r 5) }) (λ l. refl)
+
+pub one_address : IsToldByColumns address_row
+unfolding text_in
+one_address = by_back address_row (λ r. record { wwpn = text_in (column r 0); address = text_in (column r 1) }) (λ l. refl)
 
 pub one_port : IsToldByColumns port_row
 unfolding text_in

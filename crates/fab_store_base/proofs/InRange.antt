@@ -4,7 +4,7 @@ use Rattle.fab_store_rows.specs.declared.record_row.PathRow.{PathRow}
 use Rattle.fab_store_rows.specs.declared.table_rows.CountRow.TheVariants.{Schema, Revision}
 use Rattle.fab_store_world.specs.Tables.{IsRowOfPath}
 use Rattle.fab_mapping_base.specs.declared.limits.TheConstants.{LAST_UNIT}
-use Rattle.fab_store_tables.specs.Rows.{AnyRow, count, port, holder, volume, config_row, plan, approval, undo, path, IsInRange}
+use Rattle.fab_store_tables.specs.Rows.{AnyRow, count, port, address, holder, volume, config_row, plan, approval, undo, path, IsInRange}
 use Rattle.fab_store_base.proofs.Positions.{position_in_range}
 use Rattle.fab_store_base.proofs.UnitsOfRows.{config_in_range, undo_in_range}
 use Rattle.fab_store_base.specs.Standing.{StandsRow}
@@ -21,6 +21,7 @@ pub row_in_range : (w : WorldRows) → IsSound w → (x : AnyRow) → StandsRow 
 row_in_range w sound (count (Schema n)) there = omega (arith, there)
 row_in_range w sound (count (Revision n)) there = omega (arith, there, sound.few_changes)
 row_in_range w sound (port r) there = tt
+row_in_range w sound (address r) there = tt
 row_in_range w sound (holder r) there = tt
 row_in_range w sound (volume r) there = sound.inventory.capacities r.name _ there
 row_in_range w sound (config_row r) there = config_in_range w.config sound.config r there

@@ -3,14 +3,12 @@ use Rattle.std.proofs.Common.{ℕ, ◌≡◌, ◌<◌, inl, inr, List, Option, S
 use Rattle.fab_store_world.proofs.PlacedNames.{one_place, placed_name}
 use Rattle.fab_store_world.specs.Positions.{IsPosition, IsOrder}
 use Rattle.fab_store_world.specs.Standing.{IsPlanRow, IsApprovalRow}
-use Rattle.fab_store_world.specs.Tables.{IsPortRow, IsHolderRow, IsVolumeRow, IsConfigRow}
-use Rattle.fab_inventory.specs.Ports.{port_at}
-use Rattle.fab_inventory.specs.declared.port.Port.{Port}
-use Rattle.fab_store_columns.proofs.Unique.{one_port_line, one_holder_line, one_volume_line}
+use Rattle.fab_store_world.specs.Tables.{IsPortRow, IsAddressRow, IsHolderRow, IsVolumeRow, IsConfigRow}
+use Rattle.fab_store_columns.proofs.Unique.{one_port_line, one_address_line, one_holder_line, one_volume_line}
 use Rattle.fab_store_columns.proofs.UniqueConfig.{one_meta_line, one_group_line, one_approval_line, differ}
 use Rattle.fab_store_columns.proofs.UniquePlan.{one_plan_line}
 use Rattle.fab_store_columns.specs.GroupLines.{GroupColumns, ShowsGroup}
-use Rattle.fab_store_columns.specs.InventoryLines.{PortColumns, ShowsPort, HolderColumns, ShowsHolder, VolumeColumns, ShowsVolume}
+use Rattle.fab_store_columns.specs.InventoryLines.{PortColumns, ShowsPort, AddressColumns, ShowsAddress, HolderColumns, ShowsHolder, VolumeColumns, ShowsVolume}
 use Rattle.fab_store_columns.specs.MetaLines.{MetaColumns, ShowsMeta, setting_key}
 use Rattle.fab_store_columns.specs.PlanLines.{PlanColumns, ShowsPlan}
 use Rattle.fab_store_columns.specs.RecordLines.{ApprovalColumns, ShowsApproval}
@@ -22,13 +20,15 @@ use Rattle.fab_names.specs.Names.{SpellsName}
 use Rattle.fab_names.specs.WorldWideNames.{SpellsPlain}
 use Rattle.fab_names.specs.declared.fabric.Fabric.TheVariants.{A, B}
 use Rattle.fab_store_rows.specs.PlanEntries.{PlanEntry}
-use Rattle.fab_store_rows.specs.Standing.{IsSetting, holder_of, volume_of}
+use Rattle.fab_store_rows.specs.Standing.{IsSetting, entry_at, address_at, holder_of, volume_of}
 use Rattle.fab_store_rows.specs.declared.config_row.ConfigRow.TheVariants as config
 use Rattle.fab_store_rows.specs.declared.config_row.GroupRow.{GroupRow}
 use Rattle.fab_store_rows.specs.declared.config_row.GroupRow.TheVariants as group
 use Rattle.fab_store_rows.specs.declared.config_row.SettingRow.{SettingRow}
 use Rattle.fab_store_rows.specs.declared.config_row.SettingRow.TheVariants.{ActiveSet, DefaultZone}
+use Rattle.fab_store_rows.specs.declared.inventory_row.AddressRow.{AddressRow}
 use Rattle.fab_store_rows.specs.declared.inventory_row.HolderRow.{HolderRow}
+use Rattle.fab_store_rows.specs.declared.inventory_row.PortEntry.{PortEntry}
 use Rattle.fab_store_rows.specs.declared.inventory_row.VolumeRow.{VolumeRow}
 use Rattle.fab_store_rows.specs.declared.record_row.ApprovalRow.{ApprovalRow}
 use Rattle.fab_plans_base.specs.Plans.{plan_text}
@@ -92,10 +92,17 @@ module _ (w : WorldRows) where
 
   -- ---- an inventory
 
-  pub one_port_key : (l m : PortColumns) (x y : Port) → ShowsPort l x → ShowsPort m y → IsPortRow w x → IsPortRow w y → l.wwpn ≡ m.wwpn → l ≡ m
+  pub one_port_key : (l m : PortColumns) (x y : PortEntry) → ShowsPort l x → ShowsPort m y → IsPortRow w x → IsPortRow w y → l.wwpn ≡ m.wwpn → l ≡ m
   one_port_key l m x y h k p q e =
-      let same : x ≡ y = one_value (port_at w.inventory.ports) x.name y.name x y (same_ports l.wwpn m.wwpn x.name y.name h.name k.name e) p q in
+      let same : x ≡ y = one_value (entry_at w.inventory.ports) x.name y.name x y (same_ports l.wwpn m.wwpn x.name y.name h.name k.name e) p q in
       one_port_line l m x h (subst (ShowsPort m) (sym same) k)
+
+  pub one_address_key : (l m : AddressColumns) (x y : AddressRow) → ShowsAddress l x → ShowsAddress m y → IsAddressRow w x → IsAddressRow w y → l.wwpn ≡ m.wwpn → l ≡ m
+  one_address_key l m x y h k p q e =
+      let port = same_ports l.wwpn m.wwpn x.port y.port h.port k.port e in
+      let address : x.address ≡ y.address = one_value (address_at w.inventory.ports) x.port y.port x.address y.address port p q in
+      let same : x ≡ y = λ i. record { port = port i; address = address i } in
+      one_address_line l m x h (subst (ShowsAddress m) (sym same) k)
 
   pub one_holder_key : (l m : HolderColumns) (x y : HolderRow) → ShowsHolder l x → ShowsHolder m y → IsHolderRow w x → IsHolderRow w y → l.name ≡ m.name → l ≡ m
   one_holder_key l m x y h k p q e =

@@ -21,7 +21,7 @@ use Rattle.fab_store_base.specs.Opened.{tables_of, HasLines, ArePlansOnce}
 use Rattle.fab_store_base.specs.Standing.{StandsRow}
 use Rattle.fab_store_base.specs.Worlds.{StandsIn, HoldsWorld}
 use Rattle.fab_store_world.specs.PlanRows.{HaveNames}
-use Rattle.fab_store_tables.specs.Columns.{meta_row, port_row, holder_row, volume_row, zoning_row, active_row, group_row, part_row, plan_row, approval_row, undo_row, path_row}
+use Rattle.fab_store_tables.specs.Columns.{meta_row, port_row, address_row, holder_row, volume_row, zoning_row, active_row, group_row, part_row, plan_row, approval_row, undo_row, path_row}
 use Rattle.fab_store_tables.specs.Tables.{table_of, row_of}
 use Rattle.fab_store_tables.specs.declared.stored_line.TableLine.{TableLine}
 use Rattle.fab_store_tables.specs.declared.stored_line.TableLine.TheVariants as line
@@ -32,6 +32,7 @@ use Rattle.fab_store_tables.proofs.LinesAdded.{at_place}
 in_tables : {A : Type 0} (lines : TableLines) (l : TableLine A) → IsIn lines l → Contains (tables_of lines (table_of l)) (row_of l)
 in_tables lines (line.Meta l) there = map_in meta_row lines.meta.items l there
 in_tables lines (line.Port l) there = map_in port_row lines.ports.items l there
+in_tables lines (line.Address l) there = map_in address_row lines.addresses.items l there
 in_tables lines (line.Holder l) there = map_in holder_row lines.holders.items l there
 in_tables lines (line.Volume l) there = map_in volume_row lines.volumes.items l there
 in_tables lines (line.Zoning l) there = map_in zoning_row lines.zoning.items l there
@@ -53,6 +54,7 @@ record IsFrom (A : Type 0) (lines : TableLines) (t : Table) (columns : Row) : Ty
 from_tables : (A : Type 0) (lines : TableLines) (t : Table) (columns : Row) → Contains (tables_of lines t) columns → IsFrom A lines t columns
 from_tables A lines table.Meta columns there = let s = in_map meta_row lines.meta.items columns there in record { line = line.Meta s.0; here = s.1; in_table = refl; is = s.2 }
 from_tables A lines table.Ports columns there = let s = in_map port_row lines.ports.items columns there in record { line = line.Port s.0; here = s.1; in_table = refl; is = s.2 }
+from_tables A lines table.Addresses columns there = let s = in_map address_row lines.addresses.items columns there in record { line = line.Address s.0; here = s.1; in_table = refl; is = s.2 }
 from_tables A lines table.Holders columns there = let s = in_map holder_row lines.holders.items columns there in record { line = line.Holder s.0; here = s.1; in_table = refl; is = s.2 }
 from_tables A lines table.Volumes columns there = let s = in_map volume_row lines.volumes.items columns there in record { line = line.Volume s.0; here = s.1; in_table = refl; is = s.2 }
 from_tables A lines table.Zoning columns there = let s = in_map zoning_row lines.zoning.items columns there in record { line = line.Zoning s.0; here = s.1; in_table = refl; is = s.2 }

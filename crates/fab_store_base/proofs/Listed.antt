@@ -9,9 +9,9 @@ use Rattle.fab_store_world.specs.Standing.{IsOrdered, IsPlanRow, Lacking}
 use Rattle.fab_store_world.specs.Tables.{AreRowsLacking, count_order}
 use Rattle.fab_lemmas.specs.Lists.{IsListOf}
 use Rattle.fab_names.proofs.OrderLaws.{name_total}
-use Rattle.fab_store_world.proofs.InventoryTables.{ports_total, holders_total, volumes_total}
+use Rattle.fab_store_world.proofs.InventoryTables.{entries_total, addresses_total, holders_total, volumes_total}
 use Rattle.fab_store_world.proofs.PathRowOrder as path_rows
-use Rattle.fab_store_world.specs.Inventories.{port_order, holder_order, volume_order}
+use Rattle.fab_store_world.specs.Inventories.{entry_order, address_order, holder_order, volume_order}
 use Rattle.fab_store_world.specs.Paths.{path_row_order}
 use Rattle.fab_store_rows.proofs.OrderOfRows as rows
 use Rattle.fab_store_rows.specs.RowOrder.{row_order}
@@ -24,7 +24,7 @@ use Rattle.fab_store_rows.specs.declared.table_rows.CountRow.{CountRow}
 use Rattle.fab_store_rows.specs.declared.table_rows.CountRow.TheVariants.{Schema, Revision}
 use Rattle.fab_store_rows.specs.declared.table_rows.TableRows.{TableRows}
 use Rattle.fab_store_tables.specs.Listing.{AreDistinct, inventory_rows, config_rows, record_rows, all_rows}
-use Rattle.fab_store_tables.specs.Rows.{AnyRow, count, port, holder, volume, config_row, plan, approval, undo, path}
+use Rattle.fab_store_tables.specs.Rows.{AnyRow, count, port, address, holder, volume, config_row, plan, approval, undo, path}
 use Rattle.fab_store_base.proofs.Distinct.{not_below_itself, sorted_distinct, in_map, map_in, map_distinct, join_distinct}
 use Rattle.fab_store_base.specs.Standing.{StandsOnlyIn}
 use Rattle.fab_world.specs.Worlds.{WorldRows}
@@ -33,13 +33,14 @@ use Rattle.fab_world.specs.Worlds.{WorldRows}
 abbrev kind : AnyRow → ℕ
 kind (count r) = 0
 kind (port r) = 1
-kind (holder r) = 2
-kind (volume r) = 3
-kind (config_row r) = 4
-kind (plan r) = 5
-kind (approval r) = 6
-kind (undo r) = 7
-kind (path r) = 8
+kind (address r) = 2
+kind (holder r) = 3
+kind (volume r) = 4
+kind (config_row r) = 5
+kind (plan r) = 6
+kind (approval r) = 7
+kind (undo r) = 8
+kind (path r) = 9
 
 -- the rows are distinct, and of these lists
 record IsPart (low high : ℕ) (xs : List AnyRow) : Type 0 where
@@ -100,26 +101,27 @@ module _ {A : Type 0} (w other : WorldRows) (t : TableRows A) (h : AreRowsLackin
   plans_listed : IsListOf plan_order (Lacking IsPlanRow other w) t.plans.items
   plans_listed = h.plans ordered also
 
-  inventory_part : IsPart 0 3 (inventory_rows t)
+  inventory_part : IsPart 0 4 (inventory_rows t)
   inventory_part =
-      both_parts 0 0 1 3 _ _ (one_part 0 count (λ r s e. cc) (λ r. refl) t.counts.items (sorted_distinct count_order never_count t.counts.items h.counts.sorted))
-      (both_parts 1 1 2 3 _ _ (one_part 1 port (λ r s e. cc) (λ r. refl) t.ports.items (sorted_distinct port_order (not_below_itself ports_total) t.ports.items h.ports.sorted))
-      (both_parts 2 2 3 3 _ _ (one_part 2 holder (λ r s e. cc) (λ r. refl) t.holders.items (sorted_distinct holder_order (not_below_itself holders_total) t.holders.items h.holders.sorted))
-      (one_part 3 volume (λ r s e. cc) (λ r. refl) t.volumes.items (sorted_distinct volume_order (not_below_itself volumes_total) t.volumes.items h.volumes.sorted)) (omega arith) (omega arith) (omega arith)) (omega arith) (omega arith) (omega arith)) (omega arith) (omega arith) (omega arith)
+      both_parts 0 0 1 4 _ _ (one_part 0 count (λ r s e. cc) (λ r. refl) t.counts.items (sorted_distinct count_order never_count t.counts.items h.counts.sorted))
+      (both_parts 1 1 2 4 _ _ (one_part 1 port (λ r s e. cc) (λ r. refl) t.ports.items (sorted_distinct entry_order (not_below_itself entries_total) t.ports.items h.ports.sorted))
+      (both_parts 2 2 3 4 _ _ (one_part 2 address (λ r s e. cc) (λ r. refl) t.addresses.items (sorted_distinct address_order (not_below_itself addresses_total) t.addresses.items h.addresses.sorted))
+      (both_parts 3 3 4 4 _ _ (one_part 3 holder (λ r s e. cc) (λ r. refl) t.holders.items (sorted_distinct holder_order (not_below_itself holders_total) t.holders.items h.holders.sorted))
+      (one_part 4 volume (λ r s e. cc) (λ r. refl) t.volumes.items (sorted_distinct volume_order (not_below_itself volumes_total) t.volumes.items h.volumes.sorted)) (omega arith) (omega arith) (omega arith)) (omega arith) (omega arith) (omega arith)) (omega arith) (omega arith) (omega arith)) (omega arith) (omega arith) (omega arith)
 
-  config_part : IsPart 4 6 (config_rows t)
+  config_part : IsPart 5 7 (config_rows t)
   config_part =
-      both_parts 4 4 5 6 _ _ (one_part 4 config_row (λ r s e. cc) (λ r. refl) t.config.items (sorted_distinct row_order never_config t.config.items h.config.sorted))
-      (both_parts 5 5 6 6 _ _ (one_part 5 plan (λ r s e. cc) (λ r. refl) t.plans.items (sorted_distinct plan_order never_plan t.plans.items plans_listed.sorted))
-      (one_part 6 approval (λ r s e. cc) (λ r. refl) t.approvals.items (sorted_distinct approval_order never_approval t.approvals.items h.approvals.sorted)) (omega arith) (omega arith) (omega arith)) (omega arith) (omega arith) (omega arith)
+      both_parts 5 5 6 7 _ _ (one_part 5 config_row (λ r s e. cc) (λ r. refl) t.config.items (sorted_distinct row_order never_config t.config.items h.config.sorted))
+      (both_parts 6 6 7 7 _ _ (one_part 6 plan (λ r s e. cc) (λ r. refl) t.plans.items (sorted_distinct plan_order never_plan t.plans.items plans_listed.sorted))
+      (one_part 7 approval (λ r s e. cc) (λ r. refl) t.approvals.items (sorted_distinct approval_order never_approval t.approvals.items h.approvals.sorted)) (omega arith) (omega arith) (omega arith)) (omega arith) (omega arith) (omega arith)
 
-  record_part : IsPart 7 8 (record_rows t)
+  record_part : IsPart 8 9 (record_rows t)
   record_part =
-      both_parts 7 7 8 8 _ _ (one_part 7 undo (λ r s e. cc) (λ r. refl) t.undo.items (sorted_distinct undo_order never_undo t.undo.items h.undo.sorted))
-      (one_part 8 path (λ r s e. cc) (λ r. refl) t.paths.items (sorted_distinct path_row_order never_path t.paths.items h.paths.sorted)) (omega arith) (omega arith) (omega arith)
+      both_parts 8 8 9 9 _ _ (one_part 8 undo (λ r s e. cc) (λ r. refl) t.undo.items (sorted_distinct undo_order never_undo t.undo.items h.undo.sorted))
+      (one_part 9 path (λ r s e. cc) (λ r. refl) t.paths.items (sorted_distinct path_row_order never_path t.paths.items h.paths.sorted)) (omega arith) (omega arith) (omega arith)
 
   pub rows_distinct : AreDistinct (all_rows t)
-  rows_distinct = (both_parts 0 3 4 8 (inventory_rows t) (config_rows t ++ record_rows t) inventory_part (both_parts 4 6 7 8 (config_rows t) (record_rows t) config_part record_part (omega arith) (omega arith) (omega arith)) (omega arith) (omega arith) (omega arith)).distinct
+  rows_distinct = (both_parts 0 4 5 9 (inventory_rows t) (config_rows t ++ record_rows t) inventory_part (both_parts 5 7 8 9 (config_rows t) (record_rows t) config_part record_part (omega arith) (omega arith) (omega arith)) (omega arith) (omega arith) (omega arith)).distinct
 
   P : AnyRow → Type 0
   P = StandsOnlyIn w other
@@ -128,7 +130,7 @@ module _ {A : Type 0} (w other : WorldRows) (t : TableRows A) (h : AreRowsLackin
   unfolding P
   sound =
       in_both P (inventory_rows t) (config_rows t ++ record_rows t)
-      (in_both P _ _ (in_part count t.counts.items P h.counts.sound) (in_both P _ _ (in_part port t.ports.items P h.ports.sound) (in_both P _ _ (in_part holder t.holders.items P h.holders.sound) (in_part volume t.volumes.items P h.volumes.sound))))
+      (in_both P _ _ (in_part count t.counts.items P h.counts.sound) (in_both P _ _ (in_part port t.ports.items P h.ports.sound) (in_both P _ _ (in_part address t.addresses.items P h.addresses.sound) (in_both P _ _ (in_part holder t.holders.items P h.holders.sound) (in_part volume t.volumes.items P h.volumes.sound)))))
       (in_both P (config_rows t) (record_rows t)
       (in_both P _ _ (in_part config_row t.config.items P h.config.sound) (in_both P _ _ (in_part plan t.plans.items P plans_listed.sound) (in_part approval t.approvals.items P h.approvals.sound)))
       (in_both P _ _ (in_part undo t.undo.items P h.undo.sound) (in_part path t.paths.items P h.paths.sound)))
@@ -145,8 +147,9 @@ module _ {A : Type 0} (w other : WorldRows) (t : TableRows A) (h : AreRowsLackin
   complete : (x : AnyRow) → StandsOnlyIn w other x → Contains (all_rows t) x
   complete (count r) p = in_inventory (count r) (left _ _ (count r) (map_in count t.counts.items r (h.counts.complete r p)))
   complete (port r) p = in_inventory (port r) (right (map count t.counts.items) _ (port r) (left _ _ (port r) (map_in port t.ports.items r (h.ports.complete r p))))
-  complete (holder r) p = in_inventory (holder r) (right (map count t.counts.items) _ (holder r) (right (map port t.ports.items) _ (holder r) (left _ _ (holder r) (map_in holder t.holders.items r (h.holders.complete r p)))))
-  complete (volume r) p = in_inventory (volume r) (right (map count t.counts.items) _ (volume r) (right (map port t.ports.items) _ (volume r) (right (map holder t.holders.items) _ (volume r) (map_in volume t.volumes.items r (h.volumes.complete r p)))))
+  complete (address r) p = in_inventory (address r) (right (map count t.counts.items) _ (address r) (right (map port t.ports.items) _ (address r) (left _ _ (address r) (map_in address t.addresses.items r (h.addresses.complete r p)))))
+  complete (holder r) p = in_inventory (holder r) (right (map count t.counts.items) _ (holder r) (right (map port t.ports.items) _ (holder r) (right (map address t.addresses.items) _ (holder r) (left _ _ (holder r) (map_in holder t.holders.items r (h.holders.complete r p))))))
+  complete (volume r) p = in_inventory (volume r) (right (map count t.counts.items) _ (volume r) (right (map port t.ports.items) _ (volume r) (right (map address t.addresses.items) _ (volume r) (right (map holder t.holders.items) _ (volume r) (map_in volume t.volumes.items r (h.volumes.complete r p))))))
   complete (config_row r) p = in_config (config_row r) (left _ _ (config_row r) (map_in config_row t.config.items r (h.config.complete r p)))
   complete (plan r) p = in_config (plan r) (right (map config_row t.config.items) _ (plan r) (left _ _ (plan r) (map_in plan t.plans.items r (plans_listed.complete r p))))
   complete (approval r) p = in_config (approval r) (right (map config_row t.config.items) _ (approval r) (right (map plan t.plans.items) _ (approval r) (map_in approval t.approvals.items r (h.approvals.complete r p))))

@@ -6,7 +6,7 @@ use Rattle.sqlite.specs.declared.types.Value.TheVariants.{Text}
 use Rattle.fab_store_load.specs.declared.fault.Table.{Table}
 use Rattle.fab_store_load.specs.declared.fault.Table.TheVariants as table
 use Rattle.fab_store_base.proofs.KeysOfParts.{one_part_key}
-use Rattle.fab_store_base.proofs.KeysOfRows.{one_meta_key, one_port_key, one_holder_key, one_volume_key, one_group_key, one_plan_key, one_approval_key}
+use Rattle.fab_store_base.proofs.KeysOfRows.{one_meta_key, one_port_key, one_address_key, one_holder_key, one_volume_key, one_group_key, one_plan_key, one_approval_key}
 use Rattle.fab_store_base.specs.Worlds.{IsShown, StandsIn}
 use Rattle.fab_store_tables.specs.Tables.{key_of}
 use Rattle.fab_world.specs.Soundness.{IsSound}
@@ -34,6 +34,7 @@ by_row {columns_of = columns_of} key whole r s h k e = h.is ∙ sym (whole h.lin
 pub one_key : (w : WorldRows) → IsSound w → (t : Table) (r s : Row) → StandsIn w t r → StandsIn w t s → key_of t r ≡ key_of t s → r ≡ s
 one_key w sound table.Meta = by_key (key_of table.Meta) (λ l m x y h k p q e. one_meta_key w l m x y h k p q (text_at 0 _ _ e))
 one_key w sound table.Ports = by_key (key_of table.Ports) (λ l m x y h k p q e. one_port_key w l m x y h k p q (text_at 0 _ _ e))
+one_key w sound table.Addresses = by_key (key_of table.Addresses) (λ l m x y h k p q e. one_address_key w l m x y h k p q (text_at 0 _ _ e))
 one_key w sound table.Holders = by_key (key_of table.Holders) (λ l m x y h k p q e. one_holder_key w l m x y h k p q (text_at 0 _ _ e))
 one_key w sound table.Volumes = by_key (key_of table.Volumes) (λ l m x y h k p q e. one_volume_key w l m x y h k p q (text_at 0 _ _ e))
 one_key w sound table.Zoning = by_row (key_of table.Zoning) (λ l. refl)

@@ -10,7 +10,7 @@ use Rattle.fab_store_rows.specs.declared.config_row.ConfigRow.TheVariants as con
 use Rattle.fab_store_rows.specs.declared.table_rows.CountRow.TheVariants.{Schema, Revision}
 use Rattle.fab_store_tables.proofs.OneRow.{one_row}
 use Rattle.fab_store_tables.proofs.LinesOfTables.{one_table_line}
-use Rattle.fab_store_tables.specs.Rows.{AnyRow, count, port, holder, volume, config_row, plan, approval, undo, path, ShowsRow}
+use Rattle.fab_store_tables.specs.Rows.{AnyRow, count, port, address, holder, volume, config_row, plan, approval, undo, path, ShowsRow}
 use Rattle.fab_store_base.specs.Standing.{StandsRow}
 use Rattle.fab_store_base.specs.Worlds.{IsMetaRow, StandsIn}
 use Rattle.fab_store_tables.specs.Tables.{table_of, row_of}
@@ -37,6 +37,7 @@ module _ {A : Type 0} (w : WorldRows) where
   stands_in (count (Schema n)) l s stands = subst Stands (sym s.is) (record { line = s.columns; is = refl; shown = meta.Schema n; shows = s.shows; stands = stands })
   stands_in (count (Revision n)) l s stands = subst Stands (sym s.is) (record { line = s.columns; is = refl; shown = meta.Revision n; shows = s.shows; stands = stands })
   stands_in (port r) l s stands = subst Stands (sym s.is) (record { line = s.columns; is = refl; shown = r; shows = s.shows; stands = stands })
+  stands_in (address r) l s stands = subst Stands (sym s.is) (record { line = s.columns; is = refl; shown = r; shows = s.shows; stands = stands })
   stands_in (holder r) l s stands = subst Stands (sym s.is) (record { line = s.columns; is = refl; shown = r; shows = s.shows; stands = stands })
   stands_in (volume r) l s stands = subst Stands (sym s.is) (record { line = s.columns; is = refl; shown = r; shows = s.shows; stands = stands })
   stands_in (config_row (config.Setting r)) l s stands = subst Stands (sym s.is) (record { line = s.columns; is = refl; shown = meta.Setting r; shows = s.shows; stands = stands })
@@ -57,6 +58,7 @@ module _ {A : Type 0} (w : WorldRows) where
       by (meta.Revision n) shows stands = record { row = count (Revision n); line = line.Meta s.line; shows = record { columns = s.line; shows = shows; is = refl }; stands = stands; in_table = refl; is = sym s.is }
       by (meta.Setting r) shows stands = record { row = config_row (config.Setting r); line = line.Meta s.line; shows = record { columns = s.line; shows = shows; is = refl }; stands = stands; in_table = refl; is = sym s.is }
   standing table.Ports columns s = record { row = port s.shown; line = line.Port s.line; shows = record { columns = s.line; shows = s.shows; is = refl }; stands = s.stands; in_table = refl; is = sym s.is }
+  standing table.Addresses columns s = record { row = address s.shown; line = line.Address s.line; shows = record { columns = s.line; shows = s.shows; is = refl }; stands = s.stands; in_table = refl; is = sym s.is }
   standing table.Holders columns s = record { row = holder s.shown; line = line.Holder s.line; shows = record { columns = s.line; shows = s.shows; is = refl }; stands = s.stands; in_table = refl; is = sym s.is }
   standing table.Volumes columns s = record { row = volume s.shown; line = line.Volume s.line; shows = record { columns = s.line; shows = s.shows; is = refl }; stands = s.stands; in_table = refl; is = sym s.is }
   standing table.Zoning columns s = record { row = config_row (config.Zoning s.shown); line = line.Zoning s.line; shows = record { columns = s.line; shows = s.shows; is = refl }; stands = s.stands; in_table = refl; is = sym s.is }

@@ -1,14 +1,12 @@
 -- Whether a row of a table stands in a world.
-use Rattle.std.proofs.Common.{ℕ, ◌≡◌, inl, inr, List, Contains, Option, Some, Bool, true, false, refl, subst}
+use Rattle.std.proofs.Common.{ℕ, ◌≡◌, inl, inr, List, Contains, Option, None, Some, Bool, true, false, refl, subst}
 use Rattle.std.specs.Coded.{Coded, code_by, coded×, coded_ℕ, coded_bool, coded_option, coded_list}
 use Rattle.std.specs.FinMap as map
 use Rattle.std.specs.FinSet as set
 use Rattle.std.proofs.lemmas.List.Elements.{All-contains}
 use Rattle.fab_names.specs.Codes.{name_code}
 use Rattle.fab_inventory.specs.Codes.{known_code, holder_code, volume_code}
-use Rattle.fab_inventory.specs.Ports.{port_at}
 use Rattle.fab_inventory.specs.declared.port.Known.{Known}
-use Rattle.fab_inventory.specs.declared.port.Port.{Port}
 use Rattle.fab_lemmas.specs.Firsts.{HasAt}
 use Rattle.fab_lemmas.specs.MapsOfSets.{has}
 use Rattle.fab_mapping_base.specs.Groups.{HostGroupRows, StorageGroupRows}
@@ -17,7 +15,7 @@ use Rattle.fab_reach_base.specs.Records.{ConfigRows, zoning_at}
 use Rattle.fab_reach_base.proofs.Reached.{path_of_told}
 use Rattle.fab_reach_base.proofs.Telling.{Told, both, all_three, either, negated, as_told, same_by, in_list, at_key}
 use Rattle.fab_store_rows.specs.PlanEntries.{PlanEntry}
-use Rattle.fab_store_rows.specs.Standing.{IsSetting, HasItem, IsHostHead, IsStorageHead, IsGroup, HasPart, IsPart, holder_of, volume_of}
+use Rattle.fab_store_rows.specs.Standing.{IsSetting, HasItem, IsHostHead, IsStorageHead, IsGroup, HasPart, IsPart, entry_at, address_at, holder_of, volume_of}
 use Rattle.fab_store_rows.specs.declared.config_row.ConfigRow.{ConfigRow}
 use Rattle.fab_store_rows.specs.declared.config_row.ConfigRow.TheVariants as config
 use Rattle.fab_store_rows.specs.declared.config_row.GroupRow.{GroupRow}
@@ -30,7 +28,9 @@ use Rattle.fab_store_rows.specs.declared.config_row.StoragePart.{StoragePart}
 use Rattle.fab_store_rows.specs.declared.config_row.StoragePart.TheVariants as part
 use Rattle.fab_store_rows.specs.declared.config_row.ZoningItem.{ZoningItem}
 use Rattle.fab_store_rows.specs.declared.config_row.ZoningItem.TheVariants.{Alias, Zone, Set}
+use Rattle.fab_store_rows.specs.declared.inventory_row.AddressRow.{AddressRow}
 use Rattle.fab_store_rows.specs.declared.inventory_row.HolderRow.{HolderRow}
+use Rattle.fab_store_rows.specs.declared.inventory_row.PortEntry.{PortEntry}
 use Rattle.fab_store_rows.specs.declared.inventory_row.VolumeRow.{VolumeRow}
 use Rattle.fab_store_rows.specs.declared.record_row.ApprovalRow.{ApprovalRow}
 use Rattle.fab_store_rows.specs.declared.record_row.PathRow.{PathRow}
@@ -52,7 +52,7 @@ use Rattle.fab_plans_kept.specs.Texts.{IsTextOf}
 use Rattle.fab_store_world.specs.PlanRows.{IsRowOf, IsApprovalOf, IsChanged}
 use Rattle.fab_store_world.specs.Positions.{IsPosition}
 use Rattle.fab_store_world.specs.Standing.{IsPlanRow, IsApprovalRow, IsUndoRow}
-use Rattle.fab_store_world.specs.Tables.{IsPortRow, IsHolderRow, IsVolumeRow, IsConfigRow, IsRowOfPath}
+use Rattle.fab_store_world.specs.Tables.{IsPortRow, IsAddressRow, IsHolderRow, IsVolumeRow, IsConfigRow, IsRowOfPath}
 use Rattle.fab_store_base.specs.Worlds.{IsMetaRow}
 use Rattle.fab_plans_kept.specs.Codes.{step_code}
 use Rattle.fab_world.specs.Codes.{row_code}
@@ -74,11 +74,14 @@ among_told code xs x =
 
 -- ---- the inventory
 
-port_code : Coded Port
-port_code = code_by (ℕ × Known) (coded× coded_ℕ known_code) (λ p. (p.name, record { node = p.node; at = p.at; holder = p.holder })) (λ e. record { name = e.0; node = e.1.node; at = e.1.at; holder = e.1.holder }) (λ _. refl)
+entry_code : Coded PortEntry
+entry_code = code_by (ℕ × Known) (coded× coded_ℕ known_code) (λ p. (p.name, record { node = p.node; at = p.at; address = None; holder = p.holder })) (λ e. record { name = e.0; node = e.1.node; at = e.1.at; holder = e.1.holder }) (λ _. refl)
 
-pub port_told : (w : WorldRows) (p : Port) → Told (IsPortRow w p)
-port_told w p = same_by (coded_option port_code) (port_at w.inventory.ports p.name) (Some p)
+pub port_told : (w : WorldRows) (r : PortEntry) → Told (IsPortRow w r)
+port_told w r = same_by (coded_option entry_code) (entry_at w.inventory.ports r.name) (Some r)
+
+pub address_told : (w : WorldRows) (r : AddressRow) → Told (IsAddressRow w r)
+address_told w r = same_by (coded_option coded_ℕ) (address_at w.inventory.ports r.port) (Some r.address)
 
 pub holder_told : (w : WorldRows) (r : HolderRow) → Told (IsHolderRow w r)
 holder_told w r = same_by (coded_option holder_code) (map.get w.inventory.holders r.name) (Some (holder_of r))

@@ -1,7 +1,7 @@
 -- Whether a row that stands in one world stands in another.
 use Rattle.std.proofs.Common.{◌≡◌, inl, inr, sym, ◌∙◌, subst}
 use Rattle.sqlite.specs.Order.{Row}
-use Rattle.fab_store_columns.proofs.Unique.{one_port, one_holder, one_volume}
+use Rattle.fab_store_columns.proofs.Unique.{one_port, one_address, one_holder, one_volume}
 use Rattle.fab_store_columns.proofs.UniqueConfig.{one_meta, one_zoning, one_active, one_group, one_part, one_approval, one_path}
 use Rattle.fab_store_columns.proofs.UniquePlan.{one_plan}
 use Rattle.fab_store_load.specs.declared.fault.Table.{Table}
@@ -10,7 +10,7 @@ use Rattle.fab_reach_base.proofs.Telling.{Told}
 use Rattle.fab_store_rows.specs.declared.config_row.ConfigRow.TheVariants as config
 use Rattle.fab_store_base.proofs.Columns as columns
 use Rattle.fab_store_base.proofs.Columns.{IsToldByColumns}
-use Rattle.fab_store_base.proofs.Standing.{meta_told, port_told, holder_told, volume_told, config_told, plan_told, approval_told, undo_told, path_told}
+use Rattle.fab_store_base.proofs.Standing.{meta_told, port_told, address_told, holder_told, volume_told, config_told, plan_told, approval_told, undo_told, path_told}
 use Rattle.fab_store_base.specs.Worlds.{IsShown, StandsIn}
 use Rattle.fab_store_tables.proofs.Unique.{one_undo}
 use Rattle.fab_world.specs.Worlds.{WorldRows}
@@ -27,6 +27,7 @@ shown_told {Shows = Shows} {Q = Q} one_line one_row each row h =
 pub row_told : (w v : WorldRows) (t : Table) (row : Row) → StandsIn w t row → Told (StandsIn v t row)
 row_told w v table.Meta = shown_told columns.one_meta one_meta (λ r _. meta_told v r)
 row_told w v table.Ports = shown_told columns.one_port one_port (λ r _. port_told v r)
+row_told w v table.Addresses = shown_told columns.one_address one_address (λ r _. address_told v r)
 row_told w v table.Holders = shown_told columns.one_holder one_holder (λ r _. holder_told v r)
 row_told w v table.Volumes = shown_told columns.one_volume one_volume (λ r _. volume_told v r)
 row_told w v table.Zoning = shown_told columns.one_zoning one_zoning (λ r _. config_told v (config.Zoning r))

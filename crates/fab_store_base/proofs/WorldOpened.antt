@@ -12,7 +12,7 @@ use Rattle.fab_store_rows.specs.declared.table_rows.CountRow.{CountRow}
 use Rattle.fab_store_rows.specs.declared.table_rows.CountRow.TheVariants.{Schema, Revision}
 use Rattle.fab_store_rows.specs.declared.table_rows.TableRows.{TableRows}
 use Rattle.fab_store_tables.specs.Reading.{HasRow, AreRowsOf, HasOddLine}
-use Rattle.fab_store_tables.specs.Rows.{AnyRow, count, port, holder, volume, config_row, plan, approval, undo, path}
+use Rattle.fab_store_tables.specs.Rows.{AnyRow, count, port, address, holder, volume, config_row, plan, approval, undo, path}
 use Rattle.fab_store_tables.specs.declared.lines.TableLines.{TableLines}
 use Rattle.fab_store_base.proofs.LinesHeld.{no_odd, holds_rows, has_lines, rows_stand, have_names}
 use Rattle.fab_store_base.proofs.PlansTold.{plans_told, order_told, plans_stand, texts_told}
@@ -37,6 +37,7 @@ module _ {A : Type 0} (t : TableRows A) (w : WorldRows) (sound : IsSound w) wher
   standing_rows : AreTableRows t w → (x : AnyRow) → HasRow t x ↔ StandsRow w x
   standing_rows h (count r) = let are = h.records_are.counts_are r in (λ there. count_there w r (are.0 there), λ is. are.1 (count_here w r is))
   standing_rows h (port r) = h.records_are.inventory_are.ports_are r
+  standing_rows h (address r) = h.records_are.inventory_are.addresses_are r
   standing_rows h (holder r) = h.records_are.inventory_are.holders_are r
   standing_rows h (volume r) = h.records_are.inventory_are.volumes_are r
   standing_rows h (config_row r) = h.records_are.config_are r
@@ -49,7 +50,7 @@ module _ {A : Type 0} (t : TableRows A) (w : WorldRows) (sound : IsSound w) wher
   table_rows texts names are = record {
     records_are = record {
       counts_are = λ r. (λ there. count_here w r ((are (count r)).0 there), λ is. (are (count r)).1 (count_there w r is));
-      inventory_are = record { ports_are = λ r. are (port r); holders_are = λ r. are (holder r); volumes_are = λ r. are (volume r) };
+      inventory_are = record { ports_are = λ r. are (port r); addresses_are = λ r. are (address r); holders_are = λ r. are (holder r); volumes_are = λ r. are (volume r) };
       config_are = λ r. are (config_row r);
       plans_are = record {
         rows_are = plans_told w sound texts t.plans.items (λ r. are (plan r)) names;

@@ -4,9 +4,9 @@ use Rattle.fab_store_columns.specs.MetaLines.{MetaColumns, ShowsMeta}
 use Rattle.fab_store_columns.specs.declared.meta_lines.MetaRow.{MetaRow}
 use Rattle.fab_store_columns.specs.declared.meta_lines.MetaRow.TheVariants as meta
 use Rattle.fab_store_load.specs.declared.fault.Table.TheVariants as table
-use Rattle.fab_store_base.proofs.Standing.{meta_told, port_told, holder_told, volume_told, config_told, plan_told, approval_told, undo_told, path_told}
+use Rattle.fab_store_base.proofs.Standing.{meta_told, port_told, address_told, holder_told, volume_told, config_told, plan_told, approval_told, undo_told, path_told}
 use Rattle.fab_store_tables.specs.Listing.{AreLinesOf}
-use Rattle.fab_store_tables.specs.Rows.{AnyRow, count, port, holder, volume, config_row, plan, approval, undo, path, ShowsRow}
+use Rattle.fab_store_tables.specs.Rows.{AnyRow, count, port, address, holder, volume, config_row, plan, approval, undo, path, ShowsRow}
 use Rattle.fab_store_base.proofs.InRange.{row_in_range}
 use Rattle.fab_store_base.specs.Standing.{StandsRow, StandsOnlyIn}
 use Rattle.fab_store_rows.specs.declared.config_row.ConfigRow.TheVariants as config
@@ -31,6 +31,7 @@ module _ {A : Type 0} (before after : WorldRows) (sound : IsSound after) (rows :
   pub written : IsWritten after
   written table.Meta = meta_written
   written table.Ports = λ r h. ⊎_elim (shown table.Ports r) (λ none. let s = line_of (port r) h none in (s.1.columns, s.1.shows)) (port_told before r)
+  written table.Addresses = λ r h. ⊎_elim (shown table.Addresses r) (λ none. let s = line_of (address r) h none in (s.1.columns, s.1.shows)) (address_told before r)
   written table.Holders = λ r h. ⊎_elim (shown table.Holders r) (λ none. let s = line_of (holder r) h none in (s.1.columns, s.1.shows)) (holder_told before r)
   written table.Volumes = λ r h. ⊎_elim (shown table.Volumes r) (λ none. let s = line_of (volume r) h none in (s.1.columns, s.1.shows)) (volume_told before r)
   written table.Zoning = λ r h. ⊎_elim (shown table.Zoning r) (λ none. let s = line_of (config_row (config.Zoning r)) h none in (s.1.columns, s.1.shows)) (config_told before (config.Zoning r))

@@ -1,12 +1,14 @@
 -- What a call of a store tells where it gives nothing.
-use Rattle.std.specs.Prelude.{◌≡◌, ◌<◌, ◌≤◌, ◌+◌, ◌^◌, ◌-◌, min, ℕ}
+use Rattle.std.specs.Prelude.{◌≡◌, ◌⊎◌, ◌<◌, ◌≤◌, ◌+◌, ◌^◌, ◌-◌, min, ℕ}
 use Rattle.fab_store_world.specs.Standing.{HaveRows}
 use Rattle.fab_store_rows.specs.declared.table_rows.TheConstants.{SCHEMA}
+use Rattle.fab_store_load.specs.declared.fault.Table.TheVariants.{Meta}
 use Rattle.fab_store_tables.specs.Tables.{Tables}
+use Rattle.fab_store_tables.specs.Versions.{TellsVersion}
 use Rattle.fab_world.specs.Soundness.{IsSound}
 use Rattle.fab_world.specs.Worlds.{WorldRows}
 use Rattle.fab_store_base.specs.declared.faults.OpenFault.{OpenFault}
-use Rattle.fab_store_base.specs.declared.faults.OpenFault.TheVariants.{Damaged, NewerSchema, Store, Memory}
+use Rattle.fab_store_base.specs.declared.faults.OpenFault.TheVariants.{Damaged, NewerSchema, OldSchema, Store, Memory}
 use Rattle.fab_store_base.specs.Worlds.{HoldsWorld, TellsSchema, IsWritten}
 
 -- the count of refused calls rises by one; at its greatest value it stays
@@ -23,9 +25,18 @@ abbrev pub TellsNoNewer : Tables → Type 0
 TellsNoNewer t = (n : ℕ) → TellsSchema t n → n ≤ SCHEMA
 
 -- no newer schema is told, and no sound world whose rows are all written in lines has the rows; or a
--- newer schema is told
+-- newer schema is told, or an older one
 abbrev pub OpensNot : Tables → OpenFault → Type 0
 OpensNot t (Damaged table) = TellsNoNewer t × ((w : WorldRows) → IsWritten w → HaveRows w → HoldsWorld t w → ¬ IsSound w)
 OpensNot t (NewerSchema n) = TellsSchema t n × (SCHEMA < n)
+OpensNot t (OldSchema n) = TellsVersion t n × (n < SCHEMA)
 OpensNot t Store = Unit {0}
 OpensNot t Memory = Unit {0}
+
+-- a newer schema is told, or none that ever was
+abbrev pub MigratesNot : Tables → OpenFault → Type 0
+MigratesNot t (Damaged table) = (table ≡ Meta) × (((n : ℕ) → ¬ TellsVersion t n) ⊎ TellsVersion t 0)
+MigratesNot t (NewerSchema n) = TellsVersion t n × (SCHEMA < n)
+MigratesNot t (OldSchema n) = ⊥
+MigratesNot t Store = Unit {0}
+MigratesNot t Memory = Unit {0}

@@ -7,7 +7,7 @@ use Rattle.fab_store_tables.specs.Rows.{AnyRow, ShowsRow}
 use Rattle.fab_store_tables.specs.declared.lines.TableLines.{TableLines}
 use Rattle.fab_store_base.specs.Standing.{StandsRow}
 use Rattle.fab_store_base.specs.Worlds.{HoldsWorld}
-use Rattle.fab_store_tables.specs.Columns.{meta_row, port_row, holder_row, volume_row, zoning_row, active_row, group_row, part_row, plan_row, approval_row, undo_row, path_row}
+use Rattle.fab_store_tables.specs.Columns.{meta_row, port_row, address_row, holder_row, volume_row, zoning_row, active_row, group_row, part_row, plan_row, approval_row, undo_row, path_row}
 use Rattle.fab_store_tables.specs.Tables.{Tables}
 use Rattle.fab_store_tables.specs.declared.stored_line.TableLine.{TableLine}
 use Rattle.fab_world.specs.Soundness.{IsSound}
@@ -17,6 +17,7 @@ use Rattle.fab_world.specs.Worlds.{WorldRows}
 abbrev pub tables_of : TableLines → Tables
 tables_of t table.Meta = map meta_row t.meta.items
 tables_of t table.Ports = map port_row t.ports.items
+tables_of t table.Addresses = map address_row t.addresses.items
 tables_of t table.Holders = map holder_row t.holders.items
 tables_of t table.Volumes = map volume_row t.volumes.items
 tables_of t table.Zoning = map zoning_row t.zoning.items

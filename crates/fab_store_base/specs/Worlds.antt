@@ -2,9 +2,9 @@
 use Rattle.std.specs.Prelude.{◌≡◌, ◌↔◌, ℕ, List, Contains}
 use Rattle.sqlite.specs.Order.{Row}
 use Rattle.fab_store_world.specs.Standing.{IsPlanRow, IsApprovalRow, IsUndoRow}
-use Rattle.fab_store_world.specs.Tables.{IsCountRow, IsPortRow, IsHolderRow, IsVolumeRow, IsConfigRow, IsRowOfPath}
+use Rattle.fab_store_world.specs.Tables.{IsCountRow, IsPortRow, IsAddressRow, IsHolderRow, IsVolumeRow, IsConfigRow, IsRowOfPath}
 use Rattle.fab_store_columns.specs.GroupLines.{ShowsGroup, ShowsPart}
-use Rattle.fab_store_columns.specs.InventoryLines.{ShowsPort, ShowsHolder, ShowsVolume}
+use Rattle.fab_store_columns.specs.InventoryLines.{ShowsPort, ShowsAddress, ShowsHolder, ShowsVolume}
 use Rattle.fab_store_columns.specs.MetaLines.{ShowsMeta}
 use Rattle.fab_store_columns.specs.PlanLines.{ShowsPlan}
 use Rattle.fab_store_columns.specs.RecordLines.{ShowsApproval, ShowsPath}
@@ -18,7 +18,7 @@ use Rattle.fab_reach_base.specs.declared.path.Path.{Path}
 use Rattle.fab_store_rows.specs.declared.config_row.ConfigRow.TheVariants as config
 use Rattle.fab_store_rows.specs.declared.record_row.PathRow.{PathRow}
 use Rattle.fab_store_rows.specs.declared.table_rows.CountRow.TheVariants as count
-use Rattle.fab_store_tables.specs.Columns.{meta_row, port_row, holder_row, volume_row, zoning_row, active_row, group_row, part_row, plan_row, approval_row, undo_row, path_row}
+use Rattle.fab_store_tables.specs.Columns.{meta_row, port_row, address_row, holder_row, volume_row, zoning_row, active_row, group_row, part_row, plan_row, approval_row, undo_row, path_row}
 use Rattle.fab_store_tables.specs.Tables.{Tables}
 use Rattle.fab_store_tables.specs.UndoLines.{ShowsUndo}
 use Rattle.fab_world.specs.Worlds.{WorldRows}
@@ -41,6 +41,7 @@ IsMetaRow w (meta.Setting r) = IsConfigRow w (config.Setting r)
 abbrev pub StandsIn : WorldRows → Table → Row → Type 0
 StandsIn w table.Meta = IsShown meta_row ShowsMeta (IsMetaRow w)
 StandsIn w table.Ports = IsShown port_row ShowsPort (IsPortRow w)
+StandsIn w table.Addresses = IsShown address_row ShowsAddress (IsAddressRow w)
 StandsIn w table.Holders = IsShown holder_row ShowsHolder (IsHolderRow w)
 StandsIn w table.Volumes = IsShown volume_row ShowsVolume (IsVolumeRow w)
 StandsIn w table.Zoning = IsShown zoning_row ShowsZoning (λ r. IsConfigRow w (config.Zoning r))
@@ -76,6 +77,7 @@ AreAllShown {L} {X} Shows P = (x : X) → P x → (l : L) × Shows l x
 abbrev pub IsWrittenIn : WorldRows → Table → Type 0
 IsWrittenIn w table.Meta = AreAllShown ShowsMeta (IsMetaRow w)
 IsWrittenIn w table.Ports = AreAllShown ShowsPort (IsPortRow w)
+IsWrittenIn w table.Addresses = AreAllShown ShowsAddress (IsAddressRow w)
 IsWrittenIn w table.Holders = AreAllShown ShowsHolder (IsHolderRow w)
 IsWrittenIn w table.Volumes = AreAllShown ShowsVolume (IsVolumeRow w)
 IsWrittenIn w table.Zoning = AreAllShown ShowsZoning (λ r. IsConfigRow w (config.Zoning r))

@@ -13,6 +13,8 @@ pub enum OpenFault {
     Damaged(Table),
     /// The tables are of this schema, which is newer than `SCHEMA`.
     NewerSchema(u64),
+    /// The tables are of this schema, which is older than `SCHEMA`.
+    OldSchema(u64),
     /// A call of the store was refused, and counted.
     Store,
     /// There was no memory.

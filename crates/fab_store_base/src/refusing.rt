@@ -9,7 +9,7 @@ use fab_world::World;
 use std::alloc::Allocator;
 
 /// A store that refuses one call, which it does not make, and hands on all others to the store in
-/// it: for tests. `load`, `commit` and `paths_of` count as calls.
+/// it: for tests. `load`, `migrate`, `commit` and `paths_of` count as calls.
 #[derive(Drop)]
 pub struct RefusingStore<S> {
     inner: S,
@@ -66,6 +66,10 @@ impl<A: Allocator + Copy, S: Store<A>> Store<A> for RefusingStore<S> {
 
     ghost is_ready = { λ s. S.is_ready s.inner };
 
+    ghost is_old = { λ s. S.is_old s.inner };
+
+    ghost is_known = { λ s. S.is_known s.inner };
+
     ghost tables = { λ s. S.tables s.inner };
 
     ghost may_leave = { λ s. S.may_leave s.inner };
@@ -86,6 +90,9 @@ impl<A: Allocator + Copy, S: Store<A>> Store<A> for RefusingStore<S> {
     }
 
     fn migrate(&mut self) -> Result<bool, OpenFault> {
+        if is_refused(&mut self.left, &mut self.unmade) {
+            return Err(OpenFault::Store);
+        }
         self.inner.migrate()
     }
 

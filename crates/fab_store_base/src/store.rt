@@ -1,9 +1,10 @@
 //! Where the tables are kept.
-ghost use Rattle.std.specs.Prelude.{◌≡◌, ◌⊎◌, ℕ, false, Ok, IfOk, IfErr, OnOk, OnErr};
+ghost use Rattle.std.specs.Prelude.{◌≡◌, ◌⊎◌, ℕ, false, IsTrue, IfOk, IfErr, OnOk, OnErr};
 ghost use Rattle.fab_store_tables.specs.Tables.{Tables, CanChange, AreChanged};
+ghost use Rattle.fab_store_tables.specs.Versions.{IsMigrated};
 ghost use Rattle.fab_world.specs.Soundness.{IsSound};
 ghost use Rattle.fab_store_base.specs.Worlds.{HoldsWorld, IsWritten, ArePathsIn};
-ghost use Rattle.fab_store_base.specs.Calls.{OpensNot, IsCounted, Rises};
+ghost use Rattle.fab_store_base.specs.Calls.{OpensNot, MigratesNot, IsCounted, Rises};
 
 use crate::{OpenFault, StoreFault};
 use fab_names::Name;
@@ -25,6 +26,12 @@ pub trait Store<A: Allocator + Copy>: Sized + Drop {
     // Where it is open, it has the tables of the schema, and nothing is pending.
     ghost is_ready: { Self → Type 0 };
 
+    // It is open, nothing is pending, and it has the tables of the schema before, which tell it.
+    ghost is_old: { Self → Type 0 };
+
+    // It has the tables of the schema, or of the one before.
+    ghost is_known: { Self → Type 0 };
+
     ghost tables: { Self → Tables };
 
     // What a stop at this moment may leave.
@@ -40,9 +47,9 @@ pub trait Store<A: Allocator + Copy>: Sized + Drop {
     /// The world that the tables have. Nothing is changed.
     ///
     /// # Errors
-    /// `NewerSchema` where a newer schema stands in the settings; `Damaged` where none does, and the
-    /// rows are not those of a sound world; `Store` where a call was refused, also because the tables
-    /// are not those of the schema; `Memory`.
+    /// `NewerSchema` where a newer schema stands in the settings, `OldSchema` where an older one does;
+    /// `Damaged` where neither does, and the rows are not those of a sound world; `Store` where a call
+    /// was refused, also because the tables are not those of the schema; `Memory`.
     fn load(&mut self, alloc: A) -> Result<World<A>, OpenFault>
         ensures clean { is_clean self.new → is_clean self.old }
         ensures ready { is_clean self.new → OnOk result (is_open self.new × is_ready self.new) }
@@ -54,11 +61,25 @@ pub trait Store<A: Allocator + Copy>: Sized + Drop {
         ensures uncounted { OnOk result (refused self.new ≡ refused self.old) }
         ensures stop { is_clean self.new → (left : Tables) → may_leave self.new left → may_leave self.old left };
 
-    /// Brings the tables to the present schema, and tells whether it changed them. There is one schema,
-    /// so it tells that it changed none: no call is made, and none is counted.
+    /// Brings the tables to the present schema, in one transaction, and tells whether it changed them:
+    /// those of the schema before get a table of addresses, which is empty, and a setting that tells the
+    /// present schema; no other row is changed.
+    ///
+    /// # Errors
+    /// `NewerSchema` where a newer schema stands in the settings; `Damaged` where none stands there that
+    /// ever was; `Store` where a call was refused, also because there are no settings or the tables are
+    /// not those of the schema that is told; `Memory`. The tables are those before, if it is still open.
     fn migrate(&mut self) -> Result<bool, OpenFault>
-        ensures told { result ≡ Ok false }
-        ensures kept { self.new ≡ self.old };
+        ensures clean { is_clean self.new → is_clean self.old }
+        ensures done { is_clean self.new → IfOk result (λ changed. IsTrue changed → is_old self.old × is_open self.new × IsMigrated (tables self.old) (tables self.new)) }
+        ensures unchanged { is_clean self.new → IfOk result (λ changed. changed ≡ false → is_open self.new → is_open self.old × (tables self.new ≡ tables self.old)) }
+        ensures present { IfOk result (λ changed. changed ≡ false → ¬ is_old self.old) }
+        ensures failed { is_clean self.new → OnErr result (is_open self.new → is_open self.old × (tables self.new ≡ tables self.old)) }
+        ensures fault { is_clean self.new → is_known self.old → IfErr result (MigratesNot (tables self.old)) }
+        ensures counted { IfErr result (IsCounted (refused self.old) (refused self.new)) }
+        ensures uncounted { OnOk result (refused self.new ≡ refused self.old) }
+        ensures alone { is_clean self.new → IfOk result (λ changed. IsTrue changed → (left : Tables) → may_leave self.new left → left ≡ tables self.new) }
+        ensures stop { is_clean self.new → (left : Tables) → may_leave self.new left → may_leave self.old left ⊎ (is_old self.old × IsMigrated (tables self.old) left) };
 
     /// Makes the changes, all or none.
     ///

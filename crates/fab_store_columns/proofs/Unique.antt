@@ -5,13 +5,14 @@ use Rattle.fab_names.specs.Places.{Position}
 use Rattle.fab_names.specs.declared.fabric.Fabric.{Fabric}
 use Rattle.fab_names.proofs.Unique as unique
 use Rattle.fab_names.proofs.Numerals as numerals
-use Rattle.fab_inventory.specs.declared.port.Port.{Port}
 use Rattle.fab_inventory.specs.declared.holder.HolderKind.{HolderKind}
 use Rattle.fab_inventory.specs.declared.holder.HolderKind.TheVariants.{Host, Array}
+use Rattle.fab_store_rows.specs.declared.inventory_row.PortEntry.{PortEntry}
+use Rattle.fab_store_rows.specs.declared.inventory_row.AddressRow.{AddressRow}
 use Rattle.fab_store_rows.specs.declared.inventory_row.HolderRow.{HolderRow}
 use Rattle.fab_store_rows.specs.declared.inventory_row.VolumeRow.{VolumeRow}
 use Rattle.fab_store_columns_base.specs.Columns.{ShowsOption, ShowsNumber, ShowsDecimal, ShowsPlace, ShowsAt, kind_text, flag_number}
-use Rattle.fab_store_columns.specs.InventoryLines.{PortColumns, ShowsPort, HolderColumns, ShowsHolder, VolumeColumns, ShowsVolume}
+use Rattle.fab_store_columns.specs.InventoryLines.{PortColumns, ShowsPort, AddressColumns, ShowsAddress, HolderColumns, ShowsHolder, VolumeColumns, ShowsVolume}
 use Rattle.fab_store_columns_base.proofs.Texts.{decimal_spells}
 
 -- ---- columns
@@ -99,7 +100,7 @@ same_option (Some c) (Some d) (Some x) h k = ap Some (same_name c d x h k)
 
 -- ---- the inventory's tables
 
-pub one_port : (l : PortColumns) (p q : Port) → ShowsPort l p → ShowsPort l q → p ≡ q
+pub one_port : (l : PortColumns) (p q : PortEntry) → ShowsPort l p → ShowsPort l q → p ≡ q
 one_port l p q h k =
     let name = unique.one_wwn l.wwpn p.name q.name h.name.0 k.name.0 in
     let node = unique.one_wwn l.wwnn p.node q.node h.node.0 k.node.0 in
@@ -107,13 +108,25 @@ one_port l p q h k =
     let holder = one_option l.holder p.holder q.holder h.holder k.holder in
     λ i. record { name = name i; node = node i; at = at i; holder = holder i }
 
-pub one_port_line : (l m : PortColumns) (p : Port) → ShowsPort l p → ShowsPort m p → l ≡ m
+pub one_port_line : (l m : PortColumns) (p : PortEntry) → ShowsPort l p → ShowsPort m p → l ≡ m
 one_port_line l m p h k =
     let wwpn = h.name.1 ∙ sym k.name.1 in
     let wwnn = h.node.1 ∙ sym k.node.1 in
     let at = same_at l.fabric l.domain l.slot m.fabric m.domain m.slot p.at h.at k.at in
     let holder = same_option l.holder m.holder p.holder h.holder k.holder in
     λ i. record { wwpn = wwpn i; wwnn = wwnn i; fabric = at.0 i; domain = at.1 i; slot = at.2 i; holder = holder i }
+
+pub one_address : (l : AddressColumns) (p q : AddressRow) → ShowsAddress l p → ShowsAddress l q → p ≡ q
+one_address l p q h k =
+    let port = unique.one_wwn l.wwpn p.port q.port h.port.0 k.port.0 in
+    let address = unique.one_address l.address p.address q.address h.address.0 k.address.0 in
+    λ i. record { port = port i; address = address i }
+
+pub one_address_line : (l m : AddressColumns) (r : AddressRow) → ShowsAddress l r → ShowsAddress m r → l ≡ m
+one_address_line l m r h k =
+    let wwpn = h.port.1 ∙ sym k.port.1 in
+    let address = h.address.1 ∙ sym k.address.1 in
+    λ i. record { wwpn = wwpn i; address = address i }
 
 pub one_holder : (l : HolderColumns) (p q : HolderRow) → ShowsHolder l p → ShowsHolder l q → p ≡ q
 one_holder l p q h k =

@@ -1,20 +1,21 @@
-//! Lines of the tables of ports, holders and volumes.
+//! Lines of the tables of ports, addresses, holders and volumes.
 ghost use Rattle.std.specs.Prelude.{◌≡◌, ◌≤◌, Some, MatchOption, IfOk, string_bytes};
 ghost use Rattle.std.specs.Option.{option_map};
-ghost use Rattle.fab_inventory.specs.declared.port.Port.{Port};
 ghost use Rattle.fab_inventory.specs.Limits.{most_bytes};
+ghost use Rattle.fab_store_rows.specs.declared.inventory_row.PortEntry.{PortEntry};
+ghost use Rattle.fab_store_rows.specs.declared.inventory_row.AddressRow.{AddressRow};
 ghost use Rattle.fab_store_rows.specs.declared.inventory_row.HolderRow.{HolderRow};
 ghost use Rattle.fab_store_rows.specs.declared.inventory_row.VolumeRow.{VolumeRow};
 ghost use Rattle.fab_store_columns_base.specs.Columns.{ShowsAt};
-ghost use Rattle.fab_store_columns.specs.InventoryLines.{ShowsPort, ShowsHolder, ShowsVolume};
+ghost use Rattle.fab_store_columns.specs.InventoryLines.{ShowsPort, ShowsAddress, ShowsHolder, ShowsVolume};
 
-use fab_inventory::{MOST_BYTES, Port};
+use fab_inventory::MOST_BYTES;
 use fab_names::{Fabric, Place, Wwn};
 use fab_store_columns_base::{
-    kind_word, name_or_null, name_text, plain_text, read_at, read_count, read_kind, read_name,
-    read_name_or_null,
+    address_text, kind_word, name_or_null, name_text, plain_text, read_address, read_at,
+    read_count, read_kind, read_name, read_name_or_null,
 };
-use fab_store_rows::{HolderRow, VolumeRow};
+use fab_store_rows::{AddressRow, HolderRow, PortEntry, VolumeRow};
 use std::alloc::{AllocError, Allocator};
 use std::marker::Model;
 
@@ -50,6 +51,24 @@ impl<A: Allocator + Copy> Model for PortLine<A> {
       slot = l.slot;
       holder = option_map string_bytes l.holder;
     } };
+}
+
+/// A line of `addresses`. A contract sees its columns.
+#[derive(Drop)]
+pub struct AddressLine<A: Allocator + Copy> {
+    /// The sixteen lower-case digits of the N_Port_Name.
+    pub wwpn: String<A>,
+    /// The six lower-case digits of the address.
+    pub address: String<A>,
+}
+
+impl<A: Allocator + Copy> Model for AddressLine<A> {
+    ghost use Rattle.std.specs.Prelude.{string_bytes};
+    ghost use Rattle.fab_store_columns.specs.InventoryLines.{AddressColumns};
+
+    ghost Value = { AddressColumns };
+
+    ghost view = { λ l. record { wwpn = string_bytes l.wwpn; address = string_bytes l.address } };
 }
 
 /// A line of `holders`. A contract sees its columns.
@@ -91,8 +110,8 @@ impl<A: Allocator + Copy> Model for VolumeLine<A> {
 
 impl<A: Allocator + Copy> PortLine<A> {
     /// The port that the line shows, if it shows one. It takes no memory.
-    pub fn read(&self) -> Option<Port>
-        ensures { MatchOption result ((p : Port) → ¬ ShowsPort self.now p) (ShowsPort self.now) }
+    pub fn read(&self) -> Option<PortEntry>
+        ensures { MatchOption result ((p : PortEntry) → ¬ ShowsPort self.now p) (ShowsPort self.now) }
     {
         let name = Wwn::read_plain(self.wwpn.as_str())?;
         let node = Wwn::read_plain(self.wwnn.as_str())?;
@@ -102,7 +121,7 @@ impl<A: Allocator + Copy> PortLine<A> {
         let Some(holder) = read_name_or_null(&self.holder) else {
             return None;
         };
-        Some(Port {
+        Some(PortEntry {
             name,
             node,
             at,
@@ -114,7 +133,7 @@ impl<A: Allocator + Copy> PortLine<A> {
     ///
     /// # Errors
     /// `AllocError` where there is no memory.
-    pub fn print(alloc: A, port: &Port) -> Result<Self, AllocError>
+    pub fn print(alloc: A, port: &PortEntry) -> Result<Self, AllocError>
         ensures { IfOk result (λ line. ShowsPort line port.now) }
     {
         let wwpn = plain_text(alloc, port.name)?;
@@ -153,6 +172,34 @@ fn logged_in<A: Allocator + Copy>(
         slot: Some(at.1.slot() as i64),
         holder,
     })
+}
+
+impl<A: Allocator + Copy> AddressLine<A> {
+    /// The address of a port that the line shows, if it shows one. It takes no memory.
+    pub fn read(&self) -> Option<AddressRow>
+        ensures { MatchOption result ((r : AddressRow) → ¬ ShowsAddress self.now r) (ShowsAddress self.now) }
+    {
+        let Some(port) = Wwn::read_plain(self.wwpn.as_str()) else {
+            return None;
+        };
+        let Some(address) = read_address(self.address.as_str()) else {
+            return None;
+        };
+        Some(AddressRow { port, address })
+    }
+
+    /// The line that shows the address of a port.
+    ///
+    /// # Errors
+    /// `AllocError` where there is no memory.
+    pub fn print(alloc: A, row: &AddressRow) -> Result<Self, AllocError>
+        ensures { IfOk result (λ line. ShowsAddress line row.now) }
+    {
+        Ok(AddressLine {
+            wwpn: plain_text(alloc, row.port)?,
+            address: address_text(alloc, row.address)?,
+        })
+    }
 }
 
 impl<A: Allocator + Copy> HolderLine<A> {

@@ -1,7 +1,8 @@
 //! A line shows one row at most, and a row is shown by one line: each is the contract of a function
 //! that does nothing.
 ghost use Rattle.std.specs.Prelude.{◌≡◌};
-ghost use Rattle.fab_inventory.specs.declared.port.Port.{Port};
+ghost use Rattle.fab_store_rows.specs.declared.inventory_row.PortEntry.{PortEntry};
+ghost use Rattle.fab_store_rows.specs.declared.inventory_row.AddressRow.{AddressRow};
 ghost use Rattle.fab_store_rows.specs.declared.inventory_row.HolderRow.{HolderRow};
 ghost use Rattle.fab_store_rows.specs.declared.inventory_row.VolumeRow.{VolumeRow};
 ghost use Rattle.fab_store_rows.specs.declared.config_row.ZoningRow.{ZoningRow};
@@ -17,12 +18,18 @@ ghost use Rattle.fab_store_columns.specs.GroupLines.{GroupColumns, ShowsGroup, P
 ghost use Rattle.fab_store_columns.specs.RecordLines.{ApprovalColumns, ShowsApproval, PathColumns, ShowsPath};
 ghost use Rattle.fab_store_rows.specs.PlanEntries.{PlanEntry};
 ghost use Rattle.fab_store_columns.specs.PlanLines.{PlanColumns, ShowsPlan};
-ghost use Rattle.fab_store_columns.specs.InventoryLines.{PortColumns, ShowsPort, HolderColumns, ShowsHolder, VolumeColumns, ShowsVolume};
+ghost use Rattle.fab_store_columns.specs.InventoryLines.{PortColumns, ShowsPort, AddressColumns, ShowsAddress, HolderColumns, ShowsHolder, VolumeColumns, ShowsVolume};
 
 /// Lines of `ports`.
 pub fn ports()
-    ensures row { (l : PortColumns) (p q : Port) → ShowsPort l p → ShowsPort l q → p ≡ q }
-    ensures line { (l m : PortColumns) (p : Port) → ShowsPort l p → ShowsPort m p → l ≡ m }
+    ensures row { (l : PortColumns) (p q : PortEntry) → ShowsPort l p → ShowsPort l q → p ≡ q }
+    ensures line { (l m : PortColumns) (p : PortEntry) → ShowsPort l p → ShowsPort m p → l ≡ m }
+{}
+
+/// Lines of `addresses`.
+pub fn addresses()
+    ensures row { (l : AddressColumns) (p q : AddressRow) → ShowsAddress l p → ShowsAddress l q → p ≡ q }
+    ensures line { (l m : AddressColumns) (r : AddressRow) → ShowsAddress l r → ShowsAddress m r → l ≡ m }
 {}
 
 /// Lines of `holders`.

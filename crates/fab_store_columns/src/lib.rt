@@ -15,7 +15,7 @@ mod zoning_lines;
 pub use fab_store_columns_base::MOST_NUMBER;
 pub use fab_store_rows::{ApprovalRow, PathRow};
 pub use group_lines::{GroupLine, read_group};
-pub use inventory_lines::{HolderLine, PortLine, VolumeLine};
+pub use inventory_lines::{AddressLine, HolderLine, PortLine, VolumeLine};
 pub use meta_lines::{MetaLine, MetaRow, read_setting};
 pub use part_lines::{PartLine, read_part};
 pub use plan_lines::PlanLine;

@@ -8,13 +8,15 @@ ghost use Rattle.fab_names.specs.Places.{Position};
 ghost use Rattle.fab_names.specs.Members.{SpellsMember, SpellsPrinted, member_text};
 ghost use Rattle.fab_names.specs.declared.fabric.Fabric.{Fabric};
 ghost use Rattle.fab_names.specs.declared.member.Member.{Member};
+ghost use Rattle.fab_names.specs.Addresses.{SpellsAddress, SpellsPrintedAddress};
+ghost use Rattle.fab_names.specs.Addresses as spelled;
 ghost use Rattle.fab_names.specs.declared.member.Member.TheVariants as member;
 ghost use Rattle.fab_inventory.specs.declared.holder.HolderKind.{HolderKind};
 ghost use Rattle.fab_store_columns_base.specs.Columns as spec;
 
 use fab_inventory::HolderKind;
 use fab_names::{
-    FIRST_DOMAIN, Fabric, LAST_DOMAIN, LAST_SLOT, Member, Name, Place, Wwn, read_number,
+    Address, FIRST_DOMAIN, Fabric, LAST_DOMAIN, LAST_SLOT, Member, Name, Place, Wwn, read_number,
 };
 use std::alloc::{AllocError, Allocator};
 
@@ -91,6 +93,24 @@ pub fn read_fabric(text: &str) -> Option<Fabric>
         Ok(fabric) => Some(fabric),
         Err(_) => None,
     }
+}
+
+/// The address in a text of six lower-case digits, if it spells one. It takes no memory.
+pub fn read_address(text: &str) -> Option<Address>
+    ensures { MatchOption result ((n : ℕ) → ¬ SpellsPrintedAddress text.now n) (SpellsPrintedAddress text.now) }
+{
+    Address::read_printed(text)
+}
+
+/// The text of an address: six lower-case digits.
+///
+/// # Errors
+/// `AllocError` where there is no memory.
+pub fn address_text<A: Allocator>(alloc: A, address: Address) -> Result<String<A>, AllocError>
+    ensures { IfOk result (λ text. SpellsPrintedAddress (string_bytes text) address) }
+{
+    address_is_spelled(address);
+    address.print(alloc)
 }
 
 /// The place in three columns that are not null.
@@ -235,6 +255,20 @@ fn place_is_spelled(place: Place)
     let _slot = place.slot();
 }
 
+/// An address is spelled by its printed form.
+fn address_is_spelled(address: Address)
+    ensures { SpellsAddress (spelled.address_text address) address }
+{
+    let _number = address.number();
+}
+
+/// So it is as a member.
+fn address_member_is_spelled(address: Address)
+    ensures { SpellsMember (member_text (member.Address address)) (member.Address address) }
+{
+    address_is_spelled(address);
+}
+
 /// The name of an alias is spelled by its printed form.
 fn alias_is_spelled(name: &Name)
     ensures { SpellsMember (member_text (member.Alias name.now)) (member.Alias name.now) }
@@ -250,6 +284,7 @@ fn is_spelled(member: &Member)
         Member::Port(name) => port_is_spelled(*name),
         Member::Node(name) => node_is_spelled(*name),
         Member::Place(place) => place_is_spelled(*place),
+        Member::Address(address) => address_member_is_spelled(*address),
         Member::Alias(name) => alias_is_spelled(name),
     }
 }

@@ -1,7 +1,7 @@
-//! Lines of ports, holders and volumes.
+//! Lines of ports, addresses, holders and volumes.
 
 use crate::texts::{are_same, text};
-use fab_store_columns::{HolderLine, PortLine, VolumeLine};
+use fab_store_columns::{AddressLine, HolderLine, PortLine, VolumeLine};
 use std::alloc::Global;
 use std::process::Abort;
 
@@ -199,6 +199,53 @@ fn shows_port(rt: &(impl Abort + AllocGlobal), case: &PortCase) -> bool {
 fn ports(rt: HostRuntime) {
     for (case, shown) in PORTS {
         assert!(rt; shows_port(&rt, case) == *shown);
+    }
+}
+
+/// Columns of `addresses`, and whether they show an address.
+const ADDRESSES: &[(&str, &str, bool)] = &[
+    ("1000000000000001", "010100", true),
+    ("10000000000000af", "010000", true),
+    ("1000000000000001", "efffff", true),
+    ("1000000000000001", "0x0101", false),
+    ("1000000000000001", "0x010100", false),
+    ("1000000000000001", "0101AB", false),
+    ("1000000000000001", "f00000", false),
+    ("1000000000000001", "00ffff", false),
+    ("1000000000000001", "", false),
+    ("1000000000000001", "01010", false),
+    ("1000000000000001", "0101000", false),
+    ("1000000000000001", "01010g", false),
+    ("10:00:00:00:00:00:00:01", "010100", false),
+    ("100000000000000G", "010100", false),
+    ("10000000000000AF", "010100", false),
+    ("0000000000000000", "010100", false),
+];
+
+/// Whether the columns show an address whose line they are.
+fn shows_address(
+    rt: &(impl Abort + AllocGlobal),
+    wwpn: &'static str,
+    address: &'static str,
+) -> bool {
+    let line = AddressLine {
+        wwpn: text(rt, wwpn),
+        address: text(rt, address),
+    };
+    let Some(row) = line.read() else {
+        return false;
+    };
+    let again = AddressLine::print(rt.alloc(), &row).expect(rt, "memory");
+    are_same(
+        &[again.wwpn.as_str(), again.address.as_str()],
+        &[wwpn, address],
+    )
+}
+
+#[test]
+fn addresses(rt: HostRuntime) {
+    for &(wwpn, address, shown) in ADDRESSES {
+        assert!(rt; shows_address(&rt, wwpn, address) == shown);
     }
 }
 

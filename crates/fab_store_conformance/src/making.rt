@@ -1,9 +1,10 @@
 //! The rows of a world, line by line.
 
-use fab_inventory::{HolderKind, Port};
+use fab_inventory::HolderKind;
 use fab_names::{Name, Wwn};
 use fab_store_rows::{
-    ConfigRow, CountRow, HolderRow, PlanRow, PlanState, SCHEMA, Sign, TableRows, UndoRow, VolumeRow,
+    ConfigRow, CountRow, HolderRow, PlanRow, PlanState, PortEntry, SCHEMA, Sign, TableRows,
+    UndoRow, VolumeRow,
 };
 use fab_store_tables::UndoLine;
 use std::alloc::{Allocator, Global};
@@ -44,6 +45,7 @@ pub fn no_rows<A: Allocator + Copy>(alloc: A) -> Option<TableRows<A>> {
     Some(TableRows {
         counts,
         ports: Vec::new(alloc),
+        addresses: Vec::new(alloc),
         holders: Vec::new(alloc),
         volumes: Vec::new(alloc),
         config: Vec::new(alloc),
@@ -61,7 +63,7 @@ fn put_port<A: Allocator + Copy>(
     text: &str,
 ) -> Option<()> {
     let name = Wwn::read(text).ok()?;
-    let port = Port {
+    let port = PortEntry {
         name,
         node: name,
         at: None,

@@ -39,6 +39,7 @@ member_tells f z (member.Alias a) x e = ap row_of (told (Some (used.Alias f a, z
 member_tells f z (member.Port w) x e = none_told x e
 member_tells f z (member.Node w) x e = none_told x e
 member_tells f z (member.Place p) x e = none_told x e
+member_tells f z (member.Address n) x e = none_told x e
 
 item_tells : (f : Fabric) (i : ZoningItem) (x : Use) → item_use f i ≡ Some x → row_of x ≡ config.Zoning (record { fabric = f; item = i })
 item_tells f (item.Alias n m) x e = none_told x e

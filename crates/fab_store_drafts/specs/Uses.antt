@@ -33,6 +33,7 @@ member_use f z (member.Alias a) = Some (used.Alias f a, z)
 member_use f z (member.Port w) = None
 member_use f z (member.Node w) = None
 member_use f z (member.Place p) = None
+member_use f z (member.Address n) = None
 
 abbrev pub item_use : Fabric → ZoningItem → Option Use
 item_use f (item.Alias n m) = None

@@ -1,5 +1,6 @@
 pub mod Saying
 pub mod Putting
+pub mod PortRows
 pub mod Restored
 pub mod FabricRows
 pub mod Assembling

@@ -35,7 +35,8 @@ use Rattle.fab_store_load.specs.Kinds.{Named, host_group_row, storage_group_row,
 use Rattle.fab_store_load.specs.Assembled.{set_at, map_at, host_group_at, storage_group_at}
 use Rattle.fab_store_load.specs.Parts.{HaveParts, are_parts_known}
 use Rattle.fab_store_load.specs.Configs.{AreConfigRows, HostGroupsSay, StorageGroupsSay}
-use Rattle.fab_store_load.proofs.GroupRows.{key_passes, each_key_passes, any_found, found_in_set, found_in_map, one_test, one_found, heads_of_groups, heads_alike, made_heads, made_parts, part_of_group, part_has_head, groups_are_made}
+use Rattle.fab_lemmas.proofs.KeyTests.{key_passes, each_key_passes, any_found}
+use Rattle.fab_store_load.proofs.GroupRows.{found_in_set, found_in_map, one_test, one_found, heads_of_groups, heads_alike, made_heads, made_parts, part_of_group, part_has_head, groups_are_made}
 
 -- whether a name has a head
 abbrev pub knows : {H : Type 0} → BTreeMap (List ℕ) H → List ℕ → Bool

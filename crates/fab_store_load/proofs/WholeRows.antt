@@ -78,6 +78,7 @@ sound_whole c own sound mapping = record {
 pub sound_part : (t : Table) (c : ConfigRows) → IsSoundAlone c → ConfigPartIsSound t c
 sound_part table.Meta c s = tt
 sound_part table.Ports c s = tt
+sound_part table.Addresses c s = tt
 sound_part table.Holders c s = tt
 sound_part table.Volumes c s = tt
 sound_part table.Zoning c s = ((s.parts.zonings.sound A).definitions, (s.parts.zonings.sound B).definitions)

@@ -4,8 +4,7 @@ use Rattle.std.specs.Option.{option_and_then}
 use Rattle.fab_names.specs.declared.fabric.Fabric.{Fabric}
 use Rattle.fab_names.specs.declared.fabric.Fabric.TheVariants.{A, B}
 use Rattle.fab_names.specs.declared.member.Member.{Member}
-use Rattle.fab_inventory.specs.declared.port.Port.{Port}
-use Rattle.fab_inventory.specs.declared.port.Known.{Known}
+use Rattle.fab_inventory.specs.declared.port.Seat.{Seat}
 use Rattle.fab_inventory.specs.declared.holder.Holder.{Holder}
 use Rattle.fab_inventory.specs.declared.holder.Volume.{Volume}
 use Rattle.fab_store_rows.specs.declared.config_row.SettingRow.{SettingRow}
@@ -19,10 +18,12 @@ use Rattle.fab_store_rows.specs.declared.config_row.PartRow.{PartRow}
 use Rattle.fab_store_rows.specs.declared.config_row.PartRow.TheVariants as parts
 use Rattle.fab_store_rows.specs.declared.config_row.ConfigRow.{ConfigRow}
 use Rattle.fab_store_rows.specs.declared.config_row.ConfigRow.TheVariants as config
+use Rattle.fab_store_rows.specs.declared.inventory_row.PortEntry.{PortEntry}
+use Rattle.fab_store_rows.specs.declared.inventory_row.AddressRow.{AddressRow}
 use Rattle.fab_store_rows.specs.declared.inventory_row.HolderRow.{HolderRow}
 use Rattle.fab_store_rows.specs.declared.inventory_row.VolumeRow.{VolumeRow}
 use Rattle.fab_store_load.specs.declared.kinds.Head.{Head}
-use Rattle.fab_store_load.specs.Kinds.{Named, port_said, port_row, holder_said, holder_row, volume_said, volume_row, setting_in, at_fabric, item_in, item_row, group_in, part_in, active_set, active_set_said, active_set_row, default_zone, default_zone_said, default_zone_row, alias_item, alias_said, alias_row, zone_item, zone_said, zone_row, set_item, set_said, set_row, active_said, active_row, host_group, host_group_said, host_group_row, storage_group, storage_group_said, storage_group_row, host_part, host_said, host_row, served_part, served_said, served_row, target_part, target_said, target_row, unit_part, unit_said, unit_row}
+use Rattle.fab_store_load.specs.Kinds.{Named, port_said, port_row, address_said, address_row, holder_said, holder_row, volume_said, volume_row, setting_in, at_fabric, item_in, item_row, group_in, part_in, active_set, active_set_said, active_set_row, default_zone, default_zone_said, default_zone_row, alias_item, alias_said, alias_row, zone_item, zone_said, zone_row, set_item, set_said, set_row, active_said, active_row, host_group, host_group_said, host_group_row, storage_group, storage_group_said, storage_group_row, host_part, host_said, host_row, served_part, served_said, served_row, target_part, target_said, target_row, unit_part, unit_said, unit_row}
 
 -- the row of the entry that is said
 same_entry : {E R : Type 0} (row : E → R) (d e : E) → ◌≡◌ {A = Option E} (Some d) (Some e) → row d ≡ row e
@@ -43,8 +44,11 @@ by_parts {S = S} f back g row one two r e is = by (f r) refl is
 
 -- ---- an inventory
 
-pub port_only : (r : Port) (e : ℕ × Known) → port_said r ≡ Some e → r ≡ port_row e
+pub port_only : (r : PortEntry) (e : ℕ × Seat) → port_said r ≡ Some e → r ≡ port_row e
 port_only r e is = same_entry port_row (r.name, record { node = r.node; at = r.at; holder = r.holder }) e is
+
+pub address_only : (r : AddressRow) (e : ℕ × ℕ) → address_said r ≡ Some e → r ≡ address_row e
+address_only r e is = same_entry address_row (r.port, r.address) e is
 
 pub holder_only : (r : HolderRow) (e : Named Holder) → holder_said r ≡ Some e → r ≡ holder_row e
 holder_only r e is = same_entry holder_row (r.name, record { kind = r.kind; tenant = r.tenant }) e is

@@ -4,11 +4,9 @@ use Rattle.std.specs.Option.{option_and_then}
 use Rattle.fab_names.specs.declared.fabric.Fabric.{Fabric}
 use Rattle.fab_names.specs.declared.fabric.Fabric.TheVariants.{A, B}
 use Rattle.fab_names.specs.declared.member.Member.{Member}
-use Rattle.fab_inventory.specs.declared.port.Port.{Port}
-use Rattle.fab_inventory.specs.declared.port.Known.{Known}
+use Rattle.fab_inventory.specs.declared.port.Seat.{Seat}
 use Rattle.fab_inventory.specs.declared.holder.Holder.{Holder}
 use Rattle.fab_inventory.specs.declared.holder.Volume.{Volume}
-use Rattle.fab_inventory.specs.Ports.{port_of}
 use Rattle.fab_store_rows.specs.declared.config_row.SettingRow.{SettingRow}
 use Rattle.fab_store_rows.specs.declared.config_row.SettingRow.TheVariants.{ActiveSet, DefaultZone}
 use Rattle.fab_store_rows.specs.declared.config_row.ZoningItem.{ZoningItem}
@@ -20,6 +18,8 @@ use Rattle.fab_store_rows.specs.declared.config_row.PartRow.{PartRow}
 use Rattle.fab_store_rows.specs.declared.config_row.PartRow.TheVariants as parts
 use Rattle.fab_store_rows.specs.declared.config_row.ConfigRow.{ConfigRow}
 use Rattle.fab_store_rows.specs.declared.config_row.ConfigRow.TheVariants as config
+use Rattle.fab_store_rows.specs.declared.inventory_row.PortEntry.{PortEntry}
+use Rattle.fab_store_rows.specs.declared.inventory_row.AddressRow.{AddressRow}
 use Rattle.fab_store_rows.specs.declared.inventory_row.HolderRow.{HolderRow}
 use Rattle.fab_store_rows.specs.declared.inventory_row.VolumeRow.{VolumeRow}
 use Rattle.fab_store_rows.specs.Standing.{holder_of, volume_of}
@@ -31,12 +31,19 @@ Named X = List ℕ × X
 
 -- ---- an inventory
 
--- a port's name, and what is known of it
-abbrev pub port_said : Port → Option (ℕ × Known)
+-- a port's name, and what its row has beside it
+abbrev pub port_said : PortEntry → Option (ℕ × Seat)
 port_said r = Some (r.name, record { node = r.node; at = r.at; holder = r.holder })
 
-abbrev pub port_row : ℕ × Known → Port
-port_row e = port_of e.0 e.1
+abbrev pub port_row : ℕ × Seat → PortEntry
+port_row e = record { name = e.0; node = e.1.node; at = e.1.at; holder = e.1.holder }
+
+-- a port's name, and its address
+abbrev pub address_said : AddressRow → Option (ℕ × ℕ)
+address_said r = Some (r.port, r.address)
+
+abbrev pub address_row : ℕ × ℕ → AddressRow
+address_row e = record { port = e.0; address = e.1 }
 
 -- a holder's name, and the holder
 abbrev pub holder_said : HolderRow → Option (Named Holder)

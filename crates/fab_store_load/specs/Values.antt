@@ -12,13 +12,13 @@ use Rattle.fab_names.specs.declared.fabric.Fabric.{Fabric}
 use Rattle.fab_names.specs.declared.fabric.Fabric.TheVariants.{A, B}
 use Rattle.fab_names.specs.contracts.fabric.FabricPartialEq.TheImpl as fabrics
 use Rattle.fab_names.specs.contracts.place.PlacePartialEq.TheImpl as places
-use Rattle.fab_inventory.specs.declared.port.Known.{Known}
+use Rattle.fab_inventory.specs.declared.port.Seat.{Seat}
 use Rattle.fab_inventory.specs.declared.holder.Holder.{Holder}
 use Rattle.fab_inventory.specs.declared.holder.Volume.{Volume}
 use Rattle.fab_inventory.specs.declared.holder.HolderKind.{HolderKind}
 use Rattle.fab_inventory.specs.declared.holder.HolderKind.TheVariants.{Host, Array}
 use Rattle.fab_inventory.specs.contracts.holder.HolderKindPartialEq.TheImpl as kinds
-use Rattle.fab_inventory.specs.contracts.port.KnownPartialEq.TheImpl as known
+use Rattle.fab_inventory.specs.contracts.port.SeatPartialEq.TheImpl as seat
 use Rattle.fab_inventory.specs.contracts.holder.HolderPartialEq.TheImpl as holder
 use Rattle.fab_inventory.specs.contracts.holder.VolumePartialEq.TheImpl as volume
 use Rattle.fab_store_load.specs.declared.kinds.Head.{Head}
@@ -71,8 +71,8 @@ same_name_or_none = same_option (pointwise nat_eq) same_name
 same_at : (a b : Fabric × Position) → (fabrics.ghosts.eq a.0 b.0 && places.ghosts.eq a.1 b.1) ≡ true → a ≡ b
 same_at a b e = λ i. (same_fabric a.0 b.0 (left (fabrics.ghosts.eq a.0 b.0) _ e) i, same_place a.1 b.1 (right (fabrics.ghosts.eq a.0 b.0) _ e) i)
 
-pub same_known : (x y : Known) → known.ghosts.eq x y ≡ true → x ≡ y
-same_known x y e =
+pub same_seat : (x y : Seat) → seat.ghosts.eq x y ≡ true → x ≡ y
+same_seat x y e =
     let rest = right (nat_eq x.node y.node) (option_eq (λ (a b : Fabric × Position). fabrics.ghosts.eq a.0 b.0 && places.ghosts.eq a.1 b.1) x.at y.at && option_eq (pointwise nat_eq) x.holder y.holder) e in
     let node = exact_unsigned_eq x.node y.node (left (nat_eq x.node y.node) _ e) in
     let at = same_option (λ (a b : Fabric × Position). fabrics.ghosts.eq a.0 b.0 && places.ghosts.eq a.1 b.1) same_at x.at y.at (left _ _ rest) in

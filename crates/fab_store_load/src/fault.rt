@@ -9,8 +9,10 @@ use std::alloc::AllocError;
 pub enum Table {
     /// The schema, the revision, and the settings of both fabrics.
     Meta,
-    /// The ports.
+    /// The ports, without their addresses.
     Ports,
+    /// The addresses of ports.
+    Addresses,
     /// The hosts and arrays.
     Holders,
     /// The volumes.

@@ -1,8 +1,8 @@
 //! Keys and values of the maps that rows are gathered into.
 use crate::kind::{Key, Value};
 use crate::kinds::Head;
-use fab_inventory::{Holder, Known, Volume};
-use fab_names::{Fabric, Member, Name, Wwn};
+use fab_inventory::{Holder, Seat, Volume};
+use fab_names::{Address, Fabric, Member, Name, Wwn};
 use fab_store_rows::ConfigRow;
 
 impl Key for Wwn {
@@ -41,10 +41,16 @@ impl Key for ConfigRow {
     ghost exact = { row_exact };
 }
 
-impl Value for Known {
-    ghost use Rattle.fab_store_load.specs.Values.{same_known};
+impl Value for Seat {
+    ghost use Rattle.fab_store_load.specs.Values.{same_seat};
 
-    ghost same = { same_known };
+    ghost same = { same_seat };
+}
+
+impl Value for Address {
+    ghost use Rattle.std.proofs.lemmas.Map.Views.{exact_unsigned_eq};
+
+    ghost same = { exact_unsigned_eq };
 }
 
 impl Value for Holder {

@@ -3,10 +3,11 @@ ghost use Rattle.std.specs.Prelude.{◌≡◌};
 ghost use Rattle.fab_store_load.specs.Kinds as spec;
 
 use crate::kind::Kind;
-use fab_inventory::{Holder, Known, Port, Volume};
-use fab_names::{Fabric, Member, Name, Wwn};
+use fab_inventory::{Holder, Seat, Volume};
+use fab_names::{Address, Fabric, Member, Name, Wwn};
 use fab_store_rows::{
-    ConfigRow, GroupRow, HolderRow, PartRow, SettingRow, StoragePart, VolumeRow, ZoningItem,
+    AddressRow, ConfigRow, GroupRow, HolderRow, PartRow, PortEntry, SettingRow, StoragePart,
+    VolumeRow, ZoningItem,
 };
 
 /// What the row of a storage group has beside its name.
@@ -20,11 +21,11 @@ pub struct Head {
     pub exposed: bool,
 }
 
-/// Ports, by name.
+/// Ports without their addresses, by name.
 #[derive(Clone, Copy)]
 pub struct Ports;
 
-impl Kind<Port, (Wwn, Known)> for Ports {
+impl Kind<PortEntry, (Wwn, Seat)> for Ports {
     ghost use Rattle.std.specs.Prelude.{refl};
     ghost use Rattle.fab_store_load.specs.Kinds.{port_said, port_row};
     ghost use Rattle.fab_store_load.specs.KindLaws.{port_only};
@@ -33,18 +34,40 @@ impl Kind<Port, (Wwn, Known)> for Ports {
 
     ghost row_of = { λ k. port_row };
 
-    fn entry(&self, row: &Port) -> Option<(Wwn, Known)> {
-        let known = Known {
+    fn entry(&self, row: &PortEntry) -> Option<(Wwn, Seat)> {
+        let seat = Seat {
             node: row.node,
             at: row.at,
             holder: row.holder,
         };
-        Some((row.name, known))
+        Some((row.name, seat))
     }
 
     ghost says = { λ k e. refl };
 
     ghost only = { λ k. port_only };
+}
+
+/// Addresses, by the names of their ports.
+#[derive(Clone, Copy)]
+pub struct Addresses;
+
+impl Kind<AddressRow, (Wwn, Address)> for Addresses {
+    ghost use Rattle.std.specs.Prelude.{refl};
+    ghost use Rattle.fab_store_load.specs.Kinds.{address_said, address_row};
+    ghost use Rattle.fab_store_load.specs.KindLaws.{address_only};
+
+    ghost said = { λ k. address_said };
+
+    ghost row_of = { λ k. address_row };
+
+    fn entry(&self, row: &AddressRow) -> Option<(Wwn, Address)> {
+        Some((row.port, row.address))
+    }
+
+    ghost says = { λ k e. refl };
+
+    ghost only = { λ k. address_only };
 }
 
 /// Hosts and arrays, by name.

@@ -5,17 +5,15 @@ use Rattle.std.specs.declared.cmp.Ordering.{Ordering}
 use Rattle.std.specs.Cmp.{IsTotalOrder, nat_cmp_total}
 use Rattle.std.specs.FinMap as map
 use Rattle.std.specs.FinSet as set
-use Rattle.std.specs.Option.{option_map, is_some}
+use Rattle.std.specs.Option.{option_map, option_and_then, is_some}
 use Rattle.std.specs.List.Sorted.{IsStrictlySortedBy}
 use Rattle.std.proofs.lemmas.Map.Made.{is_member-Decides}
 use Rattle.fab_names.specs.declared.fabric.Fabric.{Fabric}
 use Rattle.fab_names.specs.declared.fabric.Fabric.TheVariants.{A, B}
 use Rattle.fab_names.proofs.OrderLaws.{name_total, name_exact, member_total, member_exact}
 use Rattle.fab_inventory.specs.declared.port.Known.{Known}
-use Rattle.fab_inventory.specs.declared.port.Port.{Port}
 use Rattle.fab_inventory.specs.declared.holder.Holder.{Holder}
 use Rattle.fab_inventory.specs.declared.holder.Volume.{Volume}
-use Rattle.fab_inventory.specs.Ports.{KnownPorts, port_at, port_of}
 use Rattle.fab_inventory.specs.Inventories.{InventoryRows}
 use Rattle.fab_lemmas.specs.MapsOfSets.{has, in_set}
 use Rattle.fab_lemmas.specs.Lists.{IsListOf}
@@ -36,7 +34,9 @@ use Rattle.fab_store_rows.specs.declared.config_row.PartRow.TheVariants as parts
 use Rattle.fab_store_rows.specs.declared.config_row.ConfigRow.{ConfigRow}
 use Rattle.fab_store_rows.specs.declared.config_row.ConfigRow.TheVariants as config
 use Rattle.fab_store_rows.specs.declared.inventory_row.InventoryRow.TheVariants as inventory
+use Rattle.fab_store_rows.specs.declared.inventory_row.PortEntry.{PortEntry}
 use Rattle.fab_store_rows.specs.RowOrder.{row_order}
+use Rattle.fab_store_rows.specs.Standing.{entry_of, entry_at, address_at}
 use Rattle.fab_store_rows.specs.Telling.{HaveSameRows, KnowSameRows}
 use Rattle.fab_store_rows.proofs.OrderOfRows.{row_total, row_exact, same_order}
 use Rattle.fab_reach_base.proofs.Same.{same_some}
@@ -145,31 +145,40 @@ one_config c d sound_c sound_d same =
 
 -- ---- inventories
 
-known_of : (ports : KnownPorts) (q : ℕ) (k : Known) → map.get ports q ≡ Some k → port_at ports q ≡ Some (port_of q k)
-known_of ports q k at = ap (option_map (port_of q)) at
-
-of_known : (ports : KnownPorts) (q : ℕ) (k : Known) → port_at ports q ≡ Some (port_of q k) → map.get ports q ≡ Some k
-of_known ports q k = by (map.get ports q)
-  where
-    by : (o : Option Known) → option_map (port_of q) o ≡ Some (port_of q k) → o ≡ Some k
-    by None e = absurd cc
-    by (Some j) e =
-        let p : port_of q j ≡ port_of q k = sym (same_some e refl) in
-        λ i. Some (record { node = ap (λ (x : Port). x.node) p i; at = ap (λ (x : Port). x.at) p i; holder = ap (λ (x : Port). x.holder) p i })
+-- what is known of a port, by its entry and its address
+known_by : (q : ℕ) (j k : Known) → entry_of q j ≡ entry_of q k → j.address ≡ k.address → j ≡ k
+known_by q j k entry address = λ i. record {
+  node = ap (λ (x : PortEntry). x.node) entry i;
+  at = ap (λ (x : PortEntry). x.at) entry i;
+  address = address i;
+  holder = ap (λ (x : PortEntry). x.holder) entry i;
+}
 
 module _ (v w : InventoryRows) (same : KnowSameRows v w) where
   port_there : (q : ℕ) (k : Known) → map.get v.ports q ≡ Some k → map.get w.ports q ≡ Some k
-  port_there q k at = of_known w.ports q k ((same (inventory.Port (port_of q k))).0 (known_of v.ports q k at))
+  port_there q k at = by (map.get w.ports q) refl ((same (inventory.Entry (entry_of q k)) tt).0 (ap (option_map (entry_of q)) at))
+    where
+      in_v : address_at v.ports q ≡ k.address
+      in_v = ap (option_and_then (λ (x : Known). x.address)) at
+
+      by : (o : Option Known) → map.get w.ports q ≡ o → option_map (entry_of q) o ≡ Some (entry_of q k) → map.get w.ports q ≡ Some k
+      by None is e = absurd cc
+      by (Some j) is e =
+          let in_w : address_at w.ports q ≡ j.address = ap (option_and_then (λ (x : Known). x.address)) is in
+          let address = same_option j.address k.address
+          (λ a has. sym in_v ∙ (same (inventory.Address (record { port = q; address = a })) tt).1 (in_w ∙ has))
+          (λ a has. sym in_w ∙ (same (inventory.Address (record { port = q; address = a })) tt).0 (in_v ∙ has)) in
+          is ∙ ap Some (known_by q j k (sym (same_some e refl)) address)
 
   holder_there : (n : List ℕ) (h : Holder) → map.get v.holders n ≡ Some h → map.get w.holders n ≡ Some h
-  holder_there n h at = (same (inventory.Holder (record { name = n; kind = h.kind; tenant = h.tenant }))).0 at
+  holder_there n h at = (same (inventory.Holder (record { name = n; kind = h.kind; tenant = h.tenant })) tt).0 at
 
   volume_there : (n : List ℕ) (x : Volume) → map.get v.volumes n ≡ Some x → map.get w.volumes n ≡ Some x
-  volume_there n x at = (same (inventory.Volume (record { name = n; array = x.array; tenant = x.tenant; bytes = x.bytes }))).0 at
+  volume_there n x at = (same (inventory.Volume (record { name = n; array = x.array; tenant = x.tenant; bytes = x.bytes })) tt).0 at
 
 pub one_inventory : (v w : InventoryRows) → KnowSameRows v w → v ≡ w
 one_inventory v w same =
-    let back : KnowSameRows w v = λ r. ((same r).1, (same r).0) in
+    let back : KnowSameRows w v = λ r of_table. ((same r of_table).1, (same r of_table).0) in
     let ports = map.same_map nat_cmp_total set.nat_cmp-IsAntisymmetric v.ports w.ports (λ q. same_option _ _ (port_there v w same q) (port_there w v back q)) in
     let holders = map.same_map name_total name_exact v.holders w.holders (λ n. same_option _ _ (holder_there v w same n) (holder_there w v back n)) in
     let volumes = map.same_map name_total name_exact v.volumes w.volumes (λ n. same_option _ _ (volume_there v w same n) (volume_there w v back n)) in

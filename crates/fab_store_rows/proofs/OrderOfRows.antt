@@ -9,10 +9,9 @@ use Rattle.std.specs.FinSet as set
 use Rattle.fab_names.specs.declared.fabric.Fabric.{Fabric}
 use Rattle.fab_names.specs.declared.fabric.Fabric.TheVariants.{A, B}
 use Rattle.fab_names.specs.declared.member.Member.{Member}
-use Rattle.fab_names.specs.declared.member.Member.TheVariants as member
-use Rattle.fab_names.specs.Places.{Position}
-use Rattle.fab_names.specs.Orders.{name_cmp, fabric_order, member_order, place_order}
+use Rattle.fab_names.specs.Orders.{name_cmp, fabric_order, member_order}
 use Rattle.fab_names.proofs.InOrder.{fabrics, members}
+use Rattle.fab_names.proofs.OrderLaws as names
 use Rattle.fab_names.proofs.OrderLaws.{name_exact}
 use Rattle.fab_store_rows.specs.declared.config_row.SettingRow.{SettingRow}
 use Rattle.fab_store_rows.specs.declared.config_row.SettingRow.TheVariants.{ActiveSet, DefaultZone}
@@ -128,28 +127,8 @@ fabric_exact B B e = refl
 number_exact : set.IsAntisymmetric nat_cmp
 number_exact = set.nat_cmp-IsAntisymmetric
 
-place_exact : (p q : Position) → place_order p q ≡ Equal → p ≡ q
-place_exact p q e =
-    let w = both (nat_cmp p.domain q.domain) (nat_cmp p.slot q.slot) e in
-    λ i. record { domain = number_exact p.domain q.domain w.0 i; slot = number_exact p.slot q.slot w.1 i }
-
 member_exact : (m k : Member) → member_order m k ≡ Equal → m ≡ k
-member_exact (member.Port a) (member.Port b) e = ap member.Port (number_exact a b e)
-member_exact (member.Port a) (member.Node b) e = absurd cc
-member_exact (member.Port a) (member.Place q) e = absurd cc
-member_exact (member.Port a) (member.Alias b) e = absurd cc
-member_exact (member.Node a) (member.Port b) e = absurd cc
-member_exact (member.Node a) (member.Node b) e = ap member.Node (number_exact a b e)
-member_exact (member.Node a) (member.Place q) e = absurd cc
-member_exact (member.Node a) (member.Alias b) e = absurd cc
-member_exact (member.Place p) (member.Port b) e = absurd cc
-member_exact (member.Place p) (member.Node b) e = absurd cc
-member_exact (member.Place p) (member.Place q) e = ap member.Place (place_exact p q e)
-member_exact (member.Place p) (member.Alias b) e = absurd cc
-member_exact (member.Alias a) (member.Port b) e = absurd cc
-member_exact (member.Alias a) (member.Node b) e = absurd cc
-member_exact (member.Alias a) (member.Place q) e = absurd cc
-member_exact (member.Alias a) (member.Alias b) e = ap member.Alias (name_exact a b e)
+member_exact m k e = names.member_exact m k (members m k ∙ e)
 
 bool_exact : (p q : Bool) → bool_cmp p q ≡ Equal → p ≡ q
 bool_exact false false e = refl

@@ -1,10 +1,13 @@
 -- Which rows stand in a configuration, and in an inventory: what each table says of a row.
-use Rattle.std.specs.Prelude.{◌≡◌, Some, true}
+use Rattle.std.specs.Prelude.{ℕ, ◌≡◌, Option, Some, true}
+use Rattle.std.specs.Option.{option_map, option_and_then}
 use Rattle.std.specs.FinMap as map
 use Rattle.std.specs.FinSet as set
 use Rattle.fab_inventory.specs.declared.holder.Holder.{Holder}
 use Rattle.fab_inventory.specs.declared.holder.Volume.{Volume}
-use Rattle.fab_inventory.specs.Ports.{port_at}
+use Rattle.fab_inventory.specs.declared.port.Known.{Known}
+use Rattle.fab_inventory.specs.declared.port.Port.{Port}
+use Rattle.fab_inventory.specs.Ports.{KnownPorts, port_at}
 use Rattle.fab_inventory.specs.Inventories.{InventoryRows}
 use Rattle.fab_lemmas.specs.MapsOfSets.{has}
 use Rattle.fab_lemmas.specs.Firsts.{HasAt}
@@ -26,6 +29,8 @@ use Rattle.fab_store_rows.specs.declared.config_row.PartRow.{PartRow}
 use Rattle.fab_store_rows.specs.declared.config_row.PartRow.TheVariants as parts
 use Rattle.fab_store_rows.specs.declared.config_row.ConfigRow.{ConfigRow}
 use Rattle.fab_store_rows.specs.declared.config_row.ConfigRow.TheVariants as config
+use Rattle.fab_store_rows.specs.declared.inventory_row.PortEntry.{PortEntry}
+use Rattle.fab_store_rows.specs.declared.inventory_row.AddressRow.{AddressRow}
 use Rattle.fab_store_rows.specs.declared.inventory_row.HolderRow.{HolderRow}
 use Rattle.fab_store_rows.specs.declared.inventory_row.VolumeRow.{VolumeRow}
 use Rattle.fab_store_rows.specs.declared.inventory_row.InventoryRow.{InventoryRow}
@@ -81,6 +86,22 @@ Stands c (config.Part r) = IsPart c.mapping r
 
 -- ---- an inventory
 
+-- the port of a name of which this is known, without its address
+abbrev pub entry_of : ℕ → Known → PortEntry
+entry_of name k = record { name = name; node = k.node; at = k.at; holder = k.holder }
+
+-- a port without its address
+abbrev pub without_address : Port → PortEntry
+without_address p = record { name = p.name; node = p.node; at = p.at; holder = p.holder }
+
+-- the port of a name without its address, if it is known
+abbrev pub entry_at : KnownPorts → ℕ → Option PortEntry
+entry_at ports name = option_map (entry_of name) (map.get ports name)
+
+-- the address of the port of a name, if it is known and has one
+abbrev pub address_at : KnownPorts → ℕ → Option ℕ
+address_at ports name = option_and_then (λ (k : Known). k.address) (map.get ports name)
+
 -- the holder that a row tells
 abbrev pub holder_of : HolderRow → Holder
 holder_of r = record { kind = r.kind; tenant = r.tenant }
@@ -89,8 +110,11 @@ holder_of r = record { kind = r.kind; tenant = r.tenant }
 abbrev pub volume_of : VolumeRow → Volume
 volume_of r = record { array = r.array; tenant = r.tenant; bytes = r.bytes }
 
--- the row stands in the inventory: the port, holder or volume of its name is known, and is this
+-- the row stands in the inventory: the port, holder or volume of its name is known, and is this; the
+-- port is known, and has this address
 abbrev pub IsKnown : InventoryRows → InventoryRow → Type 0
 IsKnown v (inventory.Port p) = port_at v.ports p.name ≡ Some p
+IsKnown v (inventory.Entry r) = entry_at v.ports r.name ≡ Some r
+IsKnown v (inventory.Address r) = address_at v.ports r.port ≡ Some r.address
 IsKnown v (inventory.Holder r) = map.get v.holders r.name ≡ Some (holder_of r)
 IsKnown v (inventory.Volume r) = map.get v.volumes r.name ≡ Some (volume_of r)

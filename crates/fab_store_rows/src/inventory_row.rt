@@ -1,7 +1,25 @@
-//! Rows of an inventory, one type a table. A port's row is a `Port`.
+//! Rows of an inventory, one type a table. A port with its address is a `Port`: in the tables it is a
+//! `PortEntry`, and an `AddressRow` if it has an address.
 
 use fab_inventory::{HolderKind, Port};
-use fab_names::Name;
+use fab_names::{Address, Fabric, Name, Place, Wwn};
+
+/// A port without its address: its N_Port_Name, the Node_Name of its node, where it is logged in if
+/// anywhere, and who holds it if anybody.
+#[derive(Clone, Copy, PartialEq, Eq)]
+pub struct PortEntry {
+    pub name: Wwn,
+    pub node: Wwn,
+    pub at: Option<(Fabric, Place)>,
+    pub holder: Option<Name>,
+}
+
+/// The address of a port: the port's N_Port_Name, and the address that it has where it is logged in.
+#[derive(Clone, Copy, PartialEq, Eq)]
+pub struct AddressRow {
+    pub port: Wwn,
+    pub address: Address,
+}
 
 /// A host or an array: its name, which of both it is, and whose it is.
 #[derive(Clone, Copy, PartialEq, Eq)]
@@ -21,10 +39,13 @@ pub struct VolumeRow {
     pub bytes: u64,
 }
 
-/// A row of an inventory: a variant a table.
+/// A row of an inventory: a whole port, or else a variant a table.
 #[derive(Clone, Copy, PartialEq, Eq)]
 pub enum InventoryRow {
+    /// A port with its address, which no table has in one row.
     Port(Port),
+    Entry(PortEntry),
+    Address(AddressRow),
     Holder(HolderRow),
     Volume(VolumeRow),
 }

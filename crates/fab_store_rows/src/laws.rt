@@ -20,7 +20,7 @@ pub fn one_config()
     ensures { (c d : ConfigRows) → HasSoundZonings c → HasSoundZonings d → HaveSameRows c d → c ≡ d }
 {}
 
-/// Inventories in which the same rows stand are equal.
+/// Inventories in which the same rows of tables stand are equal.
 pub fn one_inventory()
     ensures { (v w : InventoryRows) → KnowSameRows v w → v ≡ w }
 {}

@@ -6,6 +6,7 @@
 mod config_row;
 mod gathering;
 mod inventory_row;
+mod known;
 pub mod laws;
 mod listing;
 mod makers;
@@ -17,7 +18,8 @@ pub use config_row::{
     ActiveRow, ConfigRow, GroupRow, HostGroupRow, PartRow, SettingRow, StorageGroupRow,
     StoragePart, ZoningItem, ZoningRow,
 };
-pub use inventory_row::{HolderRow, InventoryRow, VolumeRow};
+pub use inventory_row::{AddressRow, HolderRow, InventoryRow, PortEntry, VolumeRow};
+pub use known::{has_address, has_entry, has_port};
 pub use listing::{RowDifference, config_rows, difference};
 pub use record_row::{ApprovalRow, PathRow, PlanRow, PlanState, Sign, UndoRow};
 pub use standing::has_row;

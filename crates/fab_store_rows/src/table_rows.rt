@@ -1,11 +1,12 @@
 //! The rows of all tables.
 
-use crate::{ApprovalRow, ConfigRow, HolderRow, PathRow, PlanRow, UndoRow, VolumeRow};
-use fab_inventory::Port;
+use crate::{
+    AddressRow, ApprovalRow, ConfigRow, HolderRow, PathRow, PlanRow, PortEntry, UndoRow, VolumeRow,
+};
 use std::alloc::Allocator;
 
 /// The schema of the tables.
-pub const SCHEMA: u64 = 1;
+pub const SCHEMA: u64 = 2;
 
 /// A row of the table of settings that is none of a configuration.
 #[derive(Clone, Copy, PartialEq, Eq)]
@@ -16,11 +17,13 @@ pub enum CountRow {
     Revision(u64),
 }
 
-/// Rows of the twelve tables.
+/// Rows of the thirteen tables.
 pub struct TableRows<A: Allocator + Copy> {
     /// Of the settings, those that are none of a configuration.
     pub counts: Vec<CountRow, A>,
-    pub ports: Vec<Port, A>,
+    pub ports: Vec<PortEntry, A>,
+    /// Of ports that have an address.
+    pub addresses: Vec<AddressRow, A>,
     pub holders: Vec<HolderRow, A>,
     pub volumes: Vec<VolumeRow, A>,
     /// The settings of both fabrics, the items of aliases, zones and zone sets, the rows of active
@@ -39,6 +42,7 @@ impl<A: Allocator + Copy> Drop for TableRows<A> {
         let TableRows {
             counts: _,
             ports: _,
+            addresses: _,
             holders: _,
             volumes: _,
             config: _,

@@ -20,7 +20,7 @@ use Rattle.fab_store_load.specs.declared.fault.Table.{Table}
 use Rattle.fab_store_load.specs.declared.fault.Table.TheVariants as table
 use Rattle.fab_store_sql.specs.Schema.{all_tables, tree_of, name_of, columns_of, places_of, strict_table, made_of}
 use Rattle.fab_store_sql.specs.Statements.{create_text}
-use Rattle.fab_store_sql.specs.NewDesk.{schema_first, place_of, HasMade}
+use Rattle.fab_store_sql.specs.NewDesk.{schema_first, place_of, HasFirst, IsOneMore, HasMade}
 
 pub went : {B E R : Type 0} {b : B} {Stops : E → Type 0} → ((stop : E) × Stops stop × (Ok b ≡ Err stop)) ⊎ R → R
 went (inl stopped) = absurd (let e = stopped.2 in cc)
@@ -47,6 +47,7 @@ creates_is table.Plans = (refl, (refl, refl), refl)
 creates_is table.Approvals = (refl, (refl, refl), refl)
 creates_is table.Undo = (refl, (refl, refl), refl)
 creates_is table.Paths = (refl, (refl, refl), refl)
+creates_is table.Addresses = (refl, (refl, refl), refl)
 
 defined_is : (t : Table) → table_defined_by (create_text t) ≡ Ok (defined t)
 unfolding understood everything
@@ -62,6 +63,7 @@ defined_is table.Plans = refl
 defined_is table.Approvals = refl
 defined_is table.Undo = refl
 defined_is table.Paths = refl
+defined_is table.Addresses = refl
 
 created_is : (t : Table) → created (schema_first (place_of t)) (defined t) ≡ schema_first (place_of t + 1)
 created_is table.Meta = refl
@@ -76,6 +78,7 @@ created_is table.Plans = refl
 created_is table.Approvals = refl
 created_is table.Undo = refl
 created_is table.Paths = refl
+created_is table.Addresses = refl
 
 next_is : (t : Table) → next_tree (schema_first (place_of t)) ≡ tree_of t
 next_is table.Meta = refl
@@ -90,6 +93,7 @@ next_is table.Plans = refl
 next_is table.Approvals = refl
 next_is table.Undo = refl
 next_is table.Paths = refl
+next_is table.Addresses = refl
 
 uncounted : (t : Table) → lacks_sequence (schema_first (place_of t + 1)) ≡ false
 uncounted table.Meta = refl
@@ -104,6 +108,7 @@ uncounted table.Plans = refl
 uncounted table.Approvals = refl
 uncounted table.Undo = refl
 uncounted table.Paths = refl
+uncounted table.Addresses = refl
 
 listed_at : (t : Table) → slice_get all_tables (place_of t) ≡ Some t
 listed_at table.Meta = refl
@@ -118,6 +123,7 @@ listed_at table.Plans = refl
 listed_at table.Approvals = refl
 listed_at table.Undo = refl
 listed_at table.Paths = refl
+listed_at table.Addresses = refl
 
 has_taken : {X : Type 0} (xs : List X) (k n : ℕ) (x : X) → slice_get xs k ≡ Some x → k < n → Has (take n xs) x
 has_taken [] k n x is low = absurd (let e = is in cc)
@@ -128,11 +134,11 @@ has_taken (y ∷ xs) (suc k) (suc n) x is low = inr (has_taken xs k n x is (omeg
 either_place : (a b : Table) → place_of a < place_of b + 1 → (place_of a < place_of b) ⊎ (place_of a ≡ place_of b)
 either_place a b low = elim (cases_lt (place_of a) (place_of b)) [ inl below ↦ inl below | inr above ↦ inr (omega (arith, low, above)) ]
 
-same_place : (a b : Table) → place_of a ≡ place_of b → a ≡ b
+pub same_place : (a b : Table) → place_of a ≡ place_of b → a ≡ b
 same_place a b e = let is : Some a ≡ Some b = sym (listed_at a) ∙ ap (slice_get all_tables) e ∙ listed_at b in cc
 
 -- one table more
-pub creates : (t : Table) (old new : State) (r : Result ℕ Error) → HasMade (place_of t) old → ExecutesInside 0 (create_text t) [] old new r → OnOk r (HasMade (place_of t + 1) new × IsDatabase new.now)
+pub creates : (t : Table) (old new : State) (r : Result ℕ Error) → HasFirst (place_of t) old → ExecutesInside 0 (create_text t) [] old new r → OnOk r (IsOneMore t old new × IsDatabase new.now)
 creates t old new (Err e) has h = tt
 creates t old new (Ok count) has h =
     let schema = schema_first (place_of t) in
@@ -149,14 +155,25 @@ creates t old new (Ok count) has h =
     let is_empty : new.now.trees (tree_of t) ≡ [] = subst (λ (d : Database). d.trees (tree_of t) ≡ []) (sym now) (subst (λ n. first.0.trees n ≡ []) (ap next_tree has.schema ∙ next_is t) table.empty) in
     let others : KeepsRows schema.tables old.now.trees new.now.trees = subst (λ (d : Database). KeepsRows schema.tables old.now.trees d.trees) (sym now) (subst (λ (s : Schema). KeepsRows s.tables old.now.trees first.0.trees) has.schema table.others) in (
       record {
-        inside = h.1.mode;
-        schema = ap (λ (d : Database). d.schema) now ∙ is_schema;
-        empty = λ other low. elim (either_place other t low) [
-          | inl before ↦
-              all_has (λ (u : SqlTable). new.now.trees u.tree ≡ old.now.trees u.tree) schema.tables (made_of other) others
-              (mapped_has made_of (take (place_of t) all_tables) other (has_taken all_tables (place_of other) (place_of t) other (listed_at other) before)) ∙ has.empty other before
-          | inr here ↦ subst (λ u. new.now.trees (tree_of u) ≡ []) (sym (same_place other t here)) is_empty
-        ];
+        first = record { inside = h.1.mode; schema = ap (λ (d : Database). d.schema) now ∙ is_schema };
+        none = is_empty;
+        kept = λ other before.
+            all_has (λ (u : SqlTable). new.now.trees u.tree ≡ old.now.trees u.tree) schema.tables (made_of other) others
+            (mapped_has made_of (take (place_of t) all_tables) other (has_taken all_tables (place_of other) (place_of t) other (listed_at other) before));
       },
       w.sound,
     )
+
+-- where the tables before were empty, all are
+pub made_more : (t : Table) (old new : State) → HasMade (place_of t) old → IsOneMore t old new → HasMade (place_of t + 1) new
+made_more t old new was more = record {
+  inside = more.first.inside;
+  schema = more.first.schema;
+  empty = λ other low. elim (either_place other t low) [
+    | inl before ↦ more.kept other before ∙ was.empty other before
+    | inr here ↦ subst (λ u. new.now.trees (tree_of u) ≡ []) (sym (same_place other t here)) more.none
+  ];
+}
+
+pub made_first : (n : ℕ) (s : State) → HasMade n s → HasFirst n s
+made_first n s made = record { inside = made.inside; schema = made.schema }

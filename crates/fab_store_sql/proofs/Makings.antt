@@ -19,7 +19,7 @@ use Rattle.fab_store_sql.specs.States.{IsInside, Gains}
 use Rattle.fab_store_sql.specs.NewDesk.{place_of, HasMade, HaveJust, IsBlank, IsNewDesk, new_lines, new_rows}
 
 -- the tables stand at their places
-pub place_at : (i : ℕ) (d : Table) → i < 12 → place_of (get_or all_tables i d) ≡ i
+pub place_at : (i : ℕ) (d : Table) → i < 13 → place_of (get_or all_tables i d) ≡ i
 place_at zero d low = refl
 place_at (suc zero) d low = refl
 place_at (suc (suc zero)) d low = refl
@@ -32,9 +32,10 @@ place_at (suc (suc (suc (suc (suc (suc (suc (suc zero)))))))) d low = refl
 place_at (suc (suc (suc (suc (suc (suc (suc (suc (suc zero))))))))) d low = refl
 place_at (suc (suc (suc (suc (suc (suc (suc (suc (suc (suc zero)))))))))) d low = refl
 place_at (suc (suc (suc (suc (suc (suc (suc (suc (suc (suc (suc zero))))))))))) d low = refl
-place_at (suc (suc (suc (suc (suc (suc (suc (suc (suc (suc (suc (suc i)))))))))))) d low = absurd (omega (arith, low))
+place_at (suc (suc (suc (suc (suc (suc (suc (suc (suc (suc (suc (suc zero)))))))))))) d low = refl
+place_at (suc (suc (suc (suc (suc (suc (suc (suc (suc (suc (suc (suc (suc i))))))))))))) d low = absurd (omega (arith, low))
 
-low_place : (t : Table) → place_of t < 12
+pub low_place : (t : Table) → place_of t < 13
 low_place table.Meta = omega arith
 low_place table.Ports = omega arith
 low_place table.Holders = omega arith
@@ -47,8 +48,9 @@ low_place table.Plans = omega arith
 low_place table.Approvals = omega arith
 low_place table.Undo = omega arith
 low_place table.Paths = omega arith
+low_place table.Addresses = omega arith
 
-module _ (s : State) (made : HasMade 12 s) where
+module _ (s : State) (made : HasMade 13 s) where
   none_in : (t : Table) → s.now.trees (tree_of t) ≡ []
   none_in t = made.empty t (low_place t)
 
@@ -96,6 +98,7 @@ new_among table.Plans r h = absurd h
 new_among table.Approvals r h = absurd h
 new_among table.Undo r h = absurd h
 new_among table.Paths r h = absurd h
+new_among table.Addresses r h = absurd h
 
 pub new_desk : {A : Type 0} (lines : List (TableLine A)) (tables : Tables) → lines ≡ new_lines → HaveJust lines tables → IsNewDesk tables
 new_desk {A} lines tables same just t r = (

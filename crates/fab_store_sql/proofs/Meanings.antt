@@ -2,6 +2,7 @@
 use Rattle.std.proofs.Common.{◌≡◌, ℕ, zero, suc, List, [], ◌∷◌, ◌+◌, codes, refl, false}
 use Rattle.sqlite_tied.specs.Compute.{everything}
 use Rattle.sqlite.specs.Listing.{understood, reads_listing}
+use Rattle.sqlite.specs.Schema.{Schema}
 use Rattle.sqlite.specs.Term.{Term, lit, col, op2}
 use Rattle.sqlite_sql.specs.declared.ops.BinaryOp.TheVariants.{Compare}
 use Rattle.sqlite_sql.specs.declared.ops.CompareOp.TheVariants.{Eq}
@@ -49,6 +50,7 @@ inserts_is table.Plans = (refl, (refl, refl))
 inserts_is table.Approvals = (refl, (refl, refl))
 inserts_is table.Undo = (refl, (refl, refl))
 inserts_is table.Paths = (refl, (refl, refl))
+inserts_is table.Addresses = (refl, (refl, refl))
 
 pub deletes_is : (t : Table) → (command_of (understood desk_schema (delete_text t)) ≡ Delete (place_of t) (record { lets = []; body = table_query (tree_of t) (keys_from 0 (key_width t)) (col 1 0 ∷ []) [] [] })) × IsPlain (understood desk_schema (delete_text t))
 unfolding understood everything
@@ -64,6 +66,7 @@ deletes_is table.Plans = (refl, (refl, refl))
 deletes_is table.Approvals = (refl, (refl, refl))
 deletes_is table.Undo = (refl, (refl, refl))
 deletes_is table.Paths = (refl, (refl, refl))
+deletes_is table.Addresses = (refl, (refl, refl))
 
 -- the names of the columns that a read shows
 abbrev pub names_of : Table → List (List ℕ)
@@ -79,8 +82,13 @@ names_of table.Plans = codes "rowid" ∷ codes "name" ∷ codes "author" ∷ cod
 names_of table.Approvals = codes "rowid" ∷ codes "plan" ∷ codes "caller" ∷ codes "revision" ∷ []
 names_of table.Undo = codes "rowid" ∷ codes "plan" ∷ codes "sign" ∷ codes "entry" ∷ []
 names_of table.Paths = codes "rowid" ∷ codes "host" ∷ codes "fabric" ∷ codes "initiator" ∷ codes "target" ∷ codes "volume" ∷ codes "lun" ∷ []
+names_of table.Addresses = codes "rowid" ∷ codes "wwpn" ∷ codes "address" ∷ []
 
-pub selects_is : (t : Table) → (command_of (understood desk_schema (select_text t)) ≡ Select (record { lets = []; body = table_query (tree_of t) [] (columns_from 0 (width_of t + 1)) [] ((col 1 0, ascending Binary) ∷ []) }) (names_of t)) × IsPlain (understood desk_schema (select_text t)) × (reads_listing desk_schema (select_text t) ≡ false)
+-- the text that shows the rows of the table means that in the schema
+abbrev pub Selects : Schema → Table → Type 0
+Selects schema t = (command_of (understood schema (select_text t)) ≡ Select (record { lets = []; body = table_query (tree_of t) [] (columns_from 0 (width_of t + 1)) [] ((col 1 0, ascending Binary) ∷ []) }) (names_of t)) × IsPlain (understood schema (select_text t)) × (reads_listing schema (select_text t) ≡ false)
+
+pub selects_is : (t : Table) → Selects desk_schema t
 unfolding understood everything
 selects_is table.Meta = (refl, (refl, refl), refl)
 selects_is table.Ports = (refl, (refl, refl), refl)
@@ -94,6 +102,7 @@ selects_is table.Plans = (refl, (refl, refl), refl)
 selects_is table.Approvals = (refl, (refl, refl), refl)
 selects_is table.Undo = (refl, (refl, refl), refl)
 selects_is table.Paths = (refl, (refl, refl), refl)
+selects_is table.Addresses = (refl, (refl, refl), refl)
 
 -- the order of paths
 abbrev pub path_order : List (Term × Key)

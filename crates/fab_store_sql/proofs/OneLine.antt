@@ -35,6 +35,7 @@ narrow (line.Plan l) = omega arith
 narrow (line.Approval l) = omega arith
 narrow (line.Undo l) = omega arith
 narrow (line.Path l) = omega arith
+narrow (line.Address l) = omega arith
 
 key_first : {A : Type 0} (l : TableLine A) → take (key_width (table_of l)) (row_of l) ≡ key_of (table_of l) (row_of l)
 key_first (line.Meta l) = refl
@@ -49,6 +50,7 @@ key_first (line.Plan l) = refl
 key_first (line.Approval l) = refl
 key_first (line.Undo l) = refl
 key_first (line.Path l) = refl
+key_first (line.Address l) = refl
 
 -- the first values of a line are its key
 pub key_cells : {A : Type 0} (l : TableLine A) (cells : List ValueRef) (count n : ℕ) → bound (take count cells) ≡ row_of l → n ≡ key_width (table_of l) → bound (take n cells) ≡ key_of (table_of l) (row_of l)

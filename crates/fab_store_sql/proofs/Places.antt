@@ -11,7 +11,7 @@ use Rattle.fab_store_sql.specs.Trees.{tree_of}
 use Rattle.fab_store_sql.proofs.Meanings.{place_of}
 
 abbrev pub table_at : ℕ → Table
-table_at n = slice_index_or (table.Meta ∷ table.Meta ∷ table.Ports ∷ table.Ports ∷ table.Holders ∷ table.Holders ∷ table.Volumes ∷ table.Volumes ∷ table.Zoning ∷ table.Zoning ∷ table.Active ∷ table.Active ∷ table.Groups ∷ table.Groups ∷ table.GroupParts ∷ table.GroupParts ∷ table.Plans ∷ table.Plans ∷ table.Approvals ∷ table.Approvals ∷ table.Undo ∷ table.Undo ∷ table.Paths ∷ table.Paths ∷ []) n table.Meta
+table_at n = slice_index_or (table.Meta ∷ table.Meta ∷ table.Ports ∷ table.Ports ∷ table.Holders ∷ table.Holders ∷ table.Volumes ∷ table.Volumes ∷ table.Zoning ∷ table.Zoning ∷ table.Active ∷ table.Active ∷ table.Groups ∷ table.Groups ∷ table.GroupParts ∷ table.GroupParts ∷ table.Plans ∷ table.Plans ∷ table.Approvals ∷ table.Approvals ∷ table.Undo ∷ table.Undo ∷ table.Paths ∷ table.Paths ∷ table.Addresses ∷ table.Addresses ∷ []) n table.Meta
 
 at_tree : (t : Table) → table_at (tree_of t) ≡ t
 at_tree table.Meta = refl
@@ -26,6 +26,7 @@ at_tree table.Plans = refl
 at_tree table.Approvals = refl
 at_tree table.Undo = refl
 at_tree table.Paths = refl
+at_tree table.Addresses = refl
 
 -- no two tables have one tree
 pub same_table : (a b : Table) → tree_of a ≡ tree_of b → a ≡ b
@@ -44,6 +45,7 @@ placed table.Plans = refl
 placed table.Approvals = refl
 placed table.Undo = refl
 placed table.Paths = refl
+placed table.Addresses = refl
 
 pub listed : (t : Table) → Has desk_schema.tables (made_of t)
 listed table.Meta = inl refl
@@ -58,6 +60,7 @@ listed table.Plans = inr (inr (inr (inr (inr (inr (inr (inr (inl refl))))))))
 listed table.Approvals = inr (inr (inr (inr (inr (inr (inr (inr (inr (inl refl)))))))))
 listed table.Undo = inr (inr (inr (inr (inr (inr (inr (inr (inr (inr (inl refl))))))))))
 listed table.Paths = inr (inr (inr (inr (inr (inr (inr (inr (inr (inr (inr (inl refl)))))))))))
+listed table.Addresses = inr (inr (inr (inr (inr (inr (inr (inr (inr (inr (inr (inr (inl refl))))))))))))
 
 -- no foreign key acts on a table
 pub free : (t : Table) (keys : Keys) (olds news : List Row) → works desk_schema keys 0 (tree_of t) olds news ≡ []
@@ -73,3 +76,4 @@ free table.Plans keys olds news = refl
 free table.Approvals keys olds news = refl
 free table.Undo keys olds news = refl
 free table.Paths keys olds news = refl
+free table.Addresses keys olds news = refl

@@ -66,38 +66,57 @@ pub record Fits (t : Table) (row : Row) : Type 0 where
   pub kept : cast_all (made_of t).columns row ≡ row
   pub shown : (v : Value) → show_of t (v ∷ row) ≡ row
 
-module _ (old new : State) (inside : IsInside old) where
-  pub adds : (t : Table) (row : Row) → Fits t row → (r : Result ℕ Error) → ExecutesInside 0 (insert_text t) row old new r → OnOk r (Alters (Adds (show_of t) row) t old new)
-  adds t row fits (Err e) h = tt
-  adds t row fits (Ok count) h =
-      let desk = inside.desk h.1.was_open in
+-- over the tables of the schema, whether rowids are keys or not
+module _ (old new : State) (schema : IsTrue old.is_open → old.now.schema ≡ desk_schema) where
+  -- what an INSERT changes
+  pub puts : (t : Table) (row : Row) → Fits t row → (count : ℕ) → ExecutesInside 0 (insert_text t) row old new (Ok count) → Changes (Adds (show_of t) row) desk_schema (tree_of t) old.now.trees new.now × IsDatabase new.now
+  puts t row fits count h =
+      let is = schema h.1.was_open in
       let terms = lit Null ∷ params_from 0 (width_of t) in
       let command = Insert (place_of t) (Values terms (width_of t + 1)) in
-      let w = runs_as (insert_text t) row old new desk_schema desk.schema command (inserts_is t).0 (inserts_is t).1 count h.0 in
+      let w = runs_as (insert_text t) row old new desk_schema is command (inserts_is t).0 (inserts_is t).1 count h.0 in
       let text = statement_of (insert_text t) (understood desk_schema (insert_text t)) in
-      let did = subst (λ s. Does old.step_limit (mode_of old) row (record old.now { schema = s }) text None command (Ok (w.tally, new.now))) desk.schema w.changed in
-      let here = subst (λ o. AtPlace (λ table. OnRows (record { limit = old.step_limit; keys = (mode_of old).keys; schema = desk_schema; table = table; params = row }) (mode_of old) None command old.now.trees) o (Ok (w.tally, new.now))) (placed t) did in
-      let changes = inserts old.step_limit (mode_of old) desk_schema (made_of t).name (made_of t).columns (made_of t).primary (tree_of t) row (show_of t) (free t (mode_of old).keys) (place_of t) terms (width_of t + 1) (Null ∷ row) row old.now.trees w.tally new.now here
-      fits.rows fits.kept fits.shown in
-      alters t (Adds (show_of t) row) (λ o n c. c.keyed) old new changes h.1 w.sound desk
+      let did = subst (λ s. Does old.step_limit (mode_of old) row (record old.now { schema = s }) text None command (Ok (w.tally, new.now))) is w.changed in
+      let here = subst (λ o. AtPlace (λ table. OnRows (record { limit = old.step_limit; keys = (mode_of old).keys; schema = desk_schema; table = table; params = row }) (mode_of old) None command old.now.trees) o (Ok (w.tally, new.now))) (placed t) did in (
+        inserts old.step_limit (mode_of old) desk_schema (made_of t).name (made_of t).columns (made_of t).primary (tree_of t) row (show_of t) (free t (mode_of old).keys) (place_of t) terms (width_of t + 1) (Null ∷ row) row old.now.trees w.tally new.now here
+            fits.rows fits.kept fits.shown,
+        w.sound,
+      )
+
+  -- what a DELETE changes, where the rowids of its table are keys
+  pub takes : (t : Table) (key : Row) → length key ≡ key_width t → ((r : Row) → key_of t (show_of t r) ≡ cells_from r 1 (key_width t)) → ((r : Row) → IsTrue old.is_open → Has (old.now.trees (tree_of t)) r → AreComparable r 0 key)
+      → (IsTrue old.is_open → IsKeyed (show_of t) (old.now.trees (tree_of t))) → (count : ℕ) → ExecutesInside 0 (delete_text t) key old new (Ok count)
+      → Changes (Removes (show_of t) (λ c. key_of t c ≡ key)) desk_schema (tree_of t) old.now.trees new.now × IsDatabase new.now
+  takes t key len shown can keyed count h =
+      let is = schema h.1.was_open in
+      let command = Delete (place_of t) (record { lets = []; body = table_query (tree_of t) (keys_from 0 (key_width t)) (col 1 0 ∷ []) [] [] }) in
+      let w = runs_as (delete_text t) key old new desk_schema is command (deletes_is t).0 (deletes_is t).1 count h.0 in
+      let text = statement_of (delete_text t) (understood desk_schema (delete_text t)) in
+      let did = subst (λ s. Does old.step_limit (mode_of old) key (record old.now { schema = s }) text None command (Ok (w.tally, new.now))) is w.changed in
+      let here = subst (λ o. AtPlace (λ table. OnRows (record { limit = old.step_limit; keys = (mode_of old).keys; schema = desk_schema; table = table; params = key }) (mode_of old) None command old.now.trees) o (Ok (w.tally, new.now))) (placed t) did in
+      let Test = λ (c : Row). key_of t c ≡ key in
+      let on = λ (i : ℕ). let e : 0 + i ≡ i = omega arith in ap (column key) e in (
+        deletes old.step_limit (mode_of old) desk_schema (made_of t).name (made_of t).columns (made_of t).primary (tree_of t) key (show_of t) (free t (mode_of old).keys) (place_of t) (keys_from 0 (key_width t)) old.now.trees w.tally new.now Test
+            (λ r there passes. shown r ∙ matched r key (key_width t) 0 key len on (can r h.1.was_open there) passes)
+            (λ r there passes. matches r key (key_width t) 0 key len on (can r h.1.was_open there) (sym (shown r) ∙ passes))
+            here (keyed h.1.was_open),
+        w.sound,
+      )
+
+module _ (old new : State) (inside : IsInside old) where
+  has_schema : IsTrue old.is_open → old.now.schema ≡ desk_schema
+  has_schema is_open = (inside.desk is_open).schema
+
+  pub adds : (t : Table) (row : Row) → Fits t row → (r : Result ℕ Error) → ExecutesInside 0 (insert_text t) row old new r → OnOk r (Alters (Adds (show_of t) row) t old new)
+  adds t row fits (Err e) h = tt
+  adds t row fits (Ok count) h = let p = puts old new has_schema t row fits count h in alters t (Adds (show_of t) row) (λ o n c. c.keyed) old new p.0 h.1 p.1 (inside.desk h.1.was_open)
 
   pub removes : (t : Table) (key : Row) → length key ≡ key_width t → ((r : Row) → key_of t (show_of t r) ≡ cells_from r 1 (key_width t)) → ((r : Row) → IsTrue old.is_open → Has (old.now.trees (tree_of t)) r → AreComparable r 0 key) → (r : Result ℕ Error)
       → ExecutesInside 0 (delete_text t) key old new r → OnOk r (Alters (Removes (show_of t) (λ c. key_of t c ≡ key)) t old new)
   removes t key len shown can (Err e) h = tt
   removes t key len shown can (Ok count) h =
-      let desk = inside.desk h.1.was_open in
-      let command = Delete (place_of t) (record { lets = []; body = table_query (tree_of t) (keys_from 0 (key_width t)) (col 1 0 ∷ []) [] [] }) in
-      let w = runs_as (delete_text t) key old new desk_schema desk.schema command (deletes_is t).0 (deletes_is t).1 count h.0 in
-      let text = statement_of (delete_text t) (understood desk_schema (delete_text t)) in
-      let did = subst (λ s. Does old.step_limit (mode_of old) key (record old.now { schema = s }) text None command (Ok (w.tally, new.now))) desk.schema w.changed in
-      let here = subst (λ o. AtPlace (λ table. OnRows (record { limit = old.step_limit; keys = (mode_of old).keys; schema = desk_schema; table = table; params = key }) (mode_of old) None command old.now.trees) o (Ok (w.tally, new.now))) (placed t) did in
-      let Test = λ (c : Row). key_of t c ≡ key in
-      let on = λ (i : ℕ). let e : 0 + i ≡ i = omega arith in ap (column key) e in
-      let changes = deletes old.step_limit (mode_of old) desk_schema (made_of t).name (made_of t).columns (made_of t).primary (tree_of t) key (show_of t) (free t (mode_of old).keys) (place_of t) (keys_from 0 (key_width t)) old.now.trees w.tally new.now Test
-      (λ r there passes. shown r ∙ matched r key (key_width t) 0 key len on (can r h.1.was_open there) passes)
-      (λ r there passes. matches r key (key_width t) 0 key len on (can r h.1.was_open there) (sym (shown r) ∙ passes))
-      here (desk.keyed t) in
-      alters t (Removes (show_of t) Test) (λ o n c _. c.keyed) old new changes h.1 w.sound desk
+      let p = takes old new has_schema t key len shown can (λ is_open. (inside.desk is_open).keyed t) count h in
+      alters t (Removes (show_of t) (λ c. key_of t c ≡ key)) (λ o n c _. c.keyed) old new p.0 h.1 p.1 (inside.desk h.1.was_open)
 
 -- ---- lines
 
@@ -129,6 +148,7 @@ fits (line.Plan l) = record { rows = refl; kept = ap (λ x. Text l.name ∷ Text
 fits (line.Approval l) = record { rows = refl; kept = ap (λ x. Text l.plan ∷ Text l.caller ∷ x ∷ []) (cast_integer l.revision); shown = λ v. refl }
 fits (line.Undo l) = record { rows = refl; kept = refl; shown = λ v. refl }
 fits (line.Path l) = record { rows = refl; kept = ap (λ x. Text l.host ∷ Text l.fabric ∷ Text l.initiator ∷ Text l.target ∷ Text l.volume ∷ x ∷ []) (cast_integer l.lun); shown = λ v. refl }
+fits (line.Address l) = record { rows = refl; kept = refl; shown = λ v. refl }
 
 key_length : {A : Type 0} (l : TableLine A) → length (key_of (table_of l) (row_of l)) ≡ key_width (table_of l)
 key_length (line.Meta l) = refl
@@ -143,6 +163,7 @@ key_length (line.Plan l) = refl
 key_length (line.Approval l) = refl
 key_length (line.Undo l) = refl
 key_length (line.Path l) = refl
+key_length (line.Address l) = refl
 
 key_shown : (t : Table) (r : Row) → key_of t (show_of t r) ≡ cells_from r 1 (key_width t)
 key_shown table.Meta r = refl
@@ -157,6 +178,7 @@ key_shown table.Plans r = refl
 key_shown table.Approvals r = refl
 key_shown table.Undo r = refl
 key_shown table.Paths r = refl
+key_shown table.Addresses r = refl
 
 module _ (old new : State) (inside : IsInside old) where
   -- the unit number of a path is a number
@@ -181,6 +203,7 @@ module _ (old new : State) (inside : IsInside old) where
   comparable (line.Approval l) r is_open there = (tt, (tt, tt))
   comparable (line.Undo l) r is_open there = (tt, (tt, (tt, tt)))
   comparable (line.Path l) r is_open there = (tt, (tt, (tt, (tt, (tt, (unit_number is_open r there, tt))))))
+  comparable (line.Address l) r is_open there = (tt, tt)
 
   pub adds_line : {A : Type 0} (l : TableLine A) (r : Result ℕ Error) → ExecutesInside 0 (insert_text (table_of l)) (row_of l) old new r → OnOk r (Alters (Adds (show_of (table_of l)) (row_of l)) (table_of l) old new)
   adds_line l r ran = adds old new inside (table_of l) (row_of l) (fits l) r ran

@@ -25,6 +25,7 @@ index_named table.Plans = refl
 index_named table.Approvals = refl
 index_named table.Undo = refl
 index_named table.Paths = refl
+index_named table.Addresses = refl
 
 pub index_made : (t : Table) → key_index t ≡ record { name = index_name t; tree = tree_of t + 1; table = tree_of t; columns = places_of t; order = plain; is_unique = true }
 index_made t = ap (λ n. record { name = n; tree = tree_of t + 1; table = tree_of t; columns = places_of t; order = plain; is_unique = true })

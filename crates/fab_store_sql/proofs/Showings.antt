@@ -12,6 +12,7 @@ use Rattle.sqlite.specs.Program.{overlay}
 use Rattle.sqlite.specs.Collation.TheVariants.{Binary}
 use Rattle.sqlite_value.specs.Keys.{ascending}
 use Rattle.sqlite.specs.Term.{col, eval_all}
+use Rattle.sqlite.specs.Schema.{Schema}
 use Rattle.sqlite.specs.State.{State, Survives, Shown, CommitsShowing, FailsToQuery, FailsToShow, IsStatement, IsUnchanged, IsRolledBack, ShowsRows}
 use Rattle.sqlite.specs.Clock.{timed}
 use Rattle.sqlite.specs.Effect.{Database}
@@ -30,7 +31,7 @@ use Rattle.fab_store_sql.specs.Trees.{tree_of, width_of, show_of, tables_of}
 use Rattle.fab_store_sql.specs.Rows.{IsKeyed}
 use Rattle.fab_store_sql.specs.States.{IsDesk, IsReady}
 use Rattle.fab_store_sql.specs.Reading.{AreShown, IsAny, IsOfHost, DoRise, id_at, AreLinesOf, Stays}
-use Rattle.fab_store_sql.proofs.Meanings.{columns_from, keys_from, path_order, selects_is, paths_is}
+use Rattle.fab_store_sql.proofs.Meanings.{columns_from, keys_from, path_order, Selects, selects_is, paths_is}
 use Rattle.fab_store_sql.proofs.Cells.{matched, matches, same_int}
 use Rattle.fab_store_sql.proofs.Queries.{shows}
 use Rattle.fab_store_sql.proofs.Edits.{overlaid}
@@ -49,6 +50,7 @@ cells_shown table.Plans params r = refl
 cells_shown table.Approvals params r = refl
 cells_shown table.Undo params r = refl
 cells_shown table.Paths params r = refl
+cells_shown table.Addresses params r = refl
 
 -- a row that was shown shows the same
 shown_again : (t : Table) (r : Row) → show_of t (rowid r ∷ show_of t r) ≡ show_of t r
@@ -64,15 +66,20 @@ shown_again table.Plans r = refl
 shown_again table.Approvals r = refl
 shown_again table.Undo r = refl
 shown_again table.Paths r = refl
+shown_again table.Addresses r = refl
 
-pub rows_shown : (t : Table) (old new : State) (rows : List Row) → old.now.schema ≡ desk_schema → Shown (select_text t) [] old new rows → AreShown t IsAny old.now.trees rows
-rows_shown t old new rows has shown =
-    let read = reads_as (select_text t) [] old new desk_schema has _ (selects_is t).0 (selects_is t).1 (selects_is t).2 rows shown in
+-- over any schema in which the text that shows the rows of the table means that
+pub rows_read : (schema : Schema) (t : Table) → Selects schema t → (old new : State) (rows : List Row) → old.now.schema ≡ schema → Shown (select_text t) [] old new rows → AreShown t IsAny old.now.trees rows
+rows_read schema t selects old new rows has shown =
+    let read = reads_as (select_text t) [] old new schema has _ selects.0 selects.1 selects.2 rows shown in
     let s = shows (tree_of t) [] (columns_from 0 (width_of t + 1)) [] ((col 1 0, ascending Binary) ∷ []) (overlay old.now.trees []) [] rows (read.answer Null) in
     record {
       sound = λ x h. let r = s.sound x h in (r.0, subst (λ l. Has l r.0) (overlaid old.now.trees (tree_of t)) r.1, tt, r.3 ∙ cells_shown t [] r.0);
       complete = λ r h _. subst (Has rows) (cells_shown t [] r) (s.complete r (subst (λ l. Has l r) (sym (overlaid old.now.trees (tree_of t))) h) refl);
     }
+
+pub rows_shown : (t : Table) (old new : State) (rows : List Row) → old.now.schema ≡ desk_schema → Shown (select_text t) [] old new rows → AreShown t IsAny old.now.trees rows
+rows_shown t = rows_read desk_schema t (selects_is t)
 
 pub paths_shown : (host : List ℕ) (old new : State) (rows : List Row) → old.now.schema ≡ desk_schema → Shown paths_text (Text host ∷ []) old new rows → AreShown table.Paths (IsOfHost host) old.now.trees rows
 paths_shown host old new rows has shown =

@@ -15,10 +15,10 @@ use Rattle.fab_store_sql.specs.Trees.{tree_of, show_of, tables_of}
 use Rattle.fab_store_sql.specs.States.{Alters, IsOf, HasKey, HasKeyAmong, Loses, Gains, Walks}
 use Rattle.fab_store_sql.proofs.Places.{same_table}
 
-held : (show : Row → Row) (rows : List Row) (c : Row) → Holds show rows c → Contains (map show rows) c
+pub held : (show : Row → Row) (rows : List Row) (c : Row) → Holds show rows c → Contains (map show rows) c
 held show rows c h = contains_had _ c (subst (λ d. Has (map show rows) d) (sym h.2) (mapped_has show rows h.0 h.1))
 
-holds : (show : Row → Row) (rows : List Row) (c : Row) → Contains (map show rows) c → Holds show rows c
+pub holds : (show : Row → Row) (rows : List Row) (c : Row) → Contains (map show rows) c → Holds show rows c
 holds show rows c h = has_mapped show rows c (has_contained _ c h)
 
 either_table : (a b : Table) → (a ≡ b) ⊎ (a ≢ b)

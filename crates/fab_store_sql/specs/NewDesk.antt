@@ -1,5 +1,5 @@
 -- The tables of a new desk, and how they are made.
-use Rattle.std.specs.Prelude.{◌≡◌, ◌↔◌, ◌<◌, ℕ, false, List, [], ◌∷◌, map, take, IsTrue, Contains, codes}
+use Rattle.std.specs.Prelude.{◌≡◌, ◌↔◌, ◌<◌, ◌+◌, ℕ, false, List, [], ◌∷◌, map, take, IsTrue, Contains, codes}
 use Rattle.sqlite.specs.Order.{Row}
 use Rattle.sqlite.specs.Schema.{Schema}
 use Rattle.sqlite.specs.State.{State}
@@ -9,11 +9,11 @@ use Rattle.fab_store_columns.specs.MetaLines.{meta_line}
 use Rattle.fab_store_tables.specs.Tables.{Tables, IsAmong, row_of}
 use Rattle.fab_store_tables.specs.declared.stored_line.TableLine.{TableLine}
 use Rattle.fab_store_tables.specs.declared.stored_line.TableLine.TheVariants as line
-use Rattle.fab_store_sql.specs.Schema.{all_tables, tree_of, made_of, key_index}
+use Rattle.fab_store_sql.specs.Schema.{all_tables, tree_of, schema_of}
 
 -- the first tables of the schema
 abbrev pub schema_first : ℕ → Schema
-schema_first n = record { tables = map made_of (take n all_tables); indexes = map key_index (take n all_tables); views = [] }
+schema_first n = schema_of (take n all_tables)
 
 -- the place of the table in the schema
 abbrev pub place_of : Table → ℕ
@@ -29,6 +29,18 @@ place_of table.Plans = 8
 place_of table.Approvals = 9
 place_of table.Undo = 10
 place_of table.Paths = 11
+place_of table.Addresses = 12
+
+-- in a transaction, with so many tables of the schema
+pub record HasFirst (n : ℕ) (s : State) : Type 0 where
+  pub inside : IsTrue s.in_transaction
+  pub schema : s.now.schema ≡ schema_first n
+
+-- one table more, which is empty; those before it have the rows that they had
+pub record IsOneMore (t : Table) (old new : State) : Type 0 where
+  pub first : HasFirst (place_of t + 1) new
+  pub none : new.now.trees (tree_of t) ≡ []
+  pub kept : (other : Table) → place_of other < place_of t → new.now.trees (tree_of other) ≡ old.now.trees (tree_of other)
 
 -- in a transaction, with so many tables of the schema, which are empty
 pub record HasMade (n : ℕ) (s : State) : Type 0 where
@@ -40,9 +52,9 @@ pub record HasMade (n : ℕ) (s : State) : Type 0 where
 abbrev pub setting : {A : Type 0} → List ℕ → List ℕ → TableLine A
 setting key value = line.Meta (meta_line key value)
 
--- the lines of a new desk: schema 1 at revision 0, no zone set active, and default zones that deny
+-- the lines of a new desk: schema 2 at revision 0, no zone set active, and default zones that deny
 abbrev pub new_lines : {A : Type 0} → List (TableLine A)
-new_lines = setting (codes "schema") (codes "1") ∷ setting (codes "revision") (codes "0") ∷ setting (codes "active.A") (codes "") ∷ setting (codes "active.B") (codes "")
+new_lines = setting (codes "schema") (codes "2") ∷ setting (codes "revision") (codes "0") ∷ setting (codes "active.A") (codes "") ∷ setting (codes "active.B") (codes "")
     ∷ setting (codes "default.A") (codes "deny") ∷ setting (codes "default.B") (codes "deny") ∷ []
 
 -- the tables have just the rows of these lines

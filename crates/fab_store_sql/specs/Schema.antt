@@ -1,4 +1,4 @@
--- The twelve tables, as a schema of SQL.
+-- The thirteen tables, as a schema of SQL.
 use Rattle.std.specs.Prelude.{ℕ, Bool, true, false, List, [], ◌∷◌, ◌+◌, ◌++◌, map, Option, None, Some, codes}
 use Rattle.sqlite.specs.declared.types.Value.TheVariants.{Null}
 use Rattle.sqlite.specs.Collation.TheVariants.{Binary}
@@ -47,7 +47,7 @@ strict_table tree name columns key = record {
 
 -- the tables, in the order in which they are made
 abbrev pub all_tables : List Table
-all_tables = table.Meta ∷ table.Ports ∷ table.Holders ∷ table.Volumes ∷ table.Zoning ∷ table.Active ∷ table.Groups ∷ table.GroupParts ∷ table.Plans ∷ table.Approvals ∷ table.Undo ∷ table.Paths ∷ []
+all_tables = table.Meta ∷ table.Ports ∷ table.Holders ∷ table.Volumes ∷ table.Zoning ∷ table.Active ∷ table.Groups ∷ table.GroupParts ∷ table.Plans ∷ table.Approvals ∷ table.Undo ∷ table.Paths ∷ table.Addresses ∷ []
 
 -- the tree that a table's rows are in
 abbrev pub tree_of : Table → ℕ
@@ -63,6 +63,7 @@ tree_of table.Plans = 16
 tree_of table.Approvals = 18
 tree_of table.Undo = 20
 tree_of table.Paths = 22
+tree_of table.Addresses = 24
 
 abbrev pub name_of : Table → List ℕ
 name_of table.Meta = codes "meta"
@@ -77,6 +78,7 @@ name_of table.Plans = codes "plans"
 name_of table.Approvals = codes "approvals"
 name_of table.Undo = codes "undo"
 name_of table.Paths = codes "paths"
+name_of table.Addresses = codes "addresses"
 
 abbrev pub columns_of : Table → List Column
 columns_of table.Meta = columns_named (codes "key" ∷ codes "value" ∷ []) None
@@ -91,6 +93,7 @@ columns_of table.Plans = columns_named (codes "name" ∷ codes "author" ∷ code
 columns_of table.Approvals = columns_named (codes "plan" ∷ codes "caller" ∷ []) (Some (codes "revision"))
 columns_of table.Undo = columns_named (codes "plan" ∷ codes "sign" ∷ codes "entry" ∷ []) None
 columns_of table.Paths = columns_named (codes "host" ∷ codes "fabric" ∷ codes "initiator" ∷ codes "target" ∷ codes "volume" ∷ []) (Some (codes "lun"))
+columns_of table.Addresses = columns_named (codes "wwpn" ∷ codes "address" ∷ []) None
 
 -- the columns of its key: the first ones
 abbrev pub places_of : Table → List ℕ
@@ -106,6 +109,7 @@ places_of table.Plans = 1 ∷ []
 places_of table.Approvals = 1 ∷ 2 ∷ []
 places_of table.Undo = 1 ∷ 2 ∷ 3 ∷ []
 places_of table.Paths = 1 ∷ 2 ∷ 3 ∷ 4 ∷ 5 ∷ 6 ∷ []
+places_of table.Addresses = 1 ∷ []
 
 abbrev pub made_of : Table → SqlTable
 made_of t = strict_table (tree_of t) (name_of t) (columns_of t) (places_of t)
@@ -124,11 +128,15 @@ index_name table.Plans = codes "sqlite_autoindex_plans_1"
 index_name table.Approvals = codes "sqlite_autoindex_approvals_1"
 index_name table.Undo = codes "sqlite_autoindex_undo_1"
 index_name table.Paths = codes "sqlite_autoindex_paths_1"
+index_name table.Addresses = codes "sqlite_autoindex_addresses_1"
 
 -- the index of its key, in the tree behind its own
 abbrev pub key_index : Table → Index
 key_index t = automatic (made_of t) 0 (places_of t) (tree_of t + 1)
 
 -- the tables and the indexes of their keys, and nothing else
+abbrev pub schema_of : List Table → Schema
+schema_of tables = record { tables = map made_of tables; indexes = map key_index tables; views = [] }
+
 abbrev pub desk_schema : Schema
-desk_schema = record { tables = map made_of all_tables; indexes = map key_index all_tables; views = [] }
+desk_schema = schema_of all_tables

@@ -17,6 +17,7 @@ insert_text table.Plans = codes "INSERT INTO plans VALUES (?1, ?2, ?3, ?4, ?5)"
 insert_text table.Approvals = codes "INSERT INTO approvals VALUES (?1, ?2, ?3)"
 insert_text table.Undo = codes "INSERT INTO undo VALUES (?1, ?2, ?3)"
 insert_text table.Paths = codes "INSERT INTO paths VALUES (?1, ?2, ?3, ?4, ?5, ?6)"
+insert_text table.Addresses = codes "INSERT INTO addresses VALUES (?1, ?2)"
 
 -- removes the rows with a key
 abbrev pub delete_text : Table → List ℕ
@@ -32,6 +33,7 @@ delete_text table.Plans = codes "DELETE FROM plans WHERE name = ?1"
 delete_text table.Approvals = codes "DELETE FROM approvals WHERE plan = ?1 AND caller = ?2"
 delete_text table.Undo = codes "DELETE FROM undo WHERE plan = ?1 AND sign = ?2 AND entry = ?3"
 delete_text table.Paths = codes "DELETE FROM paths WHERE host = ?1 AND fabric = ?2 AND initiator = ?3 AND target = ?4 AND volume = ?5 AND lun = ?6"
+delete_text table.Addresses = codes "DELETE FROM addresses WHERE wwpn = ?1"
 
 -- shows the rows, each behind its rowid
 abbrev pub select_text : Table → List ℕ
@@ -47,6 +49,7 @@ select_text table.Plans = codes "SELECT rowid, name, author, text, state, positi
 select_text table.Approvals = codes "SELECT rowid, plan, caller, revision FROM approvals ORDER BY rowid"
 select_text table.Undo = codes "SELECT rowid, plan, sign, entry FROM undo ORDER BY rowid"
 select_text table.Paths = codes "SELECT rowid, host, fabric, initiator, target, volume, lun FROM paths ORDER BY rowid"
+select_text table.Addresses = codes "SELECT rowid, wwpn, address FROM addresses ORDER BY rowid"
 
 -- makes the table
 abbrev pub create_text : Table → List ℕ
@@ -62,6 +65,7 @@ create_text table.Plans = codes "CREATE TABLE plans (name TEXT NOT NULL, author 
 create_text table.Approvals = codes "CREATE TABLE approvals (plan TEXT NOT NULL, caller TEXT NOT NULL, revision INTEGER NOT NULL, PRIMARY KEY (plan, caller)) STRICT"
 create_text table.Undo = codes "CREATE TABLE undo (plan TEXT NOT NULL, sign TEXT NOT NULL, entry TEXT NOT NULL, PRIMARY KEY (plan, sign, entry)) STRICT"
 create_text table.Paths = codes "CREATE TABLE paths (host TEXT NOT NULL, fabric TEXT NOT NULL, initiator TEXT NOT NULL, target TEXT NOT NULL, volume TEXT NOT NULL, lun INTEGER NOT NULL, PRIMARY KEY (host, fabric, initiator, target, volume, lun)) STRICT"
+create_text table.Addresses = codes "CREATE TABLE addresses (wwpn TEXT NOT NULL, address TEXT NOT NULL, PRIMARY KEY (wwpn)) STRICT"
 
 -- shows the paths of a host in their order, each behind its rowid
 abbrev pub paths_text : List ℕ

@@ -21,6 +21,7 @@ width_of table.Plans = 5
 width_of table.Approvals = 3
 width_of table.Undo = 3
 width_of table.Paths = 6
+width_of table.Addresses = 2
 
 -- how many of them are its key: the first ones
 abbrev pub key_width : Table → ℕ
@@ -36,6 +37,7 @@ key_width table.Plans = 1
 key_width table.Approvals = 2
 key_width table.Undo = 3
 key_width table.Paths = 6
+key_width table.Addresses = 1
 
 -- so many columns of a row, from this one on
 abbrev pub cells_from : Row → ℕ → ℕ → Row

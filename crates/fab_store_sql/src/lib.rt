@@ -1,4 +1,4 @@
-//! The SQL of the twelve tables: their statements, one transaction of changes, reads of whole tables,
+//! The SQL of the thirteen tables: their statements, one transaction of changes, reads of whole tables,
 //! and the tables of a new desk.
 #![tactic(auto)]
 
@@ -13,7 +13,7 @@ mod values;
 
 pub use changes::apply;
 pub use line::Line;
-pub use making::init;
-pub use read::{ReadFault, read_all, read_paths_of};
-pub use shape::has_tables;
+pub use making::{create, init};
+pub use read::{ReadFault, lines_from, read_all, read_paths_of, rise};
+pub use shape::{ALL, has_tables};
 pub use texts::{create_text, delete_text, insert_text, paths_text, select_text};

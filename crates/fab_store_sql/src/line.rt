@@ -7,8 +7,8 @@ ghost use Rattle.fab_store_tables.specs.Columns as column;
 ghost use Rattle.fab_store_sql.specs.Trees.{show_of};
 
 use fab_store_columns::{
-    ActiveLine, ApprovalLine, GroupLine, HolderLine, MetaLine, PartLine, PathLine, PlanLine,
-    PortLine, VolumeLine, ZoningLine,
+    ActiveLine, AddressLine, ApprovalLine, GroupLine, HolderLine, MetaLine, PartLine, PathLine,
+    PlanLine, PortLine, VolumeLine, ZoningLine,
 };
 use fab_store_tables::{Table, UndoLine};
 use sqlite::{Error, Row};
@@ -68,6 +68,23 @@ impl Line for PortLine<Global> {
             domain: shown.get(4)?,
             slot: shown.get(5)?,
             holder: shown.get(6)?,
+        })
+    }
+}
+
+impl Line for AddressLine<Global> {
+    ghost place = { table.Addresses };
+
+    ghost row = { column.address_row };
+
+    fn table() -> Table {
+        Table::Addresses
+    }
+
+    fn read(shown: &Row) -> Result<Self, Error> {
+        Ok(AddressLine {
+            wwpn: shown.get(1)?,
+            address: shown.get(2)?,
         })
     }
 }

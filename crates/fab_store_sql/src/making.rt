@@ -7,7 +7,7 @@ ghost use Rattle.fab_store_sql.specs.Trees.{tables_of};
 ghost use Rattle.fab_store_sql.specs.States.{IsInside, IsReady, IsServing};
 ghost use Rattle.fab_store_sql.specs.Reading.{Stays};
 ghost use Rattle.fab_store_sql.specs.NewDesk as spec;
-ghost use Rattle.fab_store_sql.specs.NewDesk.{HasMade, HaveJust, IsBlank, IsNewDesk};
+ghost use Rattle.fab_store_sql.specs.NewDesk.{HasFirst, IsOneMore, HasMade, HaveJust, IsBlank, IsNewDesk};
 
 use crate::changes::add_all;
 use crate::shape::ALL;
@@ -17,10 +17,13 @@ use fab_store_tables::{Table, TableLine};
 use sqlite::{Alter, Connection, Error, ErrorCode, Transaction};
 use std::alloc::{AllocError, Global};
 
-/// Makes the table.
-fn create<S: Alter>(tx: &mut Transaction<'_, S>, table: Table) -> Result<(), Error>
+/// Makes the table, where those before it are there.
+///
+/// # Errors
+/// Where the statement fails.
+pub fn create<S: Alter>(tx: &mut Transaction<'_, S>, table: Table) -> Result<(), Error>
     ensures same_reference { tx.new.conn.ghost_name ≡ tx.old.conn.ghost_name }
-    ensures made { HasCleanDisk (state S.Store tx.new.conn.now) → HasMade (spec.place_of table) (state S.Store tx.old.conn.now) → OnOk result (HasMade (spec.place_of table + 1) (state S.Store tx.new.conn.now) × IsDatabase (state S.Store tx.new.conn.now).now) }
+    ensures made { HasCleanDisk (state S.Store tx.new.conn.now) → HasFirst (spec.place_of table) (state S.Store tx.old.conn.now) → OnOk result (IsOneMore table (state S.Store tx.old.conn.now) (state S.Store tx.new.conn.now) × IsDatabase (state S.Store tx.new.conn.now).now) }
     ensures kept { HasCleanDisk (state S.Store tx.new.conn.now) → IsTrue (state S.Store tx.old.conn.now).in_transaction → KeepsCommit (state S.Store tx.old.conn.now) (state S.Store tx.new.conn.now) }
     ensures survives { Survives (state S.Store tx.old.conn.now) (state S.Store tx.new.conn.now) (λ _. ⊥) }
 {
@@ -31,7 +34,7 @@ fn create<S: Alter>(tx: &mut Transaction<'_, S>, table: Table) -> Result<(), Err
 /// Makes the tables.
 fn create_all<S: Alter>(tx: &mut Transaction<'_, S>) -> Result<(), Error>
     ensures same_reference { tx.new.conn.ghost_name ≡ tx.old.conn.ghost_name }
-    ensures made { HasCleanDisk (state S.Store tx.new.conn.now) → HasMade 0 (state S.Store tx.old.conn.now) → OnOk result (HasMade 12 (state S.Store tx.new.conn.now) × IsDatabase (state S.Store tx.new.conn.now).now) }
+    ensures made { HasCleanDisk (state S.Store tx.new.conn.now) → HasMade 0 (state S.Store tx.old.conn.now) → OnOk result (HasMade 13 (state S.Store tx.new.conn.now) × IsDatabase (state S.Store tx.new.conn.now).now) }
     ensures kept { HasCleanDisk (state S.Store tx.new.conn.now) → HasMade 0 (state S.Store tx.old.conn.now) → KeepsCommit (state S.Store tx.old.conn.now) (state S.Store tx.new.conn.now) }
     ensures survives { Survives (state S.Store tx.old.conn.now) (state S.Store tx.new.conn.now) (λ _. ⊥) }
 {
@@ -55,7 +58,7 @@ fn setting(alloc: Global, key: &str, value: &str) -> Result<TableLine<Global>, A
 fn new_lines(alloc: Global) -> Result<[TableLine<Global>; 6], AllocError>
     ensures { IfOk result (λ lines. lines ≡ spec.new_lines) }
 {
-    let schema = setting(alloc, "schema", "1")?;
+    let schema = setting(alloc, "schema", "2")?;
     let revision = setting(alloc, "revision", "0")?;
     let active_a = setting(alloc, "active.A", "")?;
     let active_b = setting(alloc, "active.B", "")?;

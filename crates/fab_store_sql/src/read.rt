@@ -14,7 +14,7 @@ ghost use Rattle.fab_store_sql.specs.States.{IsReady};
 ghost use Rattle.fab_store_sql.specs.Reading.{AreShown, AreStreamed, IsAny, IsOfHost, DoRise, AreLinesOf, Stays};
 
 use crate::line::Line;
-use crate::shape::has_tables;
+use crate::shape::{ALL, has_tables};
 use crate::texts::{paths_text, select_text};
 use fab_store_columns::PathLine;
 use fab_store_tables::Table;
@@ -34,7 +34,7 @@ pub enum ReadFault {
 }
 
 /// Whether the rowids rise.
-fn rise(rows: &[Row]) -> bool
+pub fn rise(rows: &[Row]) -> bool
     ensures { IsTrue result → DoRise rows.now }
 {
     let mut last = i64::MIN;
@@ -62,7 +62,10 @@ fn line_from<L: Line>(shown: &Row) -> Result<L, ReadFault>
 }
 
 /// The lines that the rows show.
-fn lines_from<L: Line>(alloc: Global, rows: &[Row]) -> Result<Vec<L>, ReadFault>
+///
+/// # Errors
+/// `Odd` where a column is not of its type; `Memory`.
+pub fn lines_from<L: Line>(alloc: Global, rows: &[Row]) -> Result<Vec<L>, ReadFault>
     ensures { IfOk result (λ lines. map L.Line.row lines.items ≡ map (show_of L.Line.place) rows.now) }
 {
     let mut lines = Vec::new(alloc);
@@ -89,7 +92,7 @@ fn ask<S: Alter>(
     ensures outside { conn.old.in_transaction ≡ false → conn.new.in_transaction ≡ false }
     ensures survives { IsPlain (understood desk_schema text.now) → Survives (state S.Store conn.old) (state S.Store conn.new) (λ _. ⊥) }
 {
-    if !has_tables(conn) {
+    if !has_tables(conn, &ALL) {
         return Err(ReadFault::Odd);
     }
     match conn.query_all(text, params) {
@@ -198,7 +201,7 @@ pub fn read_paths_of<S: Alter>(
     ensures outside { conn.old.in_transaction ≡ false → conn.new.in_transaction ≡ false }
     ensures survives { Survives (state S.Store conn.old) (state S.Store conn.new) (λ _. ⊥) }
 {
-    if !has_tables(conn) {
+    if !has_tables(conn, &ALL) {
         return Err(ReadFault::Odd);
     }
     stream(conn, alloc, paths_text(), params![host])

@@ -15,7 +15,7 @@ use sqlite_value::keys::{Collation, Order};
 use sqlite_value::value::{Bytes, Value};
 
 /// The tables, in the order in which they are made.
-pub(crate) const ALL: [Table; 12] = [
+pub const ALL: [Table; 13] = [
     Table::Meta,
     Table::Ports,
     Table::Holders,
@@ -28,6 +28,7 @@ pub(crate) const ALL: [Table; 12] = [
     Table::Approvals,
     Table::Undo,
     Table::Paths,
+    Table::Addresses,
 ];
 
 fn tree_of(table: Table) -> u32
@@ -46,6 +47,7 @@ fn tree_of(table: Table) -> u32
         Table::Approvals => 18,
         Table::Undo => 20,
         Table::Paths => 22,
+        Table::Addresses => 24,
     }
 }
 
@@ -65,6 +67,7 @@ fn name_of(table: Table) -> &'static str
         Table::Approvals => "approvals",
         Table::Undo => "undo",
         Table::Paths => "paths",
+        Table::Addresses => "addresses",
     }
 }
 
@@ -84,6 +87,7 @@ fn index_name(table: Table) -> &'static str
         Table::Approvals => "sqlite_autoindex_approvals_1",
         Table::Undo => "sqlite_autoindex_undo_1",
         Table::Paths => "sqlite_autoindex_paths_1",
+        Table::Addresses => "sqlite_autoindex_addresses_1",
     }
 }
 
@@ -92,7 +96,12 @@ fn places_of(table: Table) -> &'static [usize]
     ensures { result.now ≡ spec.places_of table }
 {
     match table {
-        Table::Meta | Table::Ports | Table::Holders | Table::Volumes | Table::Plans => &[1],
+        Table::Meta
+        | Table::Ports
+        | Table::Addresses
+        | Table::Holders
+        | Table::Volumes
+        | Table::Plans => &[1],
         Table::Groups | Table::Approvals => &[1, 2],
         Table::Active | Table::Undo => &[1, 2, 3],
         Table::Zoning | Table::GroupParts => &[1, 2, 3, 4],
@@ -192,6 +201,7 @@ fn are_columns_of(found: &[Column], table: Table) -> bool
         Table::Approvals => are_columns(found, &["plan", "caller"], Some("revision")),
         Table::Undo => are_columns(found, &["plan", "sign", "entry"], None),
         Table::Paths => are_path_columns(found),
+        Table::Addresses => are_columns(found, &["wwpn", "address"], None),
     }
 }
 
@@ -277,11 +287,11 @@ fn is_key_index(found: &Index, table: Table) -> bool
     is_index(found, index_name(table), tree + 1, tree, places_of(table))
 }
 
-fn are_tables(found: &[SqlTable]) -> bool
-    ensures { IsTrue result → found.now ≡ map spec.made_of spec.all_tables }
+fn are_tables(found: &[SqlTable], tables: &[Table]) -> bool
+    ensures { IsTrue result → found.now ≡ map spec.made_of tables.now }
 {
     let mut rest = found;
-    for table in &ALL {
+    for table in tables {
         let [first, more @ ..] = rest else {
             return false;
         };
@@ -293,11 +303,11 @@ fn are_tables(found: &[SqlTable]) -> bool
     rest.is_empty()
 }
 
-fn are_indexes(found: &[Index]) -> bool
-    ensures { IsTrue result → found.now ≡ map spec.key_index spec.all_tables }
+fn are_indexes(found: &[Index], tables: &[Table]) -> bool
+    ensures { IsTrue result → found.now ≡ map spec.key_index tables.now }
 {
     let mut rest = found;
-    for table in &ALL {
+    for table in tables {
         let [first, more @ ..] = rest else {
             return false;
         };
@@ -309,12 +319,13 @@ fn are_indexes(found: &[Index]) -> bool
     rest.is_empty()
 }
 
-/// Whether the connection has the tables of the schema, and nothing else: true only if it has.
-pub fn has_tables<S: Alter>(conn: &Connection<S>) -> bool
-    ensures { IsTrue result → (state S.Store conn.now).now.schema ≡ spec.desk_schema }
+/// Whether the connection has these tables, made in this order, and nothing else: true only if it has.
+/// `ALL` are those of the schema.
+pub fn has_tables<S: Alter>(conn: &Connection<S>, tables: &[Table]) -> bool
+    ensures { IsTrue result → (state S.Store conn.now).now.schema ≡ spec.schema_of tables.now }
 {
     let schema = conn.schema();
-    are_tables(schema.tables.as_slice())
-        && are_indexes(schema.indexes.as_slice())
+    are_tables(schema.tables.as_slice(), tables)
+        && are_indexes(schema.indexes.as_slice(), tables)
         && schema.views.is_empty()
 }

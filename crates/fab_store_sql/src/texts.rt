@@ -21,6 +21,7 @@ pub fn insert_text(table: Table) -> &'static str
         Table::Approvals => "INSERT INTO approvals VALUES (?1, ?2, ?3)",
         Table::Undo => "INSERT INTO undo VALUES (?1, ?2, ?3)",
         Table::Paths => "INSERT INTO paths VALUES (?1, ?2, ?3, ?4, ?5, ?6)",
+        Table::Addresses => "INSERT INTO addresses VALUES (?1, ?2)",
     }
 }
 
@@ -44,6 +45,7 @@ pub fn delete_text(table: Table) -> &'static str
         Table::Undo => "DELETE FROM undo WHERE plan = ?1 AND sign = ?2 AND entry = ?3",
         Table::Paths =>
             "DELETE FROM paths WHERE host = ?1 AND fabric = ?2 AND initiator = ?3 AND target = ?4 AND volume = ?5 AND lun = ?6",
+        Table::Addresses => "DELETE FROM addresses WHERE wwpn = ?1",
     }
 }
 
@@ -69,6 +71,7 @@ pub fn select_text(table: Table) -> &'static str
         Table::Undo => "SELECT rowid, plan, sign, entry FROM undo ORDER BY rowid",
         Table::Paths =>
             "SELECT rowid, host, fabric, initiator, target, volume, lun FROM paths ORDER BY rowid",
+        Table::Addresses => "SELECT rowid, wwpn, address FROM addresses ORDER BY rowid",
     }
 }
 
@@ -108,5 +111,7 @@ pub fn create_text(table: Table) -> &'static str
             "CREATE TABLE undo (plan TEXT NOT NULL, sign TEXT NOT NULL, entry TEXT NOT NULL, PRIMARY KEY (plan, sign, entry)) STRICT",
         Table::Paths =>
             "CREATE TABLE paths (host TEXT NOT NULL, fabric TEXT NOT NULL, initiator TEXT NOT NULL, target TEXT NOT NULL, volume TEXT NOT NULL, lun INTEGER NOT NULL, PRIMARY KEY (host, fabric, initiator, target, volume, lun)) STRICT",
+        Table::Addresses =>
+            "CREATE TABLE addresses (wwpn TEXT NOT NULL, address TEXT NOT NULL, PRIMARY KEY (wwpn)) STRICT",
     }
 }

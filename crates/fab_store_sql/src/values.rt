@@ -33,7 +33,12 @@ pub(crate) fn key_width(table: Table) -> usize
     ensures few { result ≤ 6 }
 {
     match table {
-        Table::Meta | Table::Ports | Table::Holders | Table::Volumes | Table::Plans => 1,
+        Table::Meta
+        | Table::Ports
+        | Table::Addresses
+        | Table::Holders
+        | Table::Volumes
+        | Table::Plans => 1,
         Table::Groups | Table::Approvals => 2,
         Table::Active | Table::Undo => 3,
         Table::Zoning | Table::GroupParts => 4,
@@ -283,6 +288,7 @@ pub(crate) fn values_of<'a, A: Allocator + Copy>(line: &'a TableLine<A>) -> Valu
     match line {
         TableLine::Meta(l) => two(Table::Meta, text(&l.key), text(&l.value)),
         TableLine::Port(l) => port_values(l),
+        TableLine::Address(l) => two(Table::Addresses, text(&l.wwpn), text(&l.address)),
         TableLine::Holder(l) => texts(Table::Holders, &l.name, &l.kind, &l.tenant),
         TableLine::Volume(l) => volume_values(l),
         TableLine::Zoning(l) => zoning_values(l),

@@ -1,5 +1,5 @@
 -- No column of a configuration's tables holds a space.
-use Rattle.std.proofs.Common.{ℕ, ◌≡◌, ◌<◌, ◌^◌, suc, zero, Bool, true, false, ◌&&◌, List, [], ◌∷◌, ◌++◌, None, Some, codes, refl, sym, ap, ◌∙◌, subst, arith, rules, lit<, nat_lt}
+use Rattle.std.proofs.Common.{ℕ, ◌≡◌, ◌<◌, ◌^◌, ◌/◌, ◌%◌, suc, zero, Bool, true, false, ◌&&◌, List, [], ◌∷◌, ◌++◌, None, Some, codes, refl, sym, ap, ◌∙◌, subst, arith, rules, lit<, nat_lt}
 use Rattle.std.specs.List.{list_all, AllByRecursion}
 use Rattle.std.specs.Char.{is_ascii_digit}
 use Rattle.std.specs.Fmt.{decimal, signed_decimal}
@@ -9,6 +9,7 @@ use Rattle.fab_names.specs.Names.{is_name_char, IsNameText, SpellsName}
 use Rattle.fab_names.specs.Fabrics.{SpellsFabric}
 use Rattle.fab_names.specs.Numbers.{SpellsNumber}
 use Rattle.fab_names.specs.Places.{place_text}
+use Rattle.fab_names.specs.Addresses.{address_text}
 use Rattle.fab_names.specs.Members.{SpellsMember, SpellsPrinted, member_text}
 use Rattle.fab_names.specs.WorldWideNames.{paired, hex_digit, digits_of, wwn_text, SpellsPlain}
 use Rattle.fab_names.specs.declared.fabric.Fabric.{Fabric}
@@ -114,6 +115,7 @@ member_clear text (member.Place p) s =
     let slot = clear_number (decimal p.slot) p.slot (printed_number p.slot (omega (arith, range.slot))) in
     clear_both (codes "dp=") (place_text p) (literal (codes "dp=") refl)
     (clear_both (decimal p.domain ++ codes ",") (decimal p.slot) (clear_both (decimal p.domain) (codes ",") domain (literal (codes ",") refl)) slot)
+member_clear text (member.Address n) s = clear_both (codes "id=") (address_text n) (literal (codes "id=") refl) (clear_digits (n / 65536 ∷ n / 256 % 256 ∷ n % 256 ∷ []))
 member_clear text (member.Alias a) s = clear_both (codes "alias=") a (literal (codes "alias=") refl) (clear_text a (subst IsNameText (sym s.2.0) s.2.1))
 
 clear_member : (text : List ℕ) (m : Member) → SpellsPrinted text m → Clear text

@@ -13,3 +13,4 @@ pub mod RowsAdded
 pub mod OddLines
 pub mod RowsRead
 pub mod PathsAdded
+pub mod NoneTold

@@ -40,6 +40,7 @@ number_back (Some n) = refl
 line_of : {A : Type 0} → Table → Row → TableLine A
 line_of table.Meta r = line.Meta (record { key = text_in (column r 0); value = text_in (column r 1) })
 line_of table.Ports r = line.Port (record { wwpn = text_in (column r 0); wwnn = text_in (column r 1); fabric = text_or_none (column r 2); domain = number_or_none (column r 3); slot = number_or_none (column r 4); holder = text_or_none (column r 5) })
+line_of table.Addresses r = line.Address (record { wwpn = text_in (column r 0); address = text_in (column r 1) })
 line_of table.Holders r = line.Holder (record { name = text_in (column r 0); kind = text_in (column r 1); tenant = text_in (column r 2) })
 line_of table.Volumes r = line.Volume (record { name = text_in (column r 0); array = text_in (column r 1); tenant = text_in (column r 2); bytes = number_in (column r 3) })
 line_of table.Zoning r = line.Zoning (record { fabric = text_in (column r 0); kind = text_in (column r 1); name = text_in (column r 2); item = text_in (column r 3) })
@@ -55,6 +56,7 @@ line_back : {A : Type 0} (l : TableLine A) → line_of (table_of l) (row_of l) �
 unfolding line_of text_in number_in
 line_back (line.Meta l) = refl
 line_back (line.Port l) = λ i. line.Port (record { wwpn = l.wwpn; wwnn = l.wwnn; fabric = text_back l.fabric i; domain = number_back l.domain i; slot = number_back l.slot i; holder = text_back l.holder i })
+line_back (line.Address l) = refl
 line_back (line.Holder l) = refl
 line_back (line.Volume l) = refl
 line_back (line.Zoning l) = refl

@@ -1,7 +1,7 @@
 -- A line that shows no row of its table shows no row at all.
 use Rattle.std.proofs.Common.{◌≡◌, List, Contains, refl, sym, subst}
 use Rattle.fab_store_columns.specs.GroupLines.{GroupColumns, ShowsGroup, PartColumns, ShowsPart}
-use Rattle.fab_store_columns.specs.InventoryLines.{PortColumns, ShowsPort, HolderColumns, ShowsHolder, VolumeColumns, ShowsVolume}
+use Rattle.fab_store_columns.specs.InventoryLines.{PortColumns, ShowsPort, AddressColumns, ShowsAddress, HolderColumns, ShowsHolder, VolumeColumns, ShowsVolume}
 use Rattle.fab_store_columns.specs.MetaLines.{MetaColumns, ShowsMeta}
 use Rattle.fab_store_columns.specs.PlanLines.{PlanColumns, ShowsPlan}
 use Rattle.fab_store_columns.specs.RecordLines.{ApprovalColumns, ShowsApproval, PathColumns, ShowsPath}
@@ -29,6 +29,9 @@ module _ (A : Type 0) (lines : TableLines) where
 
   pub odd_port : (ls : List PortColumns) → ls ≡ lines.ports.items → (fault : LoadFault) → OfTable (IsOddAt ShowsPort ls table.Ports) fault → OfTable (HasOddLine A lines) fault
   odd_port ls same = of_table (IsOddAt ShowsPort ls table.Ports) (HasOddLine A lines) (λ t h. (line.Port h.1.0, subst (λ xs. Contains xs h.1.0) same h.1.1, sym h.0, λ x shows. let s = reads {A = A} x (line.Port h.1.0) shows in h.1.2 s.row s.shows))
+
+  pub odd_address : (ls : List AddressColumns) → ls ≡ lines.addresses.items → (fault : LoadFault) → OfTable (IsOddAt ShowsAddress ls table.Addresses) fault → OfTable (HasOddLine A lines) fault
+  odd_address ls same = of_table (IsOddAt ShowsAddress ls table.Addresses) (HasOddLine A lines) (λ t h. (line.Address h.1.0, subst (λ xs. Contains xs h.1.0) same h.1.1, sym h.0, λ x shows. let s = reads {A = A} x (line.Address h.1.0) shows in h.1.2 s.row s.shows))
 
   pub odd_holder : (ls : List HolderColumns) → ls ≡ lines.holders.items → (fault : LoadFault) → OfTable (IsOddAt ShowsHolder ls table.Holders) fault → OfTable (HasOddLine A lines) fault
   odd_holder ls same = of_table (IsOddAt ShowsHolder ls table.Holders) (HasOddLine A lines) (λ t h. (line.Holder h.1.0, subst (λ xs. Contains xs h.1.0) same h.1.1, sym h.0, λ x shows. let s = reads {A = A} x (line.Holder h.1.0) shows in h.1.2 s.row s.shows))

@@ -1,10 +1,10 @@
 -- A line shows one row at most, and a row is shown by one line.
 use Rattle.std.proofs.Common.{◌≡◌, refl, sym, ap, ◌∙◌, subst}
-use Rattle.fab_store_columns.proofs.Unique.{one_port, one_port_line, one_holder, one_holder_line, one_volume, one_volume_line}
+use Rattle.fab_store_columns.proofs.Unique.{one_port, one_port_line, one_address, one_address_line, one_holder, one_holder_line, one_volume, one_volume_line}
 use Rattle.fab_store_columns.proofs.UniqueConfig.{one_meta, one_meta_line, one_zoning, one_zoning_line, one_active, one_active_line, one_group, one_group_line, one_part, one_part_line, one_approval, one_approval_line, one_path, one_path_line}
 use Rattle.fab_store_columns.proofs.UniquePlan.{one_plan, one_plan_line}
 use Rattle.fab_store_columns.specs.GroupLines.{ShowsGroup, ShowsPart}
-use Rattle.fab_store_columns.specs.InventoryLines.{ShowsPort, ShowsHolder, ShowsVolume}
+use Rattle.fab_store_columns.specs.InventoryLines.{ShowsPort, ShowsAddress, ShowsHolder, ShowsVolume}
 use Rattle.fab_store_columns.specs.MetaLines.{ShowsMeta}
 use Rattle.fab_store_columns.specs.PlanLines.{ShowsPlan}
 use Rattle.fab_store_columns.specs.RecordLines.{ShowsApproval, ShowsPath}
@@ -17,7 +17,7 @@ use Rattle.fab_store_tables.specs.declared.stored_line.TableLine.{TableLine}
 use Rattle.fab_store_tables.specs.declared.stored_line.TableLine.TheVariants as line
 use Rattle.fab_store_tables.proofs.Unique.{one_undo, one_undo_line}
 use Rattle.fab_store_tables.specs.UndoLines.{ShowsUndo}
-use Rattle.fab_store_tables.specs.Rows.{AnyRow, count, port, holder, volume, config_row, plan, approval, undo, path, IsLine, ShowsRow}
+use Rattle.fab_store_tables.specs.Rows.{AnyRow, count, port, address, holder, volume, config_row, plan, approval, undo, path, IsLine, ShowsRow}
 
 -- ---- by the line
 
@@ -37,6 +37,7 @@ pub record IsRead {L R : Type 0} (Shows : L → R → Type 0) (as_row : R → An
 abbrev pub Reads : {A : Type 0} → TableLine A → AnyRow → Type 0
 Reads (line.Meta c) = IsRead ShowsMeta meta_as c
 Reads (line.Port c) = IsRead ShowsPort port c
+Reads (line.Address c) = IsRead ShowsAddress address c
 Reads (line.Holder c) = IsRead ShowsHolder holder c
 Reads (line.Volume c) = IsRead ShowsVolume volume c
 Reads (line.Zoning c) = IsRead ShowsZoning (λ r. config_row (config.Zoning r)) c
@@ -52,6 +53,7 @@ pub reads : {A : Type 0} (x : AnyRow) (l : TableLine A) → ShowsRow x l → Rea
 reads (count (Schema n)) l s = subst (λ m. Reads m (count (Schema n))) (sym s.is) (record { row = meta.Schema n; shows = s.shows; is = refl })
 reads (count (Revision n)) l s = subst (λ m. Reads m (count (Revision n))) (sym s.is) (record { row = meta.Revision n; shows = s.shows; is = refl })
 reads (port r) l s = subst (λ m. Reads m (port r)) (sym s.is) (record { row = r; shows = s.shows; is = refl })
+reads (address r) l s = subst (λ m. Reads m (address r)) (sym s.is) (record { row = r; shows = s.shows; is = refl })
 reads (holder r) l s = subst (λ m. Reads m (holder r)) (sym s.is) (record { row = r; shows = s.shows; is = refl })
 reads (volume r) l s = subst (λ m. Reads m (volume r)) (sym s.is) (record { row = r; shows = s.shows; is = refl })
 reads (config_row (config.Setting r)) l s = subst (λ m. Reads m (config_row (config.Setting r))) (sym s.is) (record { row = meta.Setting r; shows = s.shows; is = refl })
@@ -70,6 +72,7 @@ one_as as_row one c x y h k = h.is ∙ ap as_row (one c h.row k.row h.shows k.sh
 one_read : {A : Type 0} (l : TableLine A) (x y : AnyRow) → Reads l x → Reads l y → x ≡ y
 one_read (line.Meta c) x y h k = one_as meta_as one_meta c x y h k
 one_read (line.Port c) x y h k = one_as port one_port c x y h k
+one_read (line.Address c) x y h k = one_as address one_address c x y h k
 one_read (line.Holder c) x y h k = one_as holder one_holder c x y h k
 one_read (line.Volume c) x y h k = one_as volume one_volume c x y h k
 one_read (line.Zoning c) x y h k = one_as (λ r. config_row (config.Zoning r)) one_zoning c x y h k
@@ -93,6 +96,7 @@ pub one_line : {A : Type 0} (x : AnyRow) (l m : TableLine A) → ShowsRow x l �
 one_line (count (Schema n)) l m h k = one_of one_meta_line (meta.Schema n) l m h k
 one_line (count (Revision n)) l m h k = one_of one_meta_line (meta.Revision n) l m h k
 one_line (port r) l m h k = one_of one_port_line r l m h k
+one_line (address r) l m h k = one_of one_address_line r l m h k
 one_line (holder r) l m h k = one_of one_holder_line r l m h k
 one_line (volume r) l m h k = one_of one_volume_line r l m h k
 one_line (config_row (config.Setting r)) l m h k = one_of one_meta_line (meta.Setting r) l m h k

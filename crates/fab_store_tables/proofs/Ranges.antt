@@ -7,7 +7,7 @@ use Rattle.fab_store_rows.specs.declared.config_row.StoragePart.TheVariants as p
 use Rattle.fab_store_rows.specs.declared.table_rows.CountRow.TheVariants.{Schema, Revision}
 use Rattle.fab_store_tables.specs.declared.stored_line.TableLine.{TableLine}
 use Rattle.fab_store_tables.specs.UndoLines.{ShowsColumns, HasUnitInRange}
-use Rattle.fab_store_tables.specs.Rows.{AnyRow, count, port, holder, volume, config_row, plan, approval, undo, path, ShowsConfig, ShowsRow, IsInRange}
+use Rattle.fab_store_tables.specs.Rows.{AnyRow, count, port, address, holder, volume, config_row, plan, approval, undo, path, ShowsConfig, ShowsRow, IsInRange}
 
 config_in_range : {A : Type 0} (r : ConfigRow) (l : TableLine A) → ShowsConfig r l → HasUnitInRange r
 config_in_range (config.Setting r) l s = tt
@@ -34,6 +34,7 @@ pub shown_in_range : {A : Type 0} (x : AnyRow) (l : TableLine A) → ShowsRow x 
 shown_in_range (count (Schema n)) l s = s.shows.1.high
 shown_in_range (count (Revision n)) l s = s.shows.1.high
 shown_in_range (port r) l s = tt
+shown_in_range (address r) l s = tt
 shown_in_range (holder r) l s = tt
 shown_in_range (volume r) l s = (s.shows.bytes.low, s.shows.bytes.high)
 shown_in_range (config_row r) l s = config_in_range r l s

@@ -4,7 +4,7 @@ use Rattle.std.specs.List.{AllZip, filter_map}
 use Rattle.fab_store_columns.specs.GroupLines.{ShowsGroup, ShowsPart}
 use Rattle.fab_store_columns.specs.MetaLines.{MetaColumns, ShowsMeta}
 use Rattle.fab_store_columns.specs.PlanLines.{ShowsPlan}
-use Rattle.fab_store_columns.specs.InventoryLines.{ShowsPort, ShowsHolder, ShowsVolume}
+use Rattle.fab_store_columns.specs.InventoryLines.{ShowsPort, ShowsAddress, ShowsHolder, ShowsVolume}
 use Rattle.fab_store_columns.specs.RecordLines.{ShowsApproval, ShowsPath}
 use Rattle.fab_store_columns.specs.ZoningLines.{ShowsZoning, ShowsActive}
 use Rattle.fab_store_columns.specs.declared.meta_lines.MetaRow.{MetaRow}
@@ -16,7 +16,7 @@ use Rattle.fab_store_rows.specs.declared.table_rows.CountRow.TheVariants.{Schema
 use Rattle.fab_store_rows.specs.declared.table_rows.TableRows.{TableRows}
 use Rattle.fab_store_tables.proofs.RowsAdded.{row_of_line, line_of_row, old_kept, row_added, line_added, in_picked, picked_in}
 use Rattle.fab_store_tables.specs.Reading.{IsIn, HasRow, AreRowsOf, IsShownAs, AddsShown, AreConfigRowsOf, AreSettingsOf, count_in, setting_in}
-use Rattle.fab_store_tables.specs.Rows.{AnyRow, count, port, holder, volume, config_row, plan, approval, undo, path, ShowsConfig, ShowsRow}
+use Rattle.fab_store_tables.specs.Rows.{AnyRow, count, port, address, holder, volume, config_row, plan, approval, undo, path, ShowsConfig, ShowsRow}
 use Rattle.fab_store_tables.specs.declared.lines.TableLines.{TableLines}
 use Rattle.fab_store_tables.specs.declared.stored_line.TableLine.{TableLine}
 use Rattle.fab_store_tables.specs.declared.stored_line.TableLine.TheVariants as line
@@ -72,7 +72,7 @@ module _ (A : Type 0) (lines : TableLines) (settings r1 r2 r3 r4 : List ConfigRo
 -- ---- all rows
 
 module _ {A : Type 0} (lines : TableLines) (rows : TableRows A) (settings : AreSettingsOf A lines rows.counts.items rows.config.items)
-    (ports : AllZip ShowsPort lines.ports.items rows.ports.items) (holders : AllZip ShowsHolder lines.holders.items rows.holders.items) (volumes : AllZip ShowsVolume lines.volumes.items rows.volumes.items)
+    (ports : AllZip ShowsPort lines.ports.items rows.ports.items) (addresses : AllZip ShowsAddress lines.addresses.items rows.addresses.items) (holders : AllZip ShowsHolder lines.holders.items rows.holders.items) (volumes : AllZip ShowsVolume lines.volumes.items rows.volumes.items)
     (plans : AllZip ShowsPlan lines.plans.items rows.plans.items) (approvals : AllZip ShowsApproval lines.approvals.items rows.approvals.items)
     (undos : AllZip ShowsUndo lines.undo.items rows.undo.items) (paths : AllZip ShowsPath lines.paths.items rows.paths.items) where
   metas : List MetaRow
@@ -97,6 +97,7 @@ module _ {A : Type 0} (lines : TableLines) (rows : TableRows A) (settings : AreS
   each : (l : TableLine A) → IsIn lines l → (x : AnyRow) × HasRow rows x × ShowsRow x l
   each (line.Meta l) there = let s = row_of_line ShowsMeta lines.meta.items settings.settings settings.shown l there in each_meta l s.0 s.1 s.2
   each (line.Port l) there = let s = row_of_line ShowsPort lines.ports.items rows.ports.items ports l there in (port s.0, s.1, record { columns = l; shows = s.2; is = refl })
+  each (line.Address l) there = let s = row_of_line ShowsAddress lines.addresses.items rows.addresses.items addresses l there in (address s.0, s.1, record { columns = l; shows = s.2; is = refl })
   each (line.Holder l) there = let s = row_of_line ShowsHolder lines.holders.items rows.holders.items holders l there in (holder s.0, s.1, record { columns = l; shows = s.2; is = refl })
   each (line.Volume l) there = let s = row_of_line ShowsVolume lines.volumes.items rows.volumes.items volumes l there in (volume s.0, s.1, record { columns = l; shows = s.2; is = refl })
   each (line.Zoning l) there = let s = read_config.zoning l there in each_config (line.Zoning l) s.0 s.1 (subst (λ (x : ConfigRow). ShowsConfig {A = A} x (line.Zoning l)) (sym s.2.is) (record { columns = l; shows = s.2.shows; is = refl }))
@@ -134,6 +135,7 @@ module _ {A : Type 0} (lines : TableLines) (rows : TableRows A) (settings : AreS
   every : (x : AnyRow) → HasRow rows x → (l : TableLine A) × IsIn lines l × ShowsRow x l
   every (count r) there = let s = in_picked count_in settings.settings r (subst (λ xs. Contains xs r) settings.counts_are there) in every_count r s.0 s.1 s.2
   every (port r) there = let s = line_of_row ShowsPort lines.ports.items rows.ports.items ports r there in (line.Port s.0, s.1, record { columns = s.0; shows = s.2; is = refl })
+  every (address r) there = let s = line_of_row ShowsAddress lines.addresses.items rows.addresses.items addresses r there in (line.Address s.0, s.1, record { columns = s.0; shows = s.2; is = refl })
   every (holder r) there = let s = line_of_row ShowsHolder lines.holders.items rows.holders.items holders r there in (line.Holder s.0, s.1, record { columns = s.0; shows = s.2; is = refl })
   every (volume r) there = let s = line_of_row ShowsVolume lines.volumes.items rows.volumes.items volumes r there in (line.Volume s.0, s.1, record { columns = s.0; shows = s.2; is = refl })
   every (config_row r) there = ⊎_elim (λ h. let s = in_picked setting_in settings.settings r h in every_setting r s.0 s.1 s.2) (λ s. s) (read_config.every r there)

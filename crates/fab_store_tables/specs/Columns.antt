@@ -4,7 +4,7 @@ use Rattle.sqlite.specs.Order.{Row}
 use Rattle.sqlite.specs.declared.types.Value.{Value}
 use Rattle.sqlite.specs.declared.types.Value.TheVariants.{Null, Int, Text}
 use Rattle.fab_store_columns.specs.MetaLines.{MetaColumns}
-use Rattle.fab_store_columns.specs.InventoryLines.{PortColumns, HolderColumns, VolumeColumns}
+use Rattle.fab_store_columns.specs.InventoryLines.{PortColumns, AddressColumns, HolderColumns, VolumeColumns}
 use Rattle.fab_store_columns.specs.ZoningLines.{ZoningColumns, ActiveColumns}
 use Rattle.fab_store_columns.specs.GroupLines.{GroupColumns, PartColumns}
 use Rattle.fab_store_columns.specs.PlanLines.{PlanColumns}
@@ -24,6 +24,9 @@ meta_row l = Text l.key ∷ Text l.value ∷ []
 
 abbrev pub port_row : PortColumns → Row
 port_row l = Text l.wwpn ∷ Text l.wwnn ∷ text_or_null l.fabric ∷ number_or_null l.domain ∷ number_or_null l.slot ∷ text_or_null l.holder ∷ []
+
+abbrev pub address_row : AddressColumns → Row
+address_row l = Text l.wwpn ∷ Text l.address ∷ []
 
 abbrev pub holder_row : HolderColumns → Row
 holder_row l = Text l.name ∷ Text l.kind ∷ Text l.tenant ∷ []

@@ -6,3 +6,4 @@ pub mod Rows
 pub mod Listing
 pub mod Reading
 pub mod Paths
+pub mod Versions

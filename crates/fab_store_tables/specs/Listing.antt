@@ -3,11 +3,11 @@ use Rattle.std.specs.Prelude.{◌↔◌, List, [], ◌∷◌, ◌++◌, map, Con
 use Rattle.fab_store_rows.specs.declared.table_rows.TableRows.{TableRows}
 use Rattle.fab_store_tables.specs.Tables.{AreOnce}
 use Rattle.fab_store_tables.specs.declared.stored_line.TableLine.{TableLine}
-use Rattle.fab_store_tables.specs.Rows.{AnyRow, count, port, holder, volume, config_row, plan, approval, undo, path, ShowsRow, IsInRange}
+use Rattle.fab_store_tables.specs.Rows.{AnyRow, count, port, address, holder, volume, config_row, plan, approval, undo, path, ShowsRow, IsInRange}
 
 -- the schema and the revision, and the rows of an inventory
 abbrev pub inventory_rows : {A : Type 0} → TableRows A → List AnyRow
-inventory_rows t = map count t.counts.items ++ (map port t.ports.items ++ (map holder t.holders.items ++ map volume t.volumes.items))
+inventory_rows t = map count t.counts.items ++ (map port t.ports.items ++ (map address t.addresses.items ++ (map holder t.holders.items ++ map volume t.volumes.items)))
 
 -- the rows of a configuration, and of plans and their approvals
 abbrev pub config_rows : {A : Type 0} → TableRows A → List AnyRow

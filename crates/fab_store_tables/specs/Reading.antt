@@ -1,7 +1,7 @@
 -- The rows that the lines of all tables show.
 use Rattle.std.specs.Prelude.{◌≡◌, ◌⊎◌, List, ◌++◌, Contains, Option, None, Some}
 use Rattle.std.specs.List.{AllZip, filter_map}
-use Rattle.fab_store_columns.specs.InventoryLines.{ShowsPort, ShowsHolder, ShowsVolume}
+use Rattle.fab_store_columns.specs.InventoryLines.{ShowsPort, ShowsAddress, ShowsHolder, ShowsVolume}
 use Rattle.fab_store_columns.specs.MetaLines.{ShowsMeta}
 use Rattle.fab_store_columns.specs.PlanLines.{ShowsPlan}
 use Rattle.fab_store_columns.specs.RecordLines.{ShowsApproval, ShowsPath}
@@ -15,7 +15,7 @@ use Rattle.fab_store_rows.specs.declared.config_row.ConfigRow.TheVariants as con
 use Rattle.fab_store_rows.specs.declared.table_rows.CountRow.{CountRow}
 use Rattle.fab_store_rows.specs.declared.table_rows.CountRow.TheVariants.{Schema, Revision}
 use Rattle.fab_store_rows.specs.declared.table_rows.TableRows.{TableRows}
-use Rattle.fab_store_tables.specs.Rows.{AnyRow, count, port, holder, volume, config_row, plan, approval, undo, path, ShowsConfig, ShowsRow}
+use Rattle.fab_store_tables.specs.Rows.{AnyRow, count, port, address, holder, volume, config_row, plan, approval, undo, path, ShowsConfig, ShowsRow}
 use Rattle.fab_store_tables.specs.declared.lines.TableLines.{TableLines}
 use Rattle.fab_store_tables.specs.declared.reading.InventoryIn.{InventoryIn}
 use Rattle.fab_store_tables.specs.declared.reading.RecordsIn.{RecordsIn}
@@ -28,6 +28,7 @@ use Rattle.fab_store_tables.specs.declared.stored_line.TableLine.TheVariants as 
 abbrev pub IsIn : {A : Type 0} → TableLines → TableLine A → Type 0
 IsIn t (line.Meta l) = Contains t.meta.items l
 IsIn t (line.Port l) = Contains t.ports.items l
+IsIn t (line.Address l) = Contains t.addresses.items l
 IsIn t (line.Holder l) = Contains t.holders.items l
 IsIn t (line.Volume l) = Contains t.volumes.items l
 IsIn t (line.Zoning l) = Contains t.zoning.items l
@@ -43,6 +44,7 @@ IsIn t (line.Path l) = Contains t.paths.items l
 abbrev pub HasRow : {A : Type 0} → TableRows A → AnyRow → Type 0
 HasRow t (count r) = Contains t.counts.items r
 HasRow t (port r) = Contains t.ports.items r
+HasRow t (address r) = Contains t.addresses.items r
 HasRow t (holder r) = Contains t.holders.items r
 HasRow t (volume r) = Contains t.volumes.items r
 HasRow t (config_row r) = Contains t.config.items r
@@ -113,6 +115,7 @@ pub record AreSettingsOf (A : Type 0) (lines : TableLines) (counts : List CountR
 -- the rows of the other tables
 pub record AreInventoryOf {A : Type 0} (lines : TableLines) (rows : InventoryIn A) : Type 0 where
   pub ports : AllZip ShowsPort lines.ports.items rows.ports.items
+  pub addresses : AllZip ShowsAddress lines.addresses.items rows.addresses.items
   pub holders : AllZip ShowsHolder lines.holders.items rows.holders.items
   pub volumes : AllZip ShowsVolume lines.volumes.items rows.volumes.items
 

@@ -1,9 +1,8 @@
--- A row of any of the twelve tables, and the lines that show it.
+-- A row of any of the thirteen tables, and the lines that show it.
 use Rattle.std.specs.Prelude.{◌≡◌, ◌≤◌, ℕ}
 use Rattle.fab_inventory.specs.Inventories.{IsCapacity}
-use Rattle.fab_inventory.specs.declared.port.Port.{Port}
 use Rattle.fab_store_columns.specs.GroupLines.{ShowsGroup, ShowsPart}
-use Rattle.fab_store_columns.specs.InventoryLines.{ShowsPort, ShowsHolder, ShowsVolume}
+use Rattle.fab_store_columns.specs.InventoryLines.{ShowsPort, ShowsAddress, ShowsHolder, ShowsVolume}
 use Rattle.fab_store_columns.specs.MetaLines.{ShowsMeta, IsKeptNumber}
 use Rattle.fab_store_columns.specs.PlanLines.{ShowsPlan}
 use Rattle.fab_store_columns.specs.RecordLines.{ShowsApproval, ShowsPath}
@@ -16,7 +15,9 @@ use Rattle.fab_store_columns.specs.declared.meta_lines.MetaRow.TheVariants as me
 use Rattle.fab_store_rows.specs.PlanEntries.{PlanEntry}
 use Rattle.fab_store_rows.specs.declared.config_row.ConfigRow.{ConfigRow}
 use Rattle.fab_store_rows.specs.declared.config_row.ConfigRow.TheVariants as config
+use Rattle.fab_store_rows.specs.declared.inventory_row.AddressRow.{AddressRow}
 use Rattle.fab_store_rows.specs.declared.inventory_row.HolderRow.{HolderRow}
+use Rattle.fab_store_rows.specs.declared.inventory_row.PortEntry.{PortEntry}
 use Rattle.fab_store_rows.specs.declared.inventory_row.VolumeRow.{VolumeRow}
 use Rattle.fab_store_rows.specs.declared.record_row.ApprovalRow.{ApprovalRow}
 use Rattle.fab_store_rows.specs.declared.record_row.PathRow.{PathRow}
@@ -29,7 +30,8 @@ use Rattle.fab_store_tables.specs.declared.stored_line.TableLine.TheVariants as 
 -- a row of some table
 pub data AnyRow : Type 0 where
   count : CountRow → AnyRow
-  port : Port → AnyRow
+  port : PortEntry → AnyRow
+  address : AddressRow → AnyRow
   holder : HolderRow → AnyRow
   volume : VolumeRow → AnyRow
   config_row : ConfigRow → AnyRow
@@ -57,6 +59,7 @@ abbrev pub ShowsRow : {A : Type 0} → AnyRow → TableLine A → Type 0
 ShowsRow (count (Schema n)) = IsLine line.Meta ShowsMeta (meta.Schema n)
 ShowsRow (count (Revision n)) = IsLine line.Meta ShowsMeta (meta.Revision n)
 ShowsRow (port r) = IsLine line.Port ShowsPort r
+ShowsRow (address r) = IsLine line.Address ShowsAddress r
 ShowsRow (holder r) = IsLine line.Holder ShowsHolder r
 ShowsRow (volume r) = IsLine line.Volume ShowsVolume r
 ShowsRow (config_row r) = ShowsConfig r
@@ -76,6 +79,7 @@ abbrev pub IsInRange : AnyRow → Type 0
 IsInRange (count (Schema n)) = IsKeptNumber (meta.Schema n)
 IsInRange (count (Revision n)) = IsKeptNumber (meta.Revision n)
 IsInRange (port r) = Unit {0}
+IsInRange (address r) = Unit {0}
 IsInRange (holder r) = Unit {0}
 IsInRange (volume r) = IsCapacity r.bytes
 IsInRange (config_row r) = HasUnitInRange r

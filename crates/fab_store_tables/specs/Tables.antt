@@ -3,7 +3,7 @@ use Rattle.std.specs.Prelude.{◌≡◌, ◌⊎◌, ◌↔◌, ℕ, List, [], �
 use Rattle.sqlite.specs.Order.{Row, column}
 use Rattle.fab_store_load.specs.declared.fault.Table.{Table}
 use Rattle.fab_store_load.specs.declared.fault.Table.TheVariants as table
-use Rattle.fab_store_tables.specs.Columns.{meta_row, port_row, holder_row, volume_row, zoning_row, active_row, group_row, part_row, plan_row, approval_row, undo_row, path_row}
+use Rattle.fab_store_tables.specs.Columns.{meta_row, port_row, address_row, holder_row, volume_row, zoning_row, active_row, group_row, part_row, plan_row, approval_row, undo_row, path_row}
 use Rattle.fab_store_tables.specs.declared.changes.LineChanges.{LineChanges}
 use Rattle.fab_store_tables.specs.declared.stored_line.TableLine.{TableLine}
 use Rattle.fab_store_tables.specs.declared.stored_line.TableLine.TheVariants as line
@@ -16,6 +16,7 @@ Tables = Table → List Row
 abbrev pub table_of : {A : Type 0} → TableLine A → Table
 table_of (line.Meta l) = table.Meta
 table_of (line.Port l) = table.Ports
+table_of (line.Address l) = table.Addresses
 table_of (line.Holder l) = table.Holders
 table_of (line.Volume l) = table.Volumes
 table_of (line.Zoning l) = table.Zoning
@@ -31,6 +32,7 @@ table_of (line.Path l) = table.Paths
 abbrev pub row_of : {A : Type 0} → TableLine A → Row
 row_of (line.Meta l) = meta_row l
 row_of (line.Port l) = port_row l
+row_of (line.Address l) = address_row l
 row_of (line.Holder l) = holder_row l
 row_of (line.Volume l) = volume_row l
 row_of (line.Zoning l) = zoning_row l
@@ -46,6 +48,7 @@ row_of (line.Path l) = path_row l
 abbrev pub key_of : Table → Row → Row
 key_of table.Meta r = column r 0 ∷ []
 key_of table.Ports r = column r 0 ∷ []
+key_of table.Addresses r = column r 0 ∷ []
 key_of table.Holders r = column r 0 ∷ []
 key_of table.Volumes r = column r 0 ∷ []
 key_of table.Zoning r = column r 0 ∷ column r 1 ∷ column r 2 ∷ column r 3 ∷ []

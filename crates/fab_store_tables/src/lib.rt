@@ -1,4 +1,4 @@
-//! The twelve tables of a database: typed rows as columns and columns as typed rows, table by table;
+//! The thirteen tables of a database: typed rows as columns and columns as typed rows, table by table;
 //! the undo entries, each row of a configuration as one text; and what it is to change the tables.
 //! No world is known here.
 #![tactic(auto)]
@@ -14,6 +14,7 @@ mod reading;
 mod row;
 mod stored_line;
 mod undo_line;
+mod versions;
 mod words;
 mod write;
 
@@ -27,3 +28,4 @@ pub use reading::rows_of_lines;
 pub use row::Row;
 pub use stored_line::TableLine;
 pub use undo_line::UndoLine;
+pub use versions::{MOST_SCHEMA, schema_told};

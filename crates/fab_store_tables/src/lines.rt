@@ -2,16 +2,17 @@
 
 use crate::UndoLine;
 use fab_store_columns::{
-    ActiveLine, ApprovalLine, GroupLine, HolderLine, MetaLine, PartLine, PathLine, PlanLine,
-    PortLine, VolumeLine, ZoningLine,
+    ActiveLine, AddressLine, ApprovalLine, GroupLine, HolderLine, MetaLine, PartLine, PathLine,
+    PlanLine, PortLine, VolumeLine, ZoningLine,
 };
 use std::alloc::Global;
 
-/// The lines of the twelve tables, each in any order.
+/// The lines of the thirteen tables, each in any order.
 #[derive(Drop)]
 pub struct TableLines {
     pub meta: Vec<MetaLine<Global>>,
     pub ports: Vec<PortLine<Global>>,
+    pub addresses: Vec<AddressLine<Global>>,
     pub holders: Vec<HolderLine<Global>>,
     pub volumes: Vec<VolumeLine<Global>>,
     pub zoning: Vec<ZoningLine<Global>>,

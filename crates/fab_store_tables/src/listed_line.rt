@@ -1,7 +1,7 @@
 //! The row that a line shows, for lines of each table.
 ghost use Rattle.std.specs.Prelude.{MatchOption};
 ghost use Rattle.fab_store_columns.specs.GroupLines.{ShowsGroup, ShowsPart};
-ghost use Rattle.fab_store_columns.specs.InventoryLines.{ShowsPort, ShowsHolder, ShowsVolume};
+ghost use Rattle.fab_store_columns.specs.InventoryLines.{ShowsPort, ShowsAddress, ShowsHolder, ShowsVolume};
 ghost use Rattle.fab_store_columns.specs.MetaLines.{ShowsMeta};
 ghost use Rattle.fab_store_columns.specs.RecordLines.{ShowsApproval, ShowsPath};
 ghost use Rattle.fab_store_columns.specs.ZoningLines.{ShowsZoning, ShowsActive};
@@ -10,12 +10,13 @@ ghost use Rattle.fab_store_tables.specs.Reading.{IsShownAs};
 ghost use Rattle.fab_store_tables.specs.UndoLines.{ShowsUndo};
 
 use crate::UndoLine;
-use fab_inventory::Port;
 use fab_store_columns::{
-    ActiveLine, ApprovalLine, GroupLine, HolderLine, MetaLine, MetaRow, PartLine, PathLine,
-    PortLine, VolumeLine, ZoningLine,
+    ActiveLine, AddressLine, ApprovalLine, GroupLine, HolderLine, MetaLine, MetaRow, PartLine,
+    PathLine, PortLine, VolumeLine, ZoningLine,
 };
-use fab_store_rows::{ApprovalRow, ConfigRow, HolderRow, PathRow, UndoRow, VolumeRow};
+use fab_store_rows::{
+    AddressRow, ApprovalRow, ConfigRow, HolderRow, PathRow, PortEntry, UndoRow, VolumeRow,
+};
 use std::alloc::Global;
 
 /// A line of some table, which shows a row.
@@ -36,10 +37,18 @@ impl Line<MetaRow> for MetaLine<Global> {
     }
 }
 
-impl Line<Port> for PortLine<Global> {
+impl Line<PortEntry> for PortLine<Global> {
     ghost shows = { ShowsPort };
 
-    fn row(&self) -> Option<Port> {
+    fn row(&self) -> Option<PortEntry> {
+        self.read()
+    }
+}
+
+impl Line<AddressRow> for AddressLine<Global> {
+    ghost shows = { ShowsAddress };
+
+    fn row(&self) -> Option<AddressRow> {
         self.read()
     }
 }

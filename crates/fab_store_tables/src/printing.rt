@@ -34,6 +34,7 @@ fn add_inventory<A: Allocator + Copy>(
 {
     add_lines(alloc, lines, rows.counts.as_slice())?;
     add_lines(alloc, lines, rows.ports.as_slice())?;
+    add_lines(alloc, lines, rows.addresses.as_slice())?;
     add_lines(alloc, lines, rows.holders.as_slice())?;
     add_lines(alloc, lines, rows.volumes.as_slice())?;
     Ok(())

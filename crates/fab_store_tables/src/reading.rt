@@ -8,18 +8,19 @@ ghost use Rattle.fab_store_tables.specs.Reading as spec;
 
 use crate::lines::TableLines;
 use crate::listed_line::Line;
-use fab_inventory::Port;
 use fab_store_columns::{MetaRow, PlanLine};
 use fab_store_load::{LoadFault, Table};
 use fab_store_rows::{
-    ApprovalRow, ConfigRow, CountRow, HolderRow, PathRow, PlanRow, TableRows, UndoRow, VolumeRow,
+    AddressRow, ApprovalRow, ConfigRow, CountRow, HolderRow, PathRow, PlanRow, PortEntry,
+    TableRows, UndoRow, VolumeRow,
 };
 use std::alloc::{AllocError, Allocator, Global};
 
 /// The rows of an inventory.
 #[derive(Drop)]
 struct InventoryIn<A: Allocator + Copy> {
-    ports: Vec<Port, A>,
+    ports: Vec<PortEntry, A>,
+    addresses: Vec<AddressRow, A>,
     holders: Vec<HolderRow, A>,
     volumes: Vec<VolumeRow, A>,
 }
@@ -207,6 +208,10 @@ fn inventory_of<A: Allocator + Copy>(
         Ok(rows) => rows,
         Err(fault) => return Err(fault),
     };
+    let addresses = match rows_in(alloc, lines.addresses.as_slice(), Table::Addresses) {
+        Ok(rows) => rows,
+        Err(fault) => return Err(fault),
+    };
     let holders = match rows_in(alloc, lines.holders.as_slice(), Table::Holders) {
         Ok(rows) => rows,
         Err(fault) => return Err(fault),
@@ -217,6 +222,7 @@ fn inventory_of<A: Allocator + Copy>(
     };
     Ok(InventoryIn {
         ports,
+        addresses,
         holders,
         volumes,
     })
@@ -264,6 +270,7 @@ pub fn rows_of_lines<A: Allocator + Copy>(
     };
     let InventoryIn {
         ports,
+        addresses,
         holders,
         volumes,
     } = match inventory_of(alloc, lines) {
@@ -285,6 +292,7 @@ pub fn rows_of_lines<A: Allocator + Copy>(
     Ok(TableRows {
         counts,
         ports,
+        addresses,
         holders,
         volumes,
         config,

@@ -4,19 +4,19 @@ ghost use Rattle.fab_store_columns.specs.GroupLines.{HasUnitNumber};
 ghost use Rattle.fab_store_columns.specs.MetaLines.{ShowsMeta, IsKeptNumber};
 ghost use Rattle.fab_store_tables.specs.UndoLines.{HasUnitInRange};
 ghost use Rattle.fab_store_tables.specs.declared.stored_line.TableLine.TheVariants as line;
-ghost use Rattle.fab_store_tables.specs.Rows.{AnyRow, IsInRange, IsLine, IsNumber, ShowsConfig, ShowsRow, count, port, holder, volume, config_row, plan, approval, undo, path};
+ghost use Rattle.fab_store_tables.specs.Rows.{AnyRow, IsInRange, IsLine, IsNumber, ShowsConfig, ShowsRow, count, port, address, holder, volume, config_row, plan, approval, undo, path};
 ghost use Rattle.fab_store_tables.specs.declared.stored_line.TableLine.{TableLine};
 
 use crate::{TableLine, UndoLine};
-use fab_inventory::{MOST_BYTES, Port};
+use fab_inventory::MOST_BYTES;
 use fab_mapping::LAST_UNIT;
 use fab_store_columns::{
-    ActiveLine, ApprovalLine, GroupLine, HolderLine, MOST_NUMBER, MetaLine, MetaRow, PartLine,
-    PathLine, PlanLine, PortLine, VolumeLine, ZoningLine,
+    ActiveLine, AddressLine, ApprovalLine, GroupLine, HolderLine, MOST_NUMBER, MetaLine, MetaRow,
+    PartLine, PathLine, PlanLine, PortLine, VolumeLine, ZoningLine,
 };
 use fab_store_rows::{
-    ApprovalRow, ConfigRow, CountRow, HolderRow, PartRow, PathRow, PlanRow, StoragePart, UndoRow,
-    VolumeRow,
+    AddressRow, ApprovalRow, ConfigRow, CountRow, HolderRow, PartRow, PathRow, PlanRow, PortEntry,
+    StoragePart, UndoRow, VolumeRow,
 };
 use std::alloc::{AllocError, Allocator};
 
@@ -81,12 +81,21 @@ impl<A: Allocator + Copy> Row<A> for CountRow {
     }
 }
 
-impl<A: Allocator + Copy> Row<A> for Port {
+impl<A: Allocator + Copy> Row<A> for PortEntry {
     ghost any = { port };
 
     fn line(&self, alloc: A) -> Result<Option<TableLine<A>>, AllocError> {
         let line = PortLine::print(alloc, self)?;
         Ok(Some(TableLine::Port(line)))
+    }
+}
+
+impl<A: Allocator + Copy> Row<A> for AddressRow {
+    ghost any = { address };
+
+    fn line(&self, alloc: A) -> Result<Option<TableLine<A>>, AllocError> {
+        let line = AddressLine::print(alloc, self)?;
+        Ok(Some(TableLine::Address(line)))
     }
 }
 

@@ -2,16 +2,17 @@
 
 use crate::UndoLine;
 use fab_store_columns::{
-    ActiveLine, ApprovalLine, GroupLine, HolderLine, MetaLine, PartLine, PathLine, PlanLine,
-    PortLine, VolumeLine, ZoningLine,
+    ActiveLine, AddressLine, ApprovalLine, GroupLine, HolderLine, MetaLine, PartLine, PathLine,
+    PlanLine, PortLine, VolumeLine, ZoningLine,
 };
 use std::alloc::Allocator;
 
-/// A line of one of the twelve tables: each variant is a table.
+/// A line of one of the thirteen tables: each variant is a table.
 #[derive(Drop)]
 pub enum TableLine<A: Allocator + Copy> {
     Meta(MetaLine<A>),
     Port(PortLine<A>),
+    Address(AddressLine<A>),
     Holder(HolderLine<A>),
     Volume(VolumeLine<A>),
     Zoning(ZoningLine<A>),

@@ -6,9 +6,13 @@
 #[cfg(test)]
 mod lines;
 #[cfg(test)]
+mod migration;
+#[cfg(test)]
 mod odd;
 #[cfg(test)]
 mod statements;
+#[cfg(test)]
+mod stopped;
 #[cfg(test)]
 mod stored;
 #[cfg(test)]

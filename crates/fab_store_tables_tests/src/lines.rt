@@ -1,8 +1,8 @@
 //! Lines as texts: the name of a table and its columns, parted by `|`. One that is null is empty.
 
 use fab_store_columns::{
-    ActiveLine, ApprovalLine, GroupLine, HolderLine, MetaLine, PartLine, PathLine, PlanLine,
-    PortLine, VolumeLine, ZoningLine,
+    ActiveLine, AddressLine, ApprovalLine, GroupLine, HolderLine, MetaLine, PartLine, PathLine,
+    PlanLine, PortLine, VolumeLine, ZoningLine,
 };
 use fab_store_tables::{TableLine, UndoLine};
 use std::alloc::Global;
@@ -56,6 +56,13 @@ fn port(rt: &(impl Abort + AllocGlobal), text: &str) -> PortLine<Global> {
         domain: number_or_null(rt, text, 4),
         slot: number_or_null(rt, text, 5),
         holder: text_or_null(rt, text, 6),
+    }
+}
+
+fn address(rt: &(impl Abort + AllocGlobal), text: &str) -> AddressLine<Global> {
+    AddressLine {
+        wwpn: text_at(rt, text, 1),
+        address: text_at(rt, text, 2),
     }
 }
 
@@ -155,6 +162,7 @@ pub fn line_of(rt: &(impl Abort + AllocGlobal), text: &str) -> TableLine<Global>
     match word(text, 0) {
         "meta" => TableLine::Meta(meta(rt, text)),
         "ports" => TableLine::Port(port(rt, text)),
+        "addresses" => TableLine::Address(address(rt, text)),
         "holders" => TableLine::Holder(holder(rt, text)),
         "volumes" => TableLine::Volume(volume(rt, text)),
         "zoning" => TableLine::Zoning(zoning(rt, text)),

@@ -14,13 +14,26 @@ use std::process::Abort;
 /// A line of paths that shows no path.
 const ODD_PATH: &str = "paths|db1|A|1000000000000001|5000000000000001|v1|-1";
 
-/// No line and a line that shows no row, of each table, and the table that is told of it.
+/// No line, a line that shows no row, of each table, and addresses of a port that is not there and of one
+/// that is logged in nowhere; and the table that is told of it.
 const ODD: &[(Option<&str>, Option<Table>)] = &[
     (None, None),
     (Some("meta|schema|01"), Some(Table::Meta)),
     (
         Some("ports|1000000000000004|2000000000000004|A||1|"),
         Some(Table::Ports),
+    ),
+    (
+        Some("addresses|1000000000000002|0x010200"),
+        Some(Table::Addresses),
+    ),
+    (
+        Some("addresses|1000000000000004|010200"),
+        Some(Table::Addresses),
+    ),
+    (
+        Some("addresses|3000000000000001|010200"),
+        Some(Table::Addresses),
     ),
     (Some("holders|db3|printer|blue"), Some(Table::Holders)),
     (Some("volumes|v3|arr1|blue|0"), Some(Table::Volumes)),
@@ -144,6 +157,7 @@ fn rows(
     TableRows {
         counts: one(rt, CountRow::Revision(revision)),
         ports: Vec::new(rt.alloc()),
+        addresses: Vec::new(rt.alloc()),
         holders: Vec::new(rt.alloc()),
         volumes: one(rt, volume(rt, bytes)),
         config: one(rt, part(rt, unit)),

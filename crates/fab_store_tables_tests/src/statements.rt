@@ -2,12 +2,12 @@
 //! desk, and rows that are read, taken out and added again.
 
 use fab_store_columns::{
-    ActiveLine, ApprovalLine, GroupLine, HolderLine, MetaLine, PartLine, PathLine, PlanLine,
-    PortLine, VolumeLine, ZoningLine,
+    ActiveLine, AddressLine, ApprovalLine, GroupLine, HolderLine, MetaLine, PartLine, PathLine,
+    PlanLine, PortLine, VolumeLine, ZoningLine,
 };
 use fab_store_sql::{
-    Line, apply, create_text, delete_text, has_tables, init, insert_text, paths_text, read_all,
-    read_paths_of, select_text,
+    ALL, Line, apply, create_text, delete_text, has_tables, init, insert_text, paths_text,
+    read_all, read_paths_of, select_text,
 };
 use fab_store_tables::{LineChanges, Table, TableLine, UndoLine};
 use sqlite::{Connection, MemStore};
@@ -31,6 +31,7 @@ fn count<L: Line>(rt: &(impl Abort + AllocGlobal), conn: &mut Memory) -> usize {
 /// Whether each table but `meta` has so many lines.
 fn have(rt: &(impl Abort + AllocGlobal), conn: &mut Memory, wanted: usize) -> bool {
     let inventory = count::<PortLine<Global>>(rt, conn) == wanted
+        && count::<AddressLine<Global>>(rt, conn) == wanted
         && count::<HolderLine<Global>>(rt, conn) == wanted
         && count::<VolumeLine<Global>>(rt, conn) == wanted;
     let zoning = count::<ZoningLine<Global>>(rt, conn) == wanted
@@ -50,7 +51,7 @@ fn have_rest(rt: &(impl Abort + AllocGlobal), conn: &mut Memory, wanted: usize) 
 
 /// Keys and values of a new desk, in the order in which they are written.
 const NEW: &[(&str, &str)] = &[
-    ("schema", "1"),
+    ("schema", "2"),
     ("revision", "0"),
     ("active.A", ""),
     ("active.B", ""),
@@ -77,9 +78,9 @@ fn has_settings(rt: &(impl Abort + AllocGlobal), conn: &mut Memory, wanted: usiz
 #[test]
 fn a_new_desk(rt: HostRuntime) {
     let mut conn = Connection::open_in_memory(rt.alloc()).expect(&rt, "memory");
-    assert!(rt; !has_tables(&conn));
+    assert!(rt; !has_tables(&conn, &ALL));
     assert!(rt; init(&mut conn, rt.alloc()).is_ok());
-    assert!(rt; has_tables(&conn));
+    assert!(rt; has_tables(&conn, &ALL));
     assert!(rt; has_settings(&rt, &mut conn, 6));
     assert!(rt; have(&rt, &mut conn, 0));
     assert!(rt; init(&mut conn, rt.alloc()).is_err());
@@ -99,7 +100,8 @@ const ROWS: &str = "
     INSERT INTO plans VALUES ('p1', 'ada', 'deactivate A\n', 'active', 1);
     INSERT INTO approvals VALUES ('p1', 'bob', 6);
     INSERT INTO undo VALUES ('p1', '-', 'meta active.A s1');
-    INSERT INTO paths VALUES ('db1', 'A', '1000000000000001', '5000000000000001', 'v1', 16383)";
+    INSERT INTO paths VALUES ('db1', 'A', '1000000000000001', '5000000000000001', 'v1', 16383);
+    INSERT INTO addresses VALUES ('1000000000000001', '010100')";
 
 /// A line of one table as a line of any.
 trait Tabled: Line {
@@ -109,6 +111,12 @@ trait Tabled: Line {
 impl Tabled for PortLine<Global> {
     fn tabled(self) -> TableLine<Global> {
         TableLine::Port(self)
+    }
+}
+
+impl Tabled for AddressLine<Global> {
+    fn tabled(self) -> TableLine<Global> {
+        TableLine::Address(self)
     }
 }
 
@@ -205,6 +213,7 @@ fn put_rest(rt: &(impl Abort + AllocGlobal), conn: &mut Memory, all: &mut Vec<Ta
     put::<ApprovalLine<Global>>(rt, conn, all);
     put::<UndoLine<Global>>(rt, conn, all);
     put::<PathLine<Global>>(rt, conn, all);
+    put::<AddressLine<Global>>(rt, conn, all);
 }
 
 /// Takes the lines out of the tables, or adds them. Whether that is done, and the lines.
@@ -287,6 +296,7 @@ const TABLES: &[Table] = &[
     Table::Approvals,
     Table::Undo,
     Table::Paths,
+    Table::Addresses,
 ];
 
 /// Puts the statements of a table among the others.

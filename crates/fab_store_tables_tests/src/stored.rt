@@ -8,7 +8,7 @@ use std::process::Abort;
 
 /// The lines of a world in which one plan is active.
 pub const WORLD: &[&str] = &[
-    "meta|schema|1",
+    "meta|schema|2",
     "meta|revision|7",
     "meta|active.A|s1",
     "meta|active.B|",
@@ -64,6 +64,8 @@ sg.expose g1
     "undo|p1|+|group_parts storage g1 target 5000000000000001 ",
     "undo|p1|+|group_parts storage g1 unit 0 v1",
     "paths|db1|A|1000000000000001|5000000000000001|v1|0",
+    "addresses|1000000000000001|010100",
+    "addresses|5000000000000001|010100",
 ];
 
 /// No lines.
@@ -71,6 +73,7 @@ pub fn no_lines(alloc: Global) -> TableLines {
     TableLines {
         meta: Vec::new(alloc),
         ports: Vec::new(alloc),
+        addresses: Vec::new(alloc),
         holders: Vec::new(alloc),
         volumes: Vec::new(alloc),
         zoning: Vec::new(alloc),
@@ -94,6 +97,7 @@ pub fn put(rt: &impl Abort, lines: &mut TableLines, line: TableLine<Global>) {
     match line {
         TableLine::Meta(line) => add(rt, &mut lines.meta, line),
         TableLine::Port(line) => add(rt, &mut lines.ports, line),
+        TableLine::Address(line) => add(rt, &mut lines.addresses, line),
         TableLine::Holder(line) => add(rt, &mut lines.holders, line),
         TableLine::Volume(line) => add(rt, &mut lines.volumes, line),
         TableLine::Zoning(line) => add(rt, &mut lines.zoning, line),

@@ -57,6 +57,7 @@ fn place(line: &TableLine<Global>) -> usize {
         TableLine::Approval(_) => 9,
         TableLine::Undo(_) => 10,
         TableLine::Path(_) => 11,
+        TableLine::Address(_) => 12,
     }
 }
 
@@ -82,7 +83,7 @@ fn are_of(lines: &[TableLine<Global>], counts: &[usize]) -> bool {
 }
 
 /// How many lines each table of the world has.
-const SIZES: &[usize] = &[6, 6, 3, 2, 4, 2, 2, 4, 1, 1, 14, 1];
+const SIZES: &[usize] = &[6, 6, 3, 2, 4, 2, 2, 4, 1, 1, 14, 1, 2];
 
 /// Whether the worlds are the same.
 fn are_same(rt: &(impl Abort + AllocGlobal), one: &World<Global>, other: &World<Global>) -> bool {
@@ -109,7 +110,7 @@ fn a_world_is_opened_and_written_again(rt: HostRuntime) {
 
 /// The lines of a new world.
 const NEW: &[&str] = &[
-    "meta|schema|1",
+    "meta|schema|2",
     "meta|revision|0",
     "meta|active.A|",
     "meta|active.B|",
@@ -132,7 +133,7 @@ fn a_new_world_is_told(rt: HostRuntime) {
 const OLD: &[&str] = &["meta|revision|0", "meta|active.A|"];
 
 /// How many they are.
-const REMOVED: &[usize] = &[2, 0, 0, 0, 0, 0, 0, 0, 0, 0, 0, 0];
+const REMOVED: &[usize] = &[2, 0, 0, 0, 0, 0, 0, 0, 0, 0, 0, 0, 0];
 
 /// Whether the rows of a change are written as so many lines of each table.
 fn is_change_written(rt: &(impl Abort + AllocGlobal)) -> bool {

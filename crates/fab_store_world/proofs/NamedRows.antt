@@ -1,5 +1,5 @@
 -- Lists of the rows of entries, which are ordered as the keys of their entries are.
-use Rattle.std.proofs.Common.{◌≡◌, suc, List, [], ◌∷◌, ◌++◌, Contains, ◌⊎◌, inl, inr, sym, ap, ◌∙◌, subst, arith}
+use Rattle.std.proofs.Common.{◌≡◌, suc, List, [], ◌∷◌, ◌++◌, Contains, ◌⊎◌, inl, inr, Option, None, Some, sym, ap, ◌∙◌, subst, arith}
 use Rattle.std.specs.declared.cmp.Ordering.{Ordering}
 use Rattle.std.specs.declared.cmp.Ordering.TheVariants.{Less}
 use Rattle.std.specs.List.{AllByRecursion}
@@ -49,36 +49,52 @@ below_next {K} {X} O (b ∷ before) e more s d c = elim (head_or_tail b before d
   | inr t ↦ below_next O before e more (sorted_tail O b.0 (keys_of (before ++ e ∷ more)) s) d t
 ]
 
-module _ {K X R : Type 0} {O : K → K → Ordering} {N : R → R → Ordering} (row : K → X → R) (P : R → Type 0) (by_key : (j k : K) (v w : X) → N (row j v) (row k w) ≡ O j k) where
+module _ {K X R : Type 0} {O : K → K → Ordering} {N : R → R → Ordering} (row : K → X → Option R) (P : R → Type 0) (by_key : (j k : K) (v w : X) (r s : R) → row j v ≡ Some r → row k w ≡ Some s → N r s ≡ O j k) where
   -- no entry so far
   pub listed_none : (xs : List R) → xs ≡ [] → IsListOf N (IsRowOfEntries row P []) xs
   listed_none xs none = subst (IsListOf N (IsRowOfEntries row P [])) (sym none) (record { sorted = sorted_none N; sound = λ r c. absurd (omega (arith, c.1)); complete = λ r h. absurd (omega (arith, h.1.1)) })
 
-  -- the row of one entry more, if it has P
-  pub listed_more : (es before it more : List (K × X)) (e : K × X) (r : R) (old new : List R) → es ≡ before ++ it → it ≡ e ∷ more → IsStrictlySortedBy O (keys_of es) → r ≡ row e.0 e.1 → IsPushed (P r) r old new
-      → IsListOf N (IsRowOfEntries row P before) old → IsListOf N (IsRowOfEntries row P (before ++ e ∷ [])) new
-  listed_more es before it more e r old new so_far next sorted is pushed l = elim pushed [
-    | inl p ↦ subst (IsListOf N (IsRowOfEntries row P (before ++ e ∷ []))) (sym p.1) (record {
-      sorted = sorted_push N old r l.sorted (λ x c. let h = l.sound x c in
-          (λ i. N (h.2.1 i) (is i)) ∙ by_key h.0.0 e.0 h.0.1 e.1 ∙ below_next O before e more (subst (λ ys. IsStrictlySortedBy O (keys_of ys)) (so_far ∙ ap (λ z. before ++ z) next) sorted) h.0 h.1);
-      sound = λ x c. elim (Contains-push_cases old r x c) [
-        | inl o ↦ wider x (l.sound x o)
-        | inr same ↦ (e, Contains-push before e, (subst P same p.0, sym same ∙ is))
-      ];
-      complete = λ x h. elim (Contains-push_cases before e h.0 h.1) [
-        | inl o ↦ Contains-append_left old (r ∷ []) x (l.complete x (h.0, o, h.2))
-        | inr same ↦ subst (Contains (old ++ r ∷ [])) (is ∙ (λ i. row (same i).0 (same i).1) ∙ sym h.2.1) (Contains-push old r)
-      ];
-    })
-    | inr p ↦ subst (IsListOf N (IsRowOfEntries row P (before ++ e ∷ []))) (sym p.1) (record {
+  module _ (before : List (K × X)) (e : K × X) where
+    wider : (x : R) → IsRowOfEntries row P before x → IsRowOfEntries row P (before ++ e ∷ []) x
+    wider x h = (h.0, Contains-append_left before (e ∷ []) h.0 h.1, h.2)
+
+    -- what the row is of an entry that is the last
+    last_row : (o : Option R) → o ≡ row e.0 e.1 → (d : K × X) (x : R) → e ≡ d → row d.0 d.1 ≡ Some x → o ≡ Some x
+    last_row o is d x same at = is ∙ (λ i. row (same i).0 (same i).1) ∙ at
+
+    -- the row of one entry more, if it has one that has P
+    pub listed_more : (es it more : List (K × X)) (found : Option R) (old new : List R) → es ≡ before ++ it → it ≡ e ∷ more → IsStrictlySortedBy O (keys_of es) → found ≡ row e.0 e.1 → IsPushed P found old new
+        → IsListOf N (IsRowOfEntries row P before) old → IsListOf N (IsRowOfEntries row P (before ++ e ∷ [])) new
+    listed_more es it more None old new so_far next sorted is pushed l = subst (IsListOf N (IsRowOfEntries row P (before ++ e ∷ []))) (sym pushed) (record {
       sorted = l.sorted;
       sound = λ x c. wider x (l.sound x c);
       complete = λ x h. elim (Contains-push_cases before e h.0 h.1) [
         | inl o ↦ l.complete x (h.0, o, h.2)
-        | inr same ↦ absurd (p.0 (subst P (h.2.1 ∙ sym (λ i. row (same i).0 (same i).1) ∙ sym is) h.2.0))
+        | inr same ↦ let no : ◌≡◌ {A = Option R} None (Some x) = last_row None is h.0 x same h.2.1 in absurd cc
       ];
     })
-  ]
-    where
-      wider : (x : R) → IsRowOfEntries row P before x → IsRowOfEntries row P (before ++ e ∷ []) x
-      wider x h = (h.0, Contains-append_left before (e ∷ []) h.0 h.1, h.2)
+    listed_more es it more (Some r) old new so_far next sorted is pushed l = elim pushed [
+      | inl p ↦ subst (IsListOf N (IsRowOfEntries row P (before ++ e ∷ []))) (sym p.1) (record {
+        sorted = sorted_push N old r l.sorted (λ x c. let h = l.sound x c in
+            by_key h.0.0 e.0 h.0.1 e.1 x r h.2.1 (sym is) ∙ below_next O before e more (subst (λ ys. IsStrictlySortedBy O (keys_of ys)) (so_far ∙ ap (λ z. before ++ z) next) sorted) h.0 h.1);
+        sound = λ x c. elim (Contains-push_cases old r x c) [
+          | inl o ↦ wider x (l.sound x o)
+          | inr same ↦ (e, Contains-push before e, (subst P same p.0, sym is ∙ ap Some same))
+        ];
+        complete = λ x h. elim (Contains-push_cases before e h.0 h.1) [
+          | inl o ↦ Contains-append_left old (r ∷ []) x (l.complete x (h.0, o, h.2))
+          | inr same ↦ subst (Contains (old ++ r ∷ [])) (one r x (last_row (Some r) is h.0 x same h.2.1)) (Contains-push old r)
+        ];
+      })
+      | inr p ↦ subst (IsListOf N (IsRowOfEntries row P (before ++ e ∷ []))) (sym p.1) (record {
+        sorted = l.sorted;
+        sound = λ x c. wider x (l.sound x c);
+        complete = λ x h. elim (Contains-push_cases before e h.0 h.1) [
+          | inl o ↦ l.complete x (h.0, o, h.2)
+          | inr same ↦ absurd (p.0 (subst P (sym (one r x (last_row (Some r) is h.0 x same h.2.1))) h.2.0))
+        ];
+      })
+    ]
+      where
+        one : (a b : R) → ◌≡◌ {A = Option R} (Some a) (Some b) → a ≡ b
+        one a b is_one = cc

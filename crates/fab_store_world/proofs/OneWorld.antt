@@ -4,13 +4,13 @@ use Rattle.std.specs.FinMap as map
 use Rattle.fab_lemmas.specs.Firsts.{HasAt}
 use Rattle.fab_names.proofs.OrderLaws.{name_total, name_exact}
 use Rattle.fab_inventory.specs.Inventories.{InventoryRows}
-use Rattle.fab_inventory.specs.declared.port.Port.{Port}
 use Rattle.fab_store_load.specs.Inventories.{AreInventoryRows}
 use Rattle.fab_store_world.specs.Paths.{ArePathRows}
 use Rattle.fab_plans_text.proofs.Unique.{one_plan}
 use Rattle.fab_reach_base.specs.Soundness.{HasSoundZonings}
 use Rattle.fab_store_rows.proofs.Determined.{one_list, one_config, one_inventory, same_option}
 use Rattle.fab_store_rows.specs.PlanEntries.{PlanEntry}
+use Rattle.fab_store_rows.specs.Telling.{IsOfTable}
 use Rattle.fab_store_rows.specs.Standing.{IsKnown}
 use Rattle.fab_store_rows.specs.declared.config_row.ConfigRow.{ConfigRow}
 use Rattle.fab_store_rows.specs.declared.inventory_row.InventoryRow.{InventoryRow}
@@ -109,10 +109,13 @@ module _ (rows : List PlanEntry) (approvals : List ApprovalRow) (undo : List Und
 -- ---- worlds
 
 -- the same rows stand in both inventories
-known_there : (ports : List Port) (holders : List _) (volumes : List _) (v w : InventoryRows) → AreInventoryRows ports holders volumes v → AreInventoryRows ports holders volumes w → (r : InventoryRow) → IsKnown v r → IsKnown w r
-known_there ports holders volumes v w h k (row.Port p) there = (k.ports_are p).0 ((h.ports_are p).1 there)
-known_there ports holders volumes v w h k (row.Holder p) there = (k.holders_are p).0 ((h.holders_are p).1 there)
-known_there ports holders volumes v w h k (row.Volume p) there = (k.volumes_are p).0 ((h.volumes_are p).1 there)
+known_there : (ports : List _) (addresses : List _) (holders : List _) (volumes : List _) (v w : InventoryRows) → AreInventoryRows ports addresses holders volumes v → AreInventoryRows ports addresses holders volumes w
+    → (r : InventoryRow) → IsOfTable r → IsKnown v r → IsKnown w r
+known_there ports addresses holders volumes v w h k (row.Port p) of_table there = absurd of_table
+known_there ports addresses holders volumes v w h k (row.Entry p) of_table there = (k.ports_are p).0 ((h.ports_are p).1 there)
+known_there ports addresses holders volumes v w h k (row.Address p) of_table there = (k.addresses_are p).0 ((h.addresses_are p).1 there)
+known_there ports addresses holders volumes v w h k (row.Holder p) of_table there = (k.holders_are p).0 ((h.holders_are p).1 there)
+known_there ports addresses holders volumes v w h k (row.Volume p) of_table there = (k.volumes_are p).0 ((h.volumes_are p).1 there)
 
 module _ {A : Type 0} (t : TableRows A) (v w : WorldRows) (h : AreRecords t v) (k : AreRecords t w) where
   -- worlds with the same rows are one
@@ -120,9 +123,9 @@ module _ {A : Type 0} (t : TableRows A) (v w : WorldRows) (h : AreRecords t v) (
   same_world zonings others sorted listed = λ i. record { inventory = inventory i; config = config i; plans = plans i; order = order i; revision = revision i }
     where
       inventory : v.inventory ≡ w.inventory
-      inventory = one_inventory v.inventory w.inventory (λ r. (
-        known_there t.ports.items t.holders.items t.volumes.items v.inventory w.inventory h.inventory_are k.inventory_are r,
-        known_there t.ports.items t.holders.items t.volumes.items w.inventory v.inventory k.inventory_are h.inventory_are r,
+      inventory = one_inventory v.inventory w.inventory (λ r of_table. (
+        known_there t.ports.items t.addresses.items t.holders.items t.volumes.items v.inventory w.inventory h.inventory_are k.inventory_are r of_table,
+        known_there t.ports.items t.addresses.items t.holders.items t.volumes.items w.inventory v.inventory k.inventory_are h.inventory_are r of_table,
       ))
 
       config : v.config ≡ w.config

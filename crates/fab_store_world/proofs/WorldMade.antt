@@ -3,7 +3,6 @@ use Rattle.std.proofs.Common.{◌≡◌, ℕ, List, Option, refl, sym, subst}
 use Rattle.std.specs.BTreeMap.{BTreeMap, get}
 use Rattle.std.specs.FinMap as map
 use Rattle.fab_inventory.specs.Inventories.{InventoryRows}
-use Rattle.fab_inventory.specs.declared.port.Port.{Port}
 use Rattle.fab_store_load.specs.Configs.{AreConfigRows}
 use Rattle.fab_store_load.specs.Faults.{OfTable}
 use Rattle.fab_store_load.specs.Inventories.{AreAll, AreInventoryRows}
@@ -16,6 +15,8 @@ use Rattle.fab_reach_base.specs.Records.{ConfigRows}
 use Rattle.fab_reach_base.specs.Soundness.{HasSoundZonings, IsSoundAlone}
 use Rattle.fab_store_rows.specs.PlanEntries.{PlanEntry}
 use Rattle.fab_store_rows.specs.declared.config_row.ConfigRow.{ConfigRow}
+use Rattle.fab_store_rows.specs.declared.inventory_row.PortEntry.{PortEntry}
+use Rattle.fab_store_rows.specs.declared.inventory_row.AddressRow.{AddressRow}
 use Rattle.fab_store_rows.specs.declared.inventory_row.HolderRow.{HolderRow}
 use Rattle.fab_store_rows.specs.declared.inventory_row.VolumeRow.{VolumeRow}
 use Rattle.fab_store_rows.specs.declared.record_row.ApprovalRow.{ApprovalRow}
@@ -27,23 +28,23 @@ use Rattle.fab_world.specs.PlanRecords.{PlanRecord}
 use Rattle.fab_store_world.specs.OpenedTables.{IsCount, IsMadeOfTables, HasNoWorld}
 
 -- of equal lists the same is true
-inventory_as : (ps qs : List Port) (hs is : List HolderRow) (us vs : List VolumeRow) (v : InventoryRows) → ps ≡ qs → hs ≡ is → us ≡ vs → AreInventoryRows ps hs us v → AreInventoryRows qs is vs v
-inventory_as ps qs hs is us vs v p h u are = subst (λ x. AreInventoryRows x is vs v) p (subst (λ x. AreInventoryRows ps x vs v) h (subst (λ x. AreInventoryRows ps hs x v) u are))
+inventory_as : (ps qs : List PortEntry) (xs ys : List AddressRow) (hs is : List HolderRow) (us vs : List VolumeRow) (v : InventoryRows) → ps ≡ qs → xs ≡ ys → hs ≡ is → us ≡ vs → AreInventoryRows ps xs hs us v → AreInventoryRows qs ys is vs v
+inventory_as ps qs xs ys hs is us vs v p a h u are = subst (λ x. AreInventoryRows x ys is vs v) p (subst (λ x. AreInventoryRows ps x is vs v) a (subst (λ x. AreInventoryRows ps xs x vs v) h (subst (λ x. AreInventoryRows ps xs hs x v) u are)))
 
 plans_as : (ps qs : List PlanEntry) (hs is : List ApprovalRow) (us vs : List UndoRow) (plans : List ℕ → Option PlanRecord) (order : List (List ℕ)) → ps ≡ qs → hs ≡ is → us ≡ vs → ArePlans ps hs us plans order → ArePlans qs is vs plans order
 plans_as ps qs hs is us vs plans order p h u are = subst (λ x. ArePlans x is vs plans order) p (subst (λ x. ArePlans ps x vs plans order) h (subst (λ x. ArePlans ps hs x plans order) u are))
 
 module _ {A : Type 0} (t : TableRows A) where
-  module _ (counts : List CountRow) (ports : List Port) (holders : List HolderRow) (volumes : List VolumeRow) (config : List ConfigRow) (rows : List PlanEntry) (approvals : List ApprovalRow) (undo : List UndoRow) (counts_is : counts ≡ t.counts.items)
-      (ports_is : ports ≡ t.ports.items) (holders_is : holders ≡ t.holders.items) (volumes_is : volumes ≡ t.volumes.items) (config_is : config ≡ t.config.items) (rows_is : rows ≡ t.plans.items) (approvals_is : approvals ≡ t.approvals.items)
+  module _ (counts : List CountRow) (ports : List PortEntry) (addresses : List AddressRow) (holders : List HolderRow) (volumes : List VolumeRow) (config : List ConfigRow) (rows : List PlanEntry) (approvals : List ApprovalRow) (undo : List UndoRow) (counts_is : counts ≡ t.counts.items)
+      (ports_is : ports ≡ t.ports.items) (addresses_is : addresses ≡ t.addresses.items) (holders_is : holders ≡ t.holders.items) (volumes_is : volumes ≡ t.volumes.items) (config_is : config ≡ t.config.items) (rows_is : rows ≡ t.plans.items) (approvals_is : approvals ≡ t.approvals.items)
       (undo_is : undo ≡ t.undo.items) where
     -- the world of the parts
-    pub made : (v : InventoryRows) (c : ConfigRows) (plans : BTreeMap (List ℕ) PlanRecord) (order : List (List ℕ)) (revision : ℕ) → AreAll counts (IsCount revision) → AreInventoryRows ports holders volumes v → AreConfigRows config c → HasSoundZonings c
+    pub made : (v : InventoryRows) (c : ConfigRows) (plans : BTreeMap (List ℕ) PlanRecord) (order : List (List ℕ)) (revision : ℕ) → AreAll counts (IsCount revision) → AreInventoryRows ports addresses holders volumes v → AreConfigRows config c → HasSoundZonings c
         → ArePlans rows approvals undo (get name_cmp plans) order → ListInOrder (get name_cmp plans) → IsMadeOfTables t (record { inventory = v; config = c; plans = map.from_entries plans.entries; order = order; revision = revision })
     made v c plans order revision counted known stands zonings kept sorted = record {
       records_are = record {
         counts_are = subst (λ xs. AreAll xs (IsCount revision)) counts_is counted;
-        inventory_are = inventory_as ports t.ports.items holders t.holders.items volumes t.volumes.items v ports_is holders_is volumes_is known;
+        inventory_are = inventory_as ports t.ports.items addresses t.addresses.items holders t.holders.items volumes t.volumes.items v ports_is addresses_is holders_is volumes_is known;
         config_are = subst (λ xs. AreConfigRows xs c) config_is stands;
         plans_are = subst (λ look. ArePlans t.plans.items t.approvals.items t.undo.items look order) at (plans_as rows t.plans.items approvals t.approvals.items undo t.undo.items (get name_cmp plans) order rows_is approvals_is undo_is kept);
       };

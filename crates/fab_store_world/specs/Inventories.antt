@@ -1,20 +1,36 @@
 -- Rows of inventories as lists, and what one inventory has and another has not.
-use Rattle.std.specs.Prelude.{ℕ, List}
+use Rattle.std.specs.Prelude.{ℕ, List, Option, Some}
+use Rattle.std.specs.Option.{option_map}
 use Rattle.std.specs.declared.cmp.Ordering.{Ordering}
 use Rattle.std.specs.Ordering.{nat_cmp}
 use Rattle.fab_lemmas.specs.Lists.{IsListOf}
 use Rattle.fab_names.specs.Orders.{name_cmp}
 use Rattle.fab_inventory.specs.declared.holder.Holder.{Holder}
 use Rattle.fab_inventory.specs.declared.holder.Volume.{Volume}
+use Rattle.fab_inventory.specs.declared.port.Known.{Known}
 use Rattle.fab_inventory.specs.declared.port.Port.{Port}
+use Rattle.fab_inventory.specs.Ports.{port_of}
 use Rattle.fab_inventory.specs.Inventories.{InventoryRows}
+use Rattle.fab_store_rows.specs.declared.inventory_row.PortEntry.{PortEntry}
+use Rattle.fab_store_rows.specs.declared.inventory_row.AddressRow.{AddressRow}
 use Rattle.fab_store_rows.specs.declared.inventory_row.HolderRow.{HolderRow}
 use Rattle.fab_store_rows.specs.declared.inventory_row.VolumeRow.{VolumeRow}
 use Rattle.fab_store_rows.specs.declared.inventory_row.InventoryRow.{InventoryRow}
 use Rattle.fab_store_rows.specs.declared.inventory_row.InventoryRow.TheVariants as row
-use Rattle.fab_store_rows.specs.Standing.{IsKnown}
+use Rattle.fab_store_rows.specs.Standing.{entry_of, IsKnown}
 use Rattle.fab_store_world.specs.declared.inventories.InventoryLists.{InventoryLists}
 use Rattle.fab_store_world.specs.declared.inventories.InventoryDifference.{InventoryDifference}
+
+-- the whole port of this name
+abbrev pub port_row : ℕ → Known → Option Port
+port_row name k = Some (port_of name k)
+
+-- the row of the port of this name, and of its address, if it has one
+abbrev pub entry_row : ℕ → Known → Option PortEntry
+entry_row name k = Some (entry_of name k)
+
+abbrev pub address_row : ℕ → Known → Option AddressRow
+address_row name k = option_map (λ a. record { port = name; address = a }) k.address
 
 -- the row of a holder, and of a volume, of this name
 abbrev pub holder_row : List ℕ → Holder → HolderRow
@@ -27,6 +43,12 @@ volume_row name x = record { name = name; array = x.array; tenant = x.tenant; by
 abbrev pub port_order : Port → Port → Ordering
 port_order a b = nat_cmp a.name b.name
 
+abbrev pub entry_order : PortEntry → PortEntry → Ordering
+entry_order a b = nat_cmp a.name b.name
+
+abbrev pub address_order : AddressRow → AddressRow → Ordering
+address_order a b = nat_cmp a.port b.port
+
 abbrev pub holder_order : HolderRow → HolderRow → Ordering
 holder_order a b = name_cmp a.name b.name
 
@@ -36,6 +58,8 @@ volume_order a b = name_cmp a.name b.name
 -- the lists have the rows with P, each once, by name, and no other
 pub record AreListsOf {A : Type 0} (P : InventoryRow → Type 0) (lists : InventoryLists A) : Type 0 where
   pub ports : IsListOf port_order (λ r. P (row.Port r)) lists.ports.items
+  pub entries : IsListOf entry_order (λ r. P (row.Entry r)) lists.entries.items
+  pub addresses : IsListOf address_order (λ r. P (row.Address r)) lists.addresses.items
   pub holders : IsListOf holder_order (λ r. P (row.Holder r)) lists.holders.items
   pub volumes : IsListOf volume_order (λ r. P (row.Volume r)) lists.volumes.items
 

@@ -5,6 +5,7 @@ pub mod Parts
 pub mod Paths
 pub mod PathGathering
 pub mod Inventories
+pub mod InventoryKeys
 pub mod InventoryGathering
 pub mod Keys
 pub mod Positions

@@ -21,11 +21,11 @@ IsCount revision (Revision n) = n ≡ revision
 -- the rows of all tables but that of paths are those of the world, and no others
 pub record AreRecords {A : Type 0} (t : TableRows A) (w : WorldRows) : Type 0 where
   pub counts_are : AreAll t.counts.items (IsCount w.revision)
-  pub inventory_are : AreInventoryRows t.ports.items t.holders.items t.volumes.items w.inventory
+  pub inventory_are : AreInventoryRows t.ports.items t.addresses.items t.holders.items t.volumes.items w.inventory
   pub config_are : AreConfigRows t.config.items w.config
   pub plans_are : ArePlans t.plans.items t.approvals.items t.undo.items (map.get w.plans) w.order
 
--- the rows of the twelve tables are those of the world, and no others
+-- the rows of the thirteen tables are those of the world, and no others
 pub record AreTableRows {A : Type 0} (t : TableRows A) (w : WorldRows) : Type 0 where
   pub records_are : AreRecords t w
   pub paths_are : ArePathRows (records_of w) t.paths.items

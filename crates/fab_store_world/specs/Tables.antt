@@ -3,9 +3,10 @@ use Rattle.std.specs.Prelude.{◌≡◌}
 use Rattle.std.specs.declared.cmp.Ordering.{Ordering}
 use Rattle.std.specs.declared.cmp.Ordering.TheVariants.{Less, Greater}
 use Rattle.std.specs.Ordering.{nat_cmp}
-use Rattle.fab_inventory.specs.declared.port.Port.{Port}
 use Rattle.fab_lemmas.specs.Lists.{IsListOf}
 use Rattle.fab_store_rows.specs.declared.config_row.ConfigRow.{ConfigRow}
+use Rattle.fab_store_rows.specs.declared.inventory_row.PortEntry.{PortEntry}
+use Rattle.fab_store_rows.specs.declared.inventory_row.AddressRow.{AddressRow}
 use Rattle.fab_store_rows.specs.declared.inventory_row.HolderRow.{HolderRow}
 use Rattle.fab_store_rows.specs.declared.inventory_row.VolumeRow.{VolumeRow}
 use Rattle.fab_store_rows.specs.declared.inventory_row.InventoryRow.TheVariants as row
@@ -16,7 +17,7 @@ use Rattle.fab_store_rows.specs.declared.table_rows.TableRows.{TableRows}
 use Rattle.fab_store_rows.specs.declared.table_rows.TheConstants.{SCHEMA}
 use Rattle.fab_store_rows.specs.RowOrder.{row_order}
 use Rattle.fab_store_rows.specs.Standing.{IsKnown, Stands}
-use Rattle.fab_store_world.specs.Inventories.{port_order, holder_order, volume_order}
+use Rattle.fab_store_world.specs.Inventories.{entry_order, address_order, holder_order, volume_order}
 use Rattle.fab_store_world.specs.Paths.{IsPathRow, path_row_order}
 use Rattle.fab_world.specs.Worlds.{WorldRows, records_of}
 use Rattle.fab_store_world.specs.Keys.{plan_order, approval_order, undo_order}
@@ -30,8 +31,11 @@ abbrev pub IsCountRow : WorldRows → CountRow → Type 0
 IsCountRow w (Schema n) = n ≡ SCHEMA
 IsCountRow w (Revision n) = n ≡ w.revision
 
-abbrev pub IsPortRow : WorldRows → Port → Type 0
-IsPortRow w r = IsKnown w.inventory (row.Port r)
+abbrev pub IsPortRow : WorldRows → PortEntry → Type 0
+IsPortRow w r = IsKnown w.inventory (row.Entry r)
+
+abbrev pub IsAddressRow : WorldRows → AddressRow → Type 0
+IsAddressRow w r = IsKnown w.inventory (row.Address r)
 
 abbrev pub IsHolderRow : WorldRows → HolderRow → Type 0
 IsHolderRow w r = IsKnown w.inventory (row.Holder r)
@@ -59,7 +63,8 @@ count_order (Revision m) (Revision n) = nat_cmp m n
 -- sound worlds
 pub record AreRowsLacking {A : Type 0} (other w : WorldRows) (t : TableRows A) : Type 0 where
   pub counts : IsListOf count_order (Lacking IsCountRow other w) t.counts.items
-  pub ports : IsListOf port_order (Lacking IsPortRow other w) t.ports.items
+  pub ports : IsListOf entry_order (Lacking IsPortRow other w) t.ports.items
+  pub addresses : IsListOf address_order (Lacking IsAddressRow other w) t.addresses.items
   pub holders : IsListOf holder_order (Lacking IsHolderRow other w) t.holders.items
   pub volumes : IsListOf volume_order (Lacking IsVolumeRow other w) t.volumes.items
   pub config : IsListOf row_order (Lacking IsConfigRow other w) t.config.items

@@ -92,8 +92,10 @@ fn faulty_present<A: Allocator + Copy>(
         return Ok(found);
     }
     let ports = tables.ports.as_slice();
+    let addresses = tables.addresses.as_slice();
     let holders = tables.holders.as_slice();
-    match inventory_of(alloc, ports, holders, tables.volumes.as_slice()) {
+    let volumes = tables.volumes.as_slice();
+    match inventory_of(alloc, ports, addresses, holders, volumes) {
         Ok(inventory) => {
             if found == Some(Table::Zoning) || found == Some(Table::Active) {
                 return Ok(found);

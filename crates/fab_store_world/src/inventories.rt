@@ -6,16 +6,20 @@ ghost use Rattle.fab_lemmas.specs.Lists.{IsListOf};
 ghost use Rattle.fab_store_world.specs.Inventories.{AreListsOf, IsKnownOnlyIn, IsInventoryDifference};
 ghost use Rattle.fab_store_world.specs.InventoryGathering.{IsPushed, IsRowOfEntries};
 
-use crate::row_tables::{Holders, Ports, Table, Volumes};
+use crate::row_tables::{Addresses, Entries, Holders, Ports, Table, Volumes};
 use fab_inventory::{Inventory, Port};
-use fab_store_rows::{HolderRow, VolumeRow};
+use fab_store_rows::{AddressRow, HolderRow, PortEntry, VolumeRow};
 use std::alloc::{AllocError, Allocator};
 use std::collections::btree_map;
 
-/// Rows of an inventory: a list a table, each by name.
+/// Rows of an inventory: whole ports, and a list a table, each by name.
 #[derive(Drop)]
 pub struct InventoryLists<A: Allocator> {
+    /// Ports with their addresses, which no table has in one row.
     pub ports: Vec<Port, A>,
+    /// Rows of the table of ports: ports without their addresses.
+    pub entries: Vec<PortEntry, A>,
+    pub addresses: Vec<AddressRow, A>,
     pub holders: Vec<HolderRow, A>,
     pub volumes: Vec<VolumeRow, A>,
 }
@@ -28,15 +32,18 @@ pub struct InventoryDifference<A: Allocator> {
     pub added: InventoryLists<A>,
 }
 
-/// Puts the row at the end, unless it stands in the inventory.
+/// Puts the row at the end, if there is one, unless it stands in the inventory.
 fn push_lacking<K: Ord, V, R: Copy + Drop, T: Table<K, V, R>, A: Allocator + Copy>(
     rows: &mut Vec<R, A>,
     table: &T,
     other: &Inventory<A>,
-    row: R,
+    found: Option<R>,
 ) -> Result<(), AllocError>
-    ensures { OnOk result (IsPushed (¬ T.knows other.now row) row rows.old.items rows.new.items) }
+    ensures { OnOk result (IsPushed (λ r. ¬ T.knows other.now r) found rows.old.items rows.new.items) }
 {
+    let Some(row) = found else {
+        return Ok(());
+    };
     if !table.is_known(other, &row) {
         rows.push(row)?;
     }
@@ -69,10 +76,14 @@ fn lists_only_in<A: Allocator + Copy>(
     ensures { IfOk result (AreListsOf (IsKnownOnlyIn inventory.now other.now)) }
 {
     let ports = rows_without(alloc, &Ports, other, inventory.ports())?;
+    let entries = rows_without(alloc, &Entries, other, inventory.ports())?;
+    let addresses = rows_without(alloc, &Addresses, other, inventory.ports())?;
     let holders = rows_without(alloc, &Holders, other, inventory.holders())?;
     let volumes = rows_without(alloc, &Volumes, other, inventory.volumes())?;
     Ok(InventoryLists {
         ports,
+        entries,
+        addresses,
         holders,
         volumes,
     })
@@ -80,7 +91,8 @@ fn lists_only_in<A: Allocator + Copy>(
 
 /// What one inventory's rows have and another's have not, both ways: those of `before` that do not
 /// stand in `after` are taken, and those of `after` that do not stand in `before` are added, each
-/// once, by name. It walks through each inventory once, with a look-up in the other for each row.
+/// once, by name. It walks through the ports of each inventory three times and through the rest once,
+/// with a look-up in the other for each row.
 /// Besides what differs it takes no memory.
 ///
 /// # Errors

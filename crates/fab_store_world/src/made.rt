@@ -19,8 +19,10 @@ pub fn made_of<A: Allocator + Copy>(alloc: A, tables: &TableRows<A>) -> Result<W
         return Err(LoadFault::Damaged(Table::Meta));
     };
     let ports = tables.ports.as_slice();
+    let addresses = tables.addresses.as_slice();
     let holders = tables.holders.as_slice();
-    let inventory = match inventory_of(alloc, ports, holders, tables.volumes.as_slice()) {
+    let volumes = tables.volumes.as_slice();
+    let inventory = match inventory_of(alloc, ports, addresses, holders, volumes) {
         Ok(inventory) => inventory,
         Err(fault) => return Err(fault),
     };

@@ -24,15 +24,22 @@ const SAME: Line = Line::Unit("g1", 0, "v1");
 
 const META: &[Damage] = &[
     (&[Edit::NoCounts], Some(Table::Meta)),
-    (&[Edit::Counts(2, 7)], Some(Table::Meta)),
-    (&[Edit::Counts(1, 1_000_000_001)], Some(Table::Meta)),
-    (&[Edit::Counts(1, 1_000_000_000)], None),
+    (&[Edit::Counts(1, 7)], Some(Table::Meta)),
+    (&[Edit::Counts(3, 7)], Some(Table::Meta)),
+    (&[Edit::Counts(2, 1_000_000_001)], Some(Table::Meta)),
+    (&[Edit::Counts(2, 1_000_000_000)], None),
     (&[Edit::Config(2, SAME)], Some(Table::Meta)),
     (&[Edit::Config(16, Line::NoActiveSet(A))], Some(Table::Meta)),
 ];
 
 const INVENTORY: &[Damage] = &[
     (&[Edit::Port], Some(Table::Ports)),
+    (&[Edit::Address(FIRST_TARGET)], None),
+    (&[Edit::Address(FIRST_INITIATOR)], Some(Table::Addresses)),
+    (&[Edit::Address(9)], Some(Table::Addresses)),
+    (&[Edit::LogOut, Edit::NoAddress], Some(Table::Paths)),
+    (&[Edit::LogOut], Some(Table::Addresses)),
+    (&[Edit::NoAddress], None),
     (&[Edit::Holder("db1", Array)], Some(Table::Holders)),
     (&[Edit::Holder("db9", Host)], None),
     (
@@ -116,8 +123,17 @@ const RECORDS: &[Damage] = &[
 
 /// Of several damaged tables the first is named.
 const SEVERAL: &[Damage] = &[
-    (&[Edit::NoPath, Edit::Counts(2, 7)], Some(Table::Meta)),
+    (&[Edit::NoPath, Edit::Counts(1, 7)], Some(Table::Meta)),
     (&[Edit::Config(2, SAME), Edit::Port], Some(Table::Meta)),
+    (&[Edit::Address(9), Edit::Port], Some(Table::Ports)),
+    (
+        &[Edit::Volume("arr9"), Edit::Address(9)],
+        Some(Table::Addresses),
+    ),
+    (
+        &[Edit::Config(16, Line::Set("s1", "z9")), Edit::Address(9)],
+        Some(Table::Addresses),
+    ),
     (
         &[Edit::Config(16, Line::Set("s1", "z9")), Edit::Port],
         Some(Table::Ports),
@@ -210,7 +226,11 @@ fn damage_is_named(rt: HostRuntime) {
 
 /// Whether there is no row.
 fn is_empty(lists: &InventoryLists<Global>) -> bool {
-    lists.ports.is_empty() && lists.holders.is_empty() && lists.volumes.is_empty()
+    lists.ports.is_empty()
+        && lists.entries.is_empty()
+        && lists.addresses.is_empty()
+        && lists.holders.is_empty()
+        && lists.volumes.is_empty()
 }
 
 /// Whether the inventory is that of the rows.

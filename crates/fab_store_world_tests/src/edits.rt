@@ -1,10 +1,11 @@
 //! Changes of the rows.
 
-use crate::lines::{Line, name, row};
+use crate::lines::{Line, name, port, row};
 use crate::records::undo_row;
 use crate::tables::{put_approval, put_counts, put_path, put_plan};
 use fab_inventory::HolderKind;
-use fab_store_rows::{HolderRow, PlanState, Sign, TableRows, UndoRow, VolumeRow};
+use fab_names::Address;
+use fab_store_rows::{AddressRow, HolderRow, PlanState, Sign, TableRows, UndoRow, VolumeRow};
 use std::alloc::Global;
 use std::process::Abort;
 
@@ -17,6 +18,12 @@ pub enum Edit {
     NoCounts,
     /// The first port is held by one that is not there.
     Port,
+    /// The first port is logged in nowhere.
+    LogOut,
+    /// There is an address more, 020100, of the port of this number.
+    Address(u64),
+    /// There is no address.
+    NoAddress,
     /// There is a row more of a host, or an array, of this name.
     Holder(&'static str, HolderKind),
     /// There is a volume more on the array of this name.
@@ -41,6 +48,23 @@ fn lose_holder(rt: &impl Abort, tables: &mut TableRows<Global>) {
         panic!(rt; "no port");
     };
     port.holder = Some(name(rt, "db9"));
+}
+
+/// The first port is logged in nowhere.
+fn log_out(rt: &impl Abort, tables: &mut TableRows<Global>) {
+    let Some(port) = tables.ports.get_mut(0) else {
+        panic!(rt; "no port");
+    };
+    port.at = None;
+}
+
+fn put_address(rt: &impl Abort, tables: &mut TableRows<Global>, number: u64) {
+    let port = port(rt, number);
+    let address = Address::read("020100").expect(rt, "an address");
+    tables
+        .addresses
+        .push(AddressRow { port, address })
+        .expect(rt, "memory");
 }
 
 fn put_holder(rt: &impl Abort, tables: &mut TableRows<Global>, holder: &str, kind: HolderKind) {
@@ -81,6 +105,9 @@ fn apply(rt: &(impl Abort + AllocGlobal), tables: &mut TableRows<Global>, edit: 
         Edit::Counts(schema, revision) => put_counts(rt, tables, schema, revision),
         Edit::NoCounts => tables.counts.clear(),
         Edit::Port => lose_holder(rt, tables),
+        Edit::LogOut => log_out(rt, tables),
+        Edit::Address(number) => put_address(rt, tables, number),
+        Edit::NoAddress => tables.addresses.clear(),
         Edit::Holder(holder, kind) => put_holder(rt, tables, holder, kind),
         Edit::Volume(array) => put_volume(rt, tables, array),
         Edit::Config(place, line) => set_config(rt, tables, place, line),

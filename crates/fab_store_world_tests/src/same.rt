@@ -3,6 +3,7 @@
 use crate::damages::restored;
 use crate::edits::{Edit, apply_all};
 use crate::lines::Line;
+use crate::stock::FIRST_TARGET;
 use crate::tables::tables;
 use fab_inventory::HolderKind::Host;
 use fab_names::Fabric::B;
@@ -14,7 +15,9 @@ use std::process::Abort;
 /// Changes of the rows, each of which leads to a world of its own.
 const WORLDS: &[&[Edit]] = &[
     &[],
-    &[Edit::Counts(1, 1_000_000_000)],
+    &[Edit::Counts(2, 1_000_000_000)],
+    &[Edit::Address(FIRST_TARGET)],
+    &[Edit::NoAddress],
     &[Edit::Holder("db9", Host)],
     &[Edit::Volume("arr1")],
     &[Edit::Config(3, Line::DefaultZone(B, true))],

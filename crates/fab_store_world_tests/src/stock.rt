@@ -2,7 +2,7 @@
 
 use crate::lines::{name, port};
 use fab_inventory::{HolderKind, Inventory, PortRow};
-use fab_names::{Fabric, Place};
+use fab_names::{Address, Fabric, Place};
 use std::alloc::Global;
 use std::process::Abort;
 
@@ -21,16 +21,17 @@ pub const FIRST_TARGET: u64 = 0x5000_0000_0000_0001;
 /// The other port of the array, of the same node.
 pub const SECOND_TARGET: u64 = 0x5000_0000_0000_0002;
 
-/// A port, its node and its place.
-type Row = (u64, u64, u8, u16);
+/// A port, its node and its place, and its address or none.
+type Row = (u64, u64, u8, u16, Option<&'static str>);
 
-/// Three initiators, the second and the third at one place, and two targets of one node.
+/// Three initiators, the second and the third at one place and the first with an address, and two
+/// targets of one node.
 const PORTS: &[Row] = &[
-    (FIRST_INITIATOR, 0x2000_0000_0000_0001, 1, 1),
-    (SECOND_INITIATOR, 0x2000_0000_0000_0002, 12, 5),
-    (THIRD_INITIATOR, 0x2000_0000_0000_0003, 12, 5),
-    (FIRST_TARGET, 0x5000_0000_0000_0000, 1, 2),
-    (SECOND_TARGET, 0x5000_0000_0000_0000, 1, 3),
+    (FIRST_INITIATOR, 0x2000_0000_0000_0001, 1, 1, Some("010100")),
+    (SECOND_INITIATOR, 0x2000_0000_0000_0002, 12, 5, None),
+    (THIRD_INITIATOR, 0x2000_0000_0000_0003, 12, 5, None),
+    (FIRST_TARGET, 0x5000_0000_0000_0000, 1, 2, None),
+    (SECOND_TARGET, 0x5000_0000_0000_0000, 1, 3, None),
 ];
 
 fn place(rt: &impl Abort, domain: u8, slot: u16) -> Place {
@@ -40,12 +41,21 @@ fn place(rt: &impl Abort, domain: u8, slot: u16) -> Place {
     Place::new(domain, slot)
 }
 
+/// The address of this text, if there is one.
+fn address(rt: &impl Abort, text: Option<&str>) -> Option<Address> {
+    match text {
+        Some(text) => Some(Address::read(text).expect(rt, "an address")),
+        None => None,
+    }
+}
+
 /// A record of a port list.
 fn listed(rt: &impl Abort, row: Row) -> PortRow {
     PortRow {
         name: port(rt, row.0),
         node: port(rt, row.1),
         place: place(rt, row.2, row.3),
+        address: address(rt, row.4),
     }
 }
 

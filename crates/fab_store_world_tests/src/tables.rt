@@ -1,4 +1,4 @@
-//! The rows of the twelve tables after the first worked plan.
+//! The rows of the thirteen tables after the first worked plan.
 
 use crate::lines::{name, port};
 use crate::plan_lines::{ApprovalLine, PlanLine, approval_row, plan_row};
@@ -77,13 +77,16 @@ fn stock_rows(rt: &(impl Abort + AllocGlobal)) -> InventoryLists<Global> {
 /// The rows of the inventory and the configuration, and the changed rows.
 fn some_rows(rt: &(impl Abort + AllocGlobal)) -> TableRows<Global> {
     let InventoryLists {
-        ports,
+        ports: _,
+        entries,
+        addresses,
         holders,
         volumes,
     } = stock_rows(rt);
     TableRows {
         counts: Vec::new(rt.alloc()),
-        ports,
+        ports: entries,
+        addresses,
         holders,
         volumes,
         config: config_rows(rt),

@@ -28,11 +28,7 @@ fn accepted<E: PartialEq + Copy>(rt: &impl Abort, answer: Result<(), E>, memory:
 
 /// A port that is logged in at domain 1, port 1.
 fn row(port: Wwn) -> PortRow {
-    PortRow {
-        name: port,
-        node: Wwn::new(1),
-        place: Place::new(1, 1),
-    }
+    PortRow::plain(port, Wwn::new(1), Place::new(1, 1))
 }
 
 /// Whether the copy has the same rows; not so where there is none.

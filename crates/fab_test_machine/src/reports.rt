@@ -63,7 +63,7 @@ pub fn tell_shown(text: &mut String, shown: &Shown<Global>) -> Result<(), AllocE
             tell_paths(text, "", paths.as_slice())
         }
         Shown::Joined(joint) => tell_joint(text, *joint),
-        Shown::Port { name, node, at } => {
+        Shown::Port { name, node, at, .. } => {
             write!(text, "port {name} {node}")?;
             tell_place(text, *at)
         }

@@ -2,7 +2,7 @@
 use Rattle.std.proofs.Common.{ℕ, ◌≡◌, List, [], ◌∷◌, Option, None, Some, true, refl, map}
 use Rattle.serde_json.specs.Data.{Data}
 use Rattle.serde_json.specs.View.{items_of}
-use Rattle.fab_wire_streams.specs.Values.{wwn_data, or_null}
+use Rattle.fab_wire_streams.specs.Values.{address_data, wwn_data, or_null}
 use Rattle.fab_plans.specs.declared.fault.Item.{Item}
 use Rattle.fab_plans.specs.declared.fault.Item.TheVariants as item
 use Rattle.fab_plans.specs.declared.fault.Refusal as plan
@@ -86,9 +86,14 @@ joined_in_order None = refl
 joined_in_order (Some joint.Default) = refl
 joined_in_order (Some (joint.Zone zone)) = refl
 
-at_in_order : (at : _) → in_order (or_null place_data at) ≡ true
-at_in_order None = refl
-at_in_order (Some at) = refl
+address_in_order : (address : Option ℕ) → in_order (or_null address_data address) ≡ true
+unfolding address_data
+address_in_order None = refl
+address_in_order (Some n) = refl
+
+at_in_order : (address : Option ℕ) (at : _) → in_order (or_null (place_data address) at) ≡ true
+at_in_order address None = refl
+at_in_order address (Some at) = rw (address_in_order address) refl
 
 active_in_order : (active : Option (List ℕ)) → in_order (or_null word active) ≡ true
 active_in_order None = refl
@@ -97,7 +102,7 @@ active_in_order (Some name) = refl
 shown_in_order : {A : Type 0} (s : Shown A) → in_order (shown_body s) ≡ true
 shown_in_order (shown.Paths host paths) = rw (all_in_order path_data path_in_order paths.items) refl
 shown_in_order (shown.Joined why) = joined_in_order why
-shown_in_order (shown.Port name node at) = rw (at_in_order at, wwn_in_order node, wwn_in_order name) refl
+shown_in_order (shown.Port name node at address) = rw (at_in_order address at, wwn_in_order node, wwn_in_order name) refl
 shown_in_order (shown.Holder x) = rw (all_in_order wwn_data wwn_in_order x.ports.items) refl
 shown_in_order (shown.Volume name volume) = refl
 shown_in_order (shown.HostGroup name tenant hosts) = rw (all_in_order word (λ x. refl) hosts.items) refl

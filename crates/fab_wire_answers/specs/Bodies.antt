@@ -108,9 +108,9 @@ joined_body None = record_of ((codes "joined", boolean false) ∷ [])
 abbrev pub paths_body : List ℕ → List Path → Data
 paths_body host paths = record_of ((codes "host", word host) ∷ (codes "paths", list_data path_data paths) ∷ [])
 
--- a port, its node, and where it is logged in
-abbrev pub port_body : ℕ → ℕ → Option (Fabric × Position) → Data
-port_body name node at = record_of ((codes "at", or_null place_data at) ∷ (codes "node_name", wwn_data node) ∷ (codes "port_name", wwn_data name) ∷ [])
+-- a port, its node, and where it is logged in, by what address
+abbrev pub port_body : ℕ → ℕ → Option (Fabric × Position) → Option ℕ → Data
+port_body name node at address = record_of ((codes "at", or_null (place_data address) at) ∷ (codes "node_name", wwn_data node) ∷ (codes "port_name", wwn_data name) ∷ [])
 
 -- a host or an array, and its ports
 abbrev pub holder_body : {A : Type 0} → ShownHolder A → Data
@@ -157,7 +157,7 @@ active_body fabric active flag zones = record_of (
 abbrev pub shown_body : {A : Type 0} → Shown A → Data
 shown_body (shown.Paths host paths) = paths_body host paths.items
 shown_body (shown.Joined why) = joined_body why
-shown_body (shown.Port name node at) = port_body name node at
+shown_body (shown.Port name node at address) = port_body name node at address
 shown_body (shown.Holder x) = holder_body x
 shown_body (shown.Volume name volume) = volume_body name volume
 shown_body (shown.HostGroup name tenant hosts) = host_group_body name tenant hosts.items

@@ -1,5 +1,5 @@
 -- Parts of the bodies of answers, as JSON (RFC 8259).
-use Rattle.std.specs.Prelude.{ℕ, List, [], ◌∷◌, codes, decimal}
+use Rattle.std.specs.Prelude.{ℕ, List, [], ◌∷◌, Option, codes, decimal}
 use Rattle.serde_json.specs.Data.{Data, string}
 use Rattle.fab_names.specs.Fabrics.{fabric_text}
 use Rattle.fab_names.specs.Members.{member_text}
@@ -13,7 +13,7 @@ use Rattle.fab_plans.specs.declared.fault.Item.TheVariants as item
 use Rattle.fab_policy.specs.declared.act.Approval.{Approval}
 use Rattle.fab_reach_base.specs.declared.path.Path.{Path}
 use Rattle.fab_desk_base.specs.declared.reply.ZoneMembers.{ZoneMembers}
-use Rattle.fab_wire_streams.specs.Values.{record_of, list_data, whole, wwn_data}
+use Rattle.fab_wire_streams.specs.Values.{record_of, list_data, whole, address_data, wwn_data, or_null}
 
 -- a text
 abbrev pub word : List ℕ → Data
@@ -37,9 +37,9 @@ unit_data u = record_of ((codes "lun", whole u.0) ∷ (codes "volume", word u.1)
 abbrev pub approval_data : Approval → Data
 approval_data a = record_of ((codes "caller", word a.caller) ∷ (codes "revision", whole a.revision) ∷ [])
 
--- a fabric, and a place in it
-abbrev pub place_data : Fabric × Position → Data
-place_data at = record_of ((codes "domain", whole at.1.domain) ∷ (codes "fabric", word (fabric_text at.0)) ∷ (codes "port", whole at.1.slot) ∷ [])
+-- a fabric, a place in it, and the address that a port has there, if one is known
+abbrev pub place_data : Option ℕ → Fabric × Position → Data
+place_data address at = record_of ((codes "address", or_null address_data address) ∷ (codes "domain", whole at.1.domain) ∷ (codes "fabric", word (fabric_text at.0)) ∷ (codes "port", whole at.1.slot) ∷ [])
 
 -- a zone, with its members
 abbrev pub zone_data : {A : Type 0} → ZoneMembers A → Data

@@ -11,7 +11,7 @@ ghost use Rattle.fab_wire_answers.specs.Parts.{path_data, unit_data, approval_da
 
 use fab_desk_base::ZoneMembers;
 use fab_mapping::Gone;
-use fab_names::{Fabric, Name, Place};
+use fab_names::{Address, Fabric, Name, Place};
 use fab_plans::Item;
 use fab_policy::Approval;
 use fab_reach_base::Path;
@@ -118,29 +118,40 @@ fn put_comma<S: Sink>(sink: &mut S, later: bool) -> Result<(), WriteFailed>
     if later { sink.take(b",") } else { Ok(()) }
 }
 
-/// Where a port is logged in, or null.
+/// Where a port is logged in, by what address, or null.
 #[derive(Clone, Copy)]
-pub struct At(pub Option<(Fabric, Place)>);
+pub struct At(pub Option<(Fabric, Place)>, pub Option<Address>);
 
 impl Json for At {
-    ghost value = { λ at. or_null place_data at.0 };
+    ghost value = { λ at. or_null (place_data at.1) at.0 };
 
-    ghost most = { λ at. length (json_text (or_null place_data at.0)) };
+    ghost most = { λ at. length (json_text (or_null (place_data at.1) at.0)) };
 
     #[tactic(auto, unfolding(fab_wire_streams::specs::JsonText::json_text))]
     fn put<S: Sink>(&self, sink: &mut S) -> Result<(), WriteFailed> {
         match self.0 {
-            Some((fabric, place)) => put_place(sink, fabric, place),
+            Some((fabric, place)) => put_place(sink, fabric, place, self.1),
             None => sink.take(b"null"),
         }
     }
 }
 
-/// Puts a fabric and a place in it.
-fn put_place<S: Sink>(sink: &mut S, fabric: Fabric, place: Place) -> Result<(), WriteFailed>
-    ensures { Takes S.took S.cut sink.old (json_text (place_data (fabric, place))) sink.new result }
+/// Puts a fabric, a place in it and an address, or null.
+fn put_place<S: Sink>(
+    sink: &mut S,
+    fabric: Fabric,
+    place: Place,
+    address: Option<Address>,
+) -> Result<(), WriteFailed>
+    ensures { Takes S.took S.cut sink.old (json_text (place_data address (fabric, place))) sink.new result }
 {
-    object! { "domain": place.domain(), "fabric": fabric, "port": place.slot() }.put(sink)
+    object! {
+        "address": address,
+        "domain": place.domain(),
+        "fabric": fabric,
+        "port": place.slot()
+    }
+    .put(sink)
 }
 
 /// What a refusal is about: a name, a port as it is printed, or the decimal text of a unit.

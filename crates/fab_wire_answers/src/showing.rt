@@ -9,7 +9,7 @@ use crate::parts::{At, Part, Parts};
 use crate::words::{flag_word, state_word};
 use fab_desk_base::{Joint, Shown, ShownGroup, ShownHolder, ShownPlan, ZoneMembers};
 use fab_inventory::Volume;
-use fab_names::{Fabric, Member, Name, Place, Wwn};
+use fab_names::{Address, Fabric, Member, Name, Place, Wwn};
 use fab_reach_base::Path;
 use fab_store_columns_base::kind_word;
 use fab_wire_streams::object;
@@ -30,7 +30,12 @@ pub fn put_shown<A: Allocator + Copy, S: Sink>(
     match shown {
         Shown::Paths { host, paths } => put_paths(sink, *host, paths.as_slice()),
         Shown::Joined(why) => put_joined(sink, *why),
-        Shown::Port { name, node, at } => put_port(sink, *name, *node, *at),
+        Shown::Port {
+            name,
+            node,
+            at,
+            address,
+        } => put_port(sink, *name, *node, *at, *address),
         Shown::Holder(holder) => put_holder(sink, holder),
         Shown::Volume { name, volume } => put_volume(sink, *name, volume),
         Shown::HostGroup {
@@ -103,10 +108,11 @@ fn put_port<S: Sink>(
     name: Wwn,
     node: Wwn,
     at: Option<(Fabric, Place)>,
+    address: Option<Address>,
 ) -> Result<(), WriteFailed>
-    ensures { Takes S.took S.cut sink.old (json_text (port_body name node at)) sink.new result }
+    ensures { Takes S.took S.cut sink.old (json_text (port_body name node at address)) sink.new result }
 {
-    object! { "at": At(at), "node_name": node, "port_name": name }.put(sink)
+    object! { "at": At(at, address), "node_name": node, "port_name": name }.put(sink)
 }
 
 /// Puts the body of a host or an array.

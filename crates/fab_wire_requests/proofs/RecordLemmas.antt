@@ -1,15 +1,16 @@
 -- A text has one list of records, and a port list one reading.
-use Rattle.std.proofs.Common.{◌≡◌, ◌⊎◌, ℕ, suc, ◌<◌, List, [], ◌∷◌, ◌++◌, length, Option, Some, None, refl, sym, ap, ◌∙◌, subst, arith, inl, inr}
+use Rattle.std.proofs.Common.{◌≡◌, ◌⊎◌, ℕ, suc, ◌<◌, List, [], ◌∷◌, ◌++◌, length, Option, Some, None, refl, sym, ap, ◌∙◌, subst, arith, inl, inr, Bool, true, false}
 use Rattle.csv.specs.Machine.{Read, next_record}
 use Rattle.csv.specs.Reading.{default_config, strip_bom, AreRecords, Reached}
 use Rattle.csv.specs.declared.parser.Config.{Config}
 use Rattle.csv.specs.declared.parser.State.{State}
 use Rattle.csv.specs.declared.parser.State.TheVariants as state
 use Rattle.fab_names.specs.WorldWideNames.{SpellsWwn}
-use Rattle.fab_names.specs.Places.{Position, SpellsPosition}
-use Rattle.fab_names.proofs.Unique.{one_wwn, one_place}
+use Rattle.fab_names.specs.Places.{SpellsPosition}
+use Rattle.fab_names.specs.Addresses.{SpellsAddress}
+use Rattle.fab_names.proofs.Unique.{one_wwn, one_place, one_address}
 use Rattle.fab_inventory.specs.declared.port.PortRow.{PortRow}
-use Rattle.fab_wire_requests.specs.PortLists.{Record, header, SpellsRow, SpellRows, AreAllRecords, ListsPorts}
+use Rattle.fab_wire_requests.specs.PortLists.{Record, header_of, IsAddressPart, SpellsAddressOrNone, SpellsRow, SpellRows, AreAllRecords, ListsPorts}
 
 -- one read gives one record, state and rest
 one_read : (o : Option Read) (p q : Read) → o ≡ Some p → o ≡ Some q → p ≡ q
@@ -60,41 +61,78 @@ one-list text a b h k =
         let f2 : b ≡ a ++ n = cc in
         cc (xy, both_fronts a b m n e2 f2)
 
-one_row : (fields : Record) (r s : PortRow) → SpellsRow fields r → SpellsRow fields s → r ≡ s
-one_row fields r s h k =
-    let e : h.name ∷ h.node ∷ h.domain ∷ h.slot ∷ [] ≡ k.name ∷ k.node ∷ k.domain ∷ k.slot ∷ [] = sym h.four ∙ k.four in
+-- no address is spelled by nothing
+empty-none : (n : ℕ) → ¬ (SpellsAddress [] n)
+empty-none n s = by s.0.form
+  where
+    by : ([] ≡ s.0.digits) ⊎ ([] ≡ 48 ∷ 120 ∷ s.0.digits) → ⊥
+    by (inl e) = omega (arith, s.0.six, ap length e)
+    by (inr e) = omega (arith, ap length e)
+
+one_address_or_none : (field : List ℕ) (a b : Option ℕ) → SpellsAddressOrNone field a → SpellsAddressOrNone field b → a ≡ b
+one_address_or_none field None None h k = refl
+one_address_or_none field None (Some m) h k = absurd (empty-none m (subst (λ (t : List ℕ). SpellsAddress t m) h k))
+one_address_or_none field (Some n) None h k = absurd (empty-none n (subst (λ (t : List ℕ). SpellsAddress t n) k h))
+one_address_or_none field (Some n) (Some m) h k = ap Some (one_address field n m h k)
+
+one_part : (addressed : Bool) (others : Record) (a b : Option ℕ) → IsAddressPart addressed others a → IsAddressPart addressed others b → a ≡ b
+one_part false others a b h k = h.1 ∙ sym k.1
+one_part true others a b h k =
+    let e : h.0 ∷ [] ≡ k.0 ∷ [] = sym h.1 ∙ k.1 in
+    let same : h.0 ≡ k.0 = cc e in
+    one_address_or_none k.0 a b (subst (λ (t : List ℕ). SpellsAddressOrNone t a) same h.2) k.2
+
+one_row : (addressed : Bool) (fields : Record) (r s : PortRow) → SpellsRow addressed fields r → SpellsRow addressed fields s → r ≡ s
+one_row addressed fields r s h k =
+    let e : h.name ∷ h.node ∷ h.domain ∷ h.slot ∷ h.others ≡ k.name ∷ k.node ∷ k.domain ∷ k.slot ∷ k.others = sym h.all ∙ k.all in
     let e1 : h.name ≡ k.name = cc e in
     let e2 : h.node ≡ k.node = cc e in
     let e3 : h.domain ≡ k.domain = cc e in
     let e4 : h.slot ≡ k.slot = cc e in
+    let e5 : h.others ≡ k.others = cc e in
     let name : r.name ≡ s.name = one_wwn k.name r.name s.name (subst (λ (t : List ℕ). SpellsWwn t r.name) e1 h.port_name) k.port_name in
     let node : r.node ≡ s.node = one_wwn k.node r.node s.node (subst (λ (t : List ℕ). SpellsWwn t r.node) e2 h.node_name) k.node_name in
     let place : r.place ≡ s.place =
     let position : SpellsPosition k.domain k.slot r.place = subst (λ (t : List ℕ). SpellsPosition t k.slot r.place) e3 (subst (λ (t : List ℕ). SpellsPosition h.domain t r.place) e4 h.position) in
     one_place (k.domain ++ 44 ∷ k.slot) r.place s.place (k.domain, k.slot, refl, position) (k.domain, k.slot, refl, k.position) in
-    let at : ℕ → ℕ → Position → PortRow = λ x y z. record { name = x; node = y; place = z } in
-    ap (λ x. at x r.node r.place) name ∙ ap (λ y. at s.name y r.place) node ∙ ap (λ z. at s.name s.node z) place
+    let address : r.address ≡ s.address = one_part addressed k.others r.address s.address (subst (λ (t : Record). IsAddressPart addressed t r.address) e5 h.address) k.address in
+    λ i. record { name = name i; node = node i; place = place i; address = address i }
 
-one_rows : (records : List Record) (rows others : List PortRow) → SpellRows records rows → SpellRows records others → rows ≡ others
-one_rows [] [] [] h k = refl
-one_rows [] [] (y ∷ others) h k = absurd k
-one_rows [] (x ∷ rows) others h k = absurd h
-one_rows (r ∷ records) [] others h k = absurd h
-one_rows (r ∷ records) (x ∷ rows) [] h k = absurd k
-one_rows (r ∷ records) (x ∷ rows) (y ∷ others) h k = cc (one_row r x y h.0 k.0, one_rows records rows others h.1 k.1)
+one_rows : (addressed : Bool) (records : List Record) (rows others : List PortRow) → SpellRows addressed records rows → SpellRows addressed records others → rows ≡ others
+one_rows addressed [] [] [] h k = refl
+one_rows addressed [] [] (y ∷ others) h k = absurd k
+one_rows addressed [] (x ∷ rows) others h k = absurd h
+one_rows addressed (r ∷ records) [] others h k = absurd h
+one_rows addressed (r ∷ records) (x ∷ rows) [] h k = absurd k
+one_rows addressed (r ∷ records) (x ∷ rows) (y ∷ others) h k = cc (one_row addressed r x y h.0 k.0, one_rows addressed records rows others h.1 k.1)
 
-pub rows-long : (records : List Record) (rows : List PortRow) → SpellRows records rows → length records ≡ length rows
-rows-long [] [] h = refl
-rows-long [] (x ∷ rows) h = absurd h
-rows-long (r ∷ records) [] h = absurd h
-rows-long (r ∷ records) (x ∷ rows) h = ap suc (rows-long records rows h.1)
+pub rows-long : (addressed : Bool) (records : List Record) (rows : List PortRow) → SpellRows addressed records rows → length records ≡ length rows
+rows-long addressed [] [] h = refl
+rows-long addressed [] (x ∷ rows) h = absurd h
+rows-long addressed (r ∷ records) [] h = absurd h
+rows-long addressed (r ∷ records) (x ∷ rows) h = ap suc (rows-long addressed records rows h.1)
 
 -- each record of rows spells one
-pub row-inside : (records : List Record) (bad : Record) (more : List Record) (rows : List PortRow) → SpellRows (records ++ bad ∷ more) rows → (row : PortRow) × SpellsRow bad row
-row-inside [] bad more [] h = absurd h
-row-inside [] bad more (x ∷ rows) h = (x, h.0)
-row-inside (r ∷ records) bad more [] h = absurd h
-row-inside (r ∷ records) bad more (x ∷ rows) h = row-inside records bad more rows h.1
+pub row-inside : (addressed : Bool) (records : List Record) (bad : Record) (more : List Record) (rows : List PortRow)
+    → SpellRows addressed (records ++ bad ∷ more) rows → (row : PortRow) × SpellsRow addressed bad row
+row-inside addressed [] bad more [] h = absurd h
+row-inside addressed [] bad more (x ∷ rows) h = (x, h.0)
+row-inside addressed (r ∷ records) bad more [] h = absurd h
+row-inside addressed (r ∷ records) bad more (x ∷ rows) h = row-inside addressed records bad more rows h.1
+
+-- the headers with a column of addresses and without it differ
+one_header : (a b : Bool) → header_of a ≡ header_of b → a ≡ b
+one_header false false e = refl
+one_header false true e = absurd (omega (arith, ap length e))
+one_header true false e = absurd (omega (arith, ap length e))
+one_header true true e = refl
+
+-- records behind one header, that also stand behind another, spell the same rows under it
+pub rows-under : (a b : Bool) (records others : List Record) (rows : List PortRow) → header_of a ∷ records ≡ header_of b ∷ others → SpellRows a records rows → SpellRows b others rows
+rows-under a b records others rows e spelled =
+    let first : header_of a ≡ header_of b = cc e in
+    let rest : records ≡ others = cc e in
+    subst (λ (t : List Record). SpellRows b t rows) rest (subst (λ (x : Bool). SpellRows x records rows) (one_header a b first) spelled)
 
 -- of two lists that end in a record, one begins the other: they are as long, or the shorter one's last stands inside the longer one
 pub last-inside : (a b more : List Record) (x y : Record) → b ++ y ∷ [] ≡ a ++ x ∷ more → (length a ≡ length b) ⊎ ((z : List Record) × (b ≡ a ++ x ∷ z))
@@ -117,7 +155,6 @@ last-inside (u ∷ a) (v ∷ b) more x y e =
 
 -- a port list lists one list of rows
 pub one_listing : (text : List ℕ) (rows others : List PortRow) → ListsPorts text rows → ListsPorts text others → rows ≡ others
-one_listing text rows others h k =
-    let same : header ∷ h.0 ≡ header ∷ k.0 = one-list text (header ∷ h.0) (header ∷ k.0) h.1 k.1 in
-    let records : h.0 ≡ k.0 = cc same in
-    one_rows k.0 rows others (subst (λ (t : List Record). SpellRows t rows) records h.2) k.2
+one_listing text rows others (a, records, all, spelled) (b, more, whole, told) =
+    let same : header_of a ∷ records ≡ header_of b ∷ more = one-list text (header_of a ∷ records) (header_of b ∷ more) all whole in
+    one_rows b more rows others (rows-under a b records more rows same spelled) told

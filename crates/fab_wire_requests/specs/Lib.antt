@@ -1,7 +1,7 @@
 pub mod Values
 pub mod Bodies
 pub mod PortLists
-pub mod FourFields
+pub mod RecordFields
 pub mod RecordReaders
 pub mod Subjects
 pub mod Commands

@@ -2,6 +2,7 @@
 use Rattle.std.specs.Prelude.{ℕ, List, [], ◌∷◌, Option, Some, None, map}
 use Rattle.serde_json.specs.Data.{Data, null, number, unsigned, string, array, object, Members, no_members, member}
 use Rattle.serde_json.specs.View.{items_of}
+use Rattle.fab_names.specs.Addresses.{address_text}
 use Rattle.fab_names.specs.WorldWideNames.{wwn_text}
 
 -- a whole number
@@ -16,6 +17,10 @@ or_null f (Some x) = f x
 -- a list of values
 abbrev pub list_data : {X : Type 0} → (X → Data) → List X → Data
 list_data f xs = array (items_of (map f xs))
+
+-- an address: six lower-case digits
+unfoldable pub address_data : ℕ → Data
+address_data n = string (address_text n)
 
 -- a world-wide name
 unfoldable pub wwn_data : ℕ → Data

@@ -7,14 +7,14 @@ ghost use Rattle.fab_names.specs.Places.{place_text};
 ghost use Rattle.fab_names.specs.Members.{member_text};
 ghost use Rattle.fab_wire_streams.specs.Taking.{Takes};
 ghost use Rattle.fab_wire_streams.specs.JsonText.{quoted_json};
-ghost use Rattle.fab_wire_streams.specs.Values.{wwn_data};
+ghost use Rattle.fab_wire_streams.specs.Values.{address_data, wwn_data};
 ghost use Rattle.fab_wire_streams.specs.Bounds.{string_most};
 
 use crate::escapes::{put_joined, put_string};
 use crate::sink::Sink;
 use crate::streams::WriteFailed;
 use crate::values::Json;
-use fab_names::{Fabric, Member, Name, Place, Wwn};
+use fab_names::{Address, Fabric, Member, Name, Place, Wwn};
 use itoa::Buffer;
 
 /// A name, which needs no escape.
@@ -34,6 +34,18 @@ impl Json for Wwn {
     ghost value = { wwn_data };
 
     ghost most = { λ w. string_most 23 };
+
+    #[tactic(auto, unfolding(crate::specs::JsonText::json_text, crate::specs::JsonText::quoted_json))]
+    fn put<S: Sink>(&self, sink: &mut S) -> Result<(), WriteFailed> {
+        put_string(sink, &self.letters())
+    }
+}
+
+/// An address: six lower-case digits.
+impl Json for Address {
+    ghost value = { address_data };
+
+    ghost most = { λ a. string_most 6 };
 
     #[tactic(auto, unfolding(crate::specs::JsonText::json_text, crate::specs::JsonText::quoted_json))]
     fn put<S: Sink>(&self, sink: &mut S) -> Result<(), WriteFailed> {
@@ -65,6 +77,7 @@ impl Json for Member {
             Member::Port(name) => put_joined(sink, &[b"wwpn=".as_slice(), &name.letters()]),
             Member::Node(name) => put_joined(sink, &[b"wwnn=".as_slice(), &name.letters()]),
             Member::Place(place) => put_place(sink, *place),
+            Member::Address(address) => put_joined(sink, &[b"id=".as_slice(), &address.letters()]),
             Member::Alias(name) => put_joined(sink, &[b"alias=".as_slice(), name.as_bytes()]),
         }
     }

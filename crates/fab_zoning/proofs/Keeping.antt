@@ -228,6 +228,7 @@ module _ (v : FabricZoning) (sound : IsSound v) where
       by z in_set (member.Port p) in_zone = ((z, member.Port p), record { zone = in_set; plain = λ a e. absurd cc; member = inl in_zone })
       by z in_set (member.Node p) in_zone = ((z, member.Node p), record { zone = in_set; plain = λ a e. absurd cc; member = inl in_zone })
       by z in_set (member.Place p) in_zone = ((z, member.Place p), record { zone = in_set; plain = λ a e. absurd cc; member = inl in_zone })
+      by z in_set (member.Address n) in_zone = ((z, member.Address n), record { zone = in_set; plain = λ a e. absurd cc; member = inl in_zone })
       by z in_set (member.Alias a) in_zone =
           let n = set_at member_total member_exact v.aliases a (d.known_aliases z a in_zone) d.listed_aliases in
           ((z, n.0), record { zone = in_set; plain = d.plain_aliases a n.0 n.1; member = inr (a, in_zone, n.1) })

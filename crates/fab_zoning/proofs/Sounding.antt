@@ -49,18 +49,21 @@ plain_from_test : (m : Member) → is_plain m ≡ true → IsPlain m
 plain_from_test (member.Port n) e a = λ h. absurd cc
 plain_from_test (member.Node n) e a = λ h. absurd cc
 plain_from_test (member.Place p) e a = λ h. absurd cc
+plain_from_test (member.Address n) e a = λ h. absurd cc
 plain_from_test (member.Alias b) e a = λ h. true≢false (sym e)
 
 test_from_plain : (m : Member) → IsPlain m → is_plain m ≡ true
 test_from_plain (member.Port n) h = refl
 test_from_plain (member.Node n) h = refl
 test_from_plain (member.Place p) h = refl
+test_from_plain (member.Address n) h = refl
 test_from_plain (member.Alias b) h = absurd (h b refl)
 
 names_test : (f : List ℕ → Bool) (m : Member) → ((a : List ℕ) → m ≡ member.Alias a → f a ≡ true) → names_alias f m ≡ true
 names_test f (member.Port n) h = refl
 names_test f (member.Node n) h = refl
 names_test f (member.Place p) h = refl
+names_test f (member.Address n) h = refl
 names_test f (member.Alias a) h = h a refl
 
 module _ (a z : BTreeMap (List ℕ) (BTreeSet Member)) (s : BTreeMap (List ℕ) (BTreeSet (List ℕ))) (sorted_a : tree.IsOrdered name_cmp a) (sorted_z : tree.IsOrdered name_cmp z) (sorted_s : tree.IsOrdered name_cmp s) where

@@ -1,4 +1,4 @@
--- Which zones have a port, by the three members that stand for it.
+-- Which zones have a port, by the four members that stand for it.
 use Rattle.std.proofs.Common.{◌≡◌, ℕ, List, Option, Some, None, Bool, true, false, ◌||◌, inl, inr, refl, sym, ap, ◌∙◌}
 use mathlib.Core.Bool.{true≢false}
 use Rattle.std.specs.Option.{option_map}
@@ -9,49 +9,42 @@ use Rattle.fab_names.specs.declared.member.Member.{Member}
 use Rattle.fab_names.specs.declared.member.Member.TheVariants as member
 use Rattle.fab_inventory.specs.declared.port.Port.{Port}
 use Rattle.fab_zoning_rows.specs.Rows.{Rows}
-use Rattle.fab_zoning_rows.specs.Holding.{Matches, Holds}
+use Rattle.fab_zoning_rows.specs.Holding.{Matches, Holds, place_member, address_member, has_row}
 use Rattle.fab_lemmas.proofs.Tests.{or_true, or_right, or_left}
 
--- a port has three members: its two names, and its place where it is logged in
-module _ (rows : Rows) (p : Port) (z : List ℕ) (a b c : Bool) (by_port : set.contains rows (z, member.Port p.name) ≡ a) (by_node : set.contains rows (z, member.Node p.node) ≡ b) where
-  abbrev ByPlace : Option (Fabric × Position) → Type 0
-  ByPlace None = c ≡ false
-  ByPlace (Some at) = set.contains rows (z, member.Place at.1) ≡ c
+module _ (rows : Rows) (p : Port) (z : List ℕ) where
+  by_place : (o : Option (Fabric × Position)) → p.at ≡ o → has_row rows z (option_map (λ at. member.Place at.1) o) ≡ true → Holds rows p z
+  by_place None at is = absurd (true≢false (sym is))
+  by_place (Some w) at is = (member.Place w.1, is, (w.0, at))
 
-  held_there : (o : Option (Fabric × Position)) → p.at ≡ o → ByPlace o → c ≡ true → Holds rows p z
-  held_there None at none is = absurd (true≢false (sym is ∙ none))
-  held_there (Some w) at there is = (member.Place w.1, there ∙ is, (w.0, at))
+  by_address : (o : Option ℕ) → p.address ≡ o → has_row rows z (option_map member.Address o) ≡ true → Holds rows p z
+  by_address None at is = absurd (true≢false (sym is))
+  by_address (Some n) at is = (member.Address n, is, at)
 
-  held : (o : Option (Fabric × Position)) → p.at ≡ o → ByPlace o → (a || (b || c)) ≡ true → Holds rows p z
-  held o at there e = elim (or_true a (b || c) e) [
-    | inl is ↦ (member.Port p.name, by_port ∙ is, refl)
-    | inr more ↦ elim (or_true b c more) [ inl is ↦ (member.Node p.node, by_node ∙ is, refl) | inr is ↦ held_there o at there is ]
-  ]
+  module _ (a b c d : Bool) (port_is : set.contains rows (z, member.Port p.name) ≡ a) (node_is : set.contains rows (z, member.Node p.node) ≡ b) (place_is : has_row rows z (place_member p) ≡ c) (address_is : has_row rows z (address_member p) ≡ d) where
+    abbrev found : Bool
+    found = a || (b || (c || d))
 
-  tested_there : (o : Option (Fabric × Position)) → p.at ≡ o → ByPlace o → (f : Fabric) (s : Position) → p.at ≡ Some (f, s) → set.contains rows (z, member.Place s) ≡ true → c ≡ true
-  tested_there None at none f s is there = let apart : ◌≡◌ {A = Option (Fabric × Position)} None (Some (f, s)) = sym at ∙ is in absurd cc
-  tested_there (Some w) at same f s is there = let one : ◌≡◌ {A = Option (Fabric × Position)} (Some w) (Some (f, s)) = sym at ∙ is in let e : w.1 ≡ s = cc in sym same ∙ ap (λ x. set.contains rows (z, member.Place x)) e ∙ there
+    held : found ≡ true → Holds rows p z
+    held e = elim (or_true a (b || (c || d)) e) [
+      | inl is ↦ (member.Port p.name, port_is ∙ is, refl)
+      | inr more ↦ elim (or_true b (c || d) more) [
+        | inl is ↦ (member.Node p.node, node_is ∙ is, refl)
+        | inr last ↦ elim (or_true c d last) [ inl is ↦ by_place p.at refl (place_is ∙ is) | inr is ↦ by_address p.address refl (address_is ∙ is) ]
+      ]
+    ]
 
-  by_member : (o : Option (Fabric × Position)) → p.at ≡ o → ByPlace o → (m : Member) → set.contains rows (z, m) ≡ true → Matches m p → (a || (b || c)) ≡ true
-  by_member o at same (member.Port n) there is = or_left a (b || c) (sym by_port ∙ ap (λ x. set.contains rows (z, member.Port x)) is ∙ there)
-  by_member o at same (member.Node n) there is = or_right a (b || c) (or_left b c (sym by_node ∙ ap (λ x. set.contains rows (z, member.Node x)) is ∙ there))
-  by_member o at same (member.Place s) there is = or_right a (b || c) (or_right b c (tested_there o at same is.0 s is.1 there))
-  by_member o at same (member.Alias n) there is = absurd is
+    by_member : (m : Member) → set.contains rows (z, m) ≡ true → Matches m p → found ≡ true
+    by_member (member.Port n) there is = or_left a (b || (c || d)) (sym port_is ∙ ap (λ x. set.contains rows (z, member.Port x)) is ∙ there)
+    by_member (member.Node n) there is = or_right a (b || (c || d)) (or_left b (c || d) (sym node_is ∙ ap (λ x. set.contains rows (z, member.Node x)) is ∙ there))
+    by_member (member.Place s) there is =
+        let placed : c ≡ true = sym place_is ∙ ap (λ (o : Option (Fabric × Position)). has_row rows z (option_map (λ at. member.Place at.1) o)) is.1 ∙ there in
+        or_right a (b || (c || d)) (or_right b (c || d) (or_left c d placed))
+    by_member (member.Address n) there is =
+        let addressed : d ≡ true = sym address_is ∙ ap (λ (o : Option ℕ). has_row rows z (option_map member.Address o)) is ∙ there in
+        or_right a (b || (c || d)) (or_right b (c || d) (or_right c d addressed))
+    by_member (member.Alias n) there is = absurd is
 
-  -- the three tests find exactly the zones that have the port
-  exactly : (o : Option (Fabric × Position)) → p.at ≡ o → ByPlace o → ((a || (b || c)) ≡ true → Holds rows p z) × (Holds rows p z → (a || (b || c)) ≡ true)
-  exactly o at same = (held o at same, λ h. by_member o at same h.0 h.1 h.2)
-
-  -- the third member is given, if there is one
-  abbrev pub ByThird : Option Member → Type 0
-  ByThird None = c ≡ false
-  ByThird (Some m) = set.contains rows (z, m) ≡ c
-
-  third_is_place : (o : Option (Fabric × Position)) (third : Option Member) → third ≡ option_map (λ at. member.Place at.1) o → ByThird third → ByPlace o
-  third_is_place None None e h = h
-  third_is_place None (Some m) e h = absurd cc
-  third_is_place (Some at) None e h = absurd cc
-  third_is_place (Some at) (Some m) e h = let same : member.Place at.1 ≡ m = cc in ap (λ x. set.contains rows (z, x)) same ∙ h
-
-  pub held_exactly : (third : Option Member) → third ≡ option_map (λ at. member.Place at.1) p.at → ByThird third → ((a || (b || c)) ≡ true → Holds rows p z) × (Holds rows p z → (a || (b || c)) ≡ true)
-  held_exactly third is h = exactly p.at refl (third_is_place p.at third is h)
+    -- the four tests find exactly the zones that have the port
+    pub held_exactly : (found ≡ true → Holds rows p z) × (Holds rows p z → found ≡ true)
+    held_exactly = (held, λ h. by_member h.0 h.1 h.2)

@@ -6,9 +6,9 @@ use Rattle.fab_names.specs.Orders.{name_cmp}
 use Rattle.fab_lemmas.specs.MapsOfSets.{in_tree}
 use Rattle.fab_zoning_rows.specs.declared.port_zones.PortZones.{PortZones}
 
--- whether the zone is one of the port's: it is in one of the three sets
+-- whether the zone is one of the port's: it is in one of the four sets
 abbrev pub in_zones : {A : Type 0} → PortZones A → List ℕ → Bool
-in_zones p z = in_tree name_cmp (option_copied p.by_port) z || (in_tree name_cmp (option_copied p.by_node) z || in_tree name_cmp (option_copied p.by_place) z)
+in_zones p z = in_tree name_cmp (option_copied p.by_port) z || (in_tree name_cmp (option_copied p.by_node) z || (in_tree name_cmp (option_copied p.by_place) z || in_tree name_cmp (option_copied p.by_address) z))
 
 -- no zone passes both tests
 abbrev pub HasNoCommon : (List ℕ → Bool) → (List ℕ → Bool) → Type 0

@@ -7,4 +7,4 @@ mod port_zones;
 mod rows;
 
 pub use port_zones::PortZones;
-pub use rows::{ActiveRows, MOST_ROWS};
+pub use rows::{ActiveRows, MOST_ROWS, address_member, place_member};

@@ -21,6 +21,8 @@ pub struct PortZones<'a, A: Allocator> {
     pub by_node: Option<&'a BTreeSet<Name, A>>,
     /// The zones with the place where it is logged in.
     pub by_place: Option<&'a BTreeSet<Name, A>>,
+    /// The zones with the address that it has there.
+    pub by_address: Option<&'a BTreeSet<Name, A>>,
 }
 
 /// Whether the zone is in the set, if there is one.
@@ -90,14 +92,20 @@ impl<'a, A: Allocator> PortZones<'a, A> {
     pub fn contains(&self, zone: &Name) -> bool
         ensures { result ≡ in_zones self.now zone.now }
     {
-        is_in(self.by_port, zone) || is_in(self.by_node, zone) || is_in(self.by_place, zone)
+        is_in(self.by_port, zone)
+            || is_in(self.by_node, zone)
+            || is_in(self.by_place, zone)
+            || is_in(self.by_address, zone)
     }
 
     /// Whether there is none.
     pub fn is_empty(&self) -> bool
         ensures { IsTrue result ↔ ((z : List ℕ) → in_zones self.now z ≡ false) }
     {
-        is_bare(self.by_port) && is_bare(self.by_node) && is_bare(self.by_place)
+        is_bare(self.by_port)
+            && is_bare(self.by_node)
+            && is_bare(self.by_place)
+            && is_bare(self.by_address)
     }
 
     /// The first zone by name that the other port is in too.
@@ -107,6 +115,7 @@ impl<'a, A: Allocator> PortZones<'a, A> {
         let by_port = first_in(self.by_port, other);
         let by_node = first_in(self.by_node, other);
         let by_place = first_in(self.by_place, other);
-        lesser(by_port, lesser(by_node, by_place))
+        let by_address = first_in(self.by_address, other);
+        lesser(by_port, lesser(by_node, lesser(by_place, by_address)))
     }
 }

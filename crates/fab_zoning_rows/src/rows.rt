@@ -4,8 +4,7 @@ ghost use Rattle.std.specs.FinSet as set;
 ghost use Rattle.std.specs.Map.{keys_of};
 ghost use Rattle.std.specs.List.Sorted.{IsStrictlySortedBy};
 ghost use Rattle.std.specs.BTreeMap.{IsOrdered, IsUnchanged};
-ghost use Rattle.std.specs.Option.{option_copied, option_map};
-ghost use Rattle.fab_names.specs.declared.member.Member.TheVariants.{Place};
+ghost use Rattle.std.specs.Option.{option_copied};
 ghost use Rattle.fab_names.specs.Orders.{name_cmp, member_cmp};
 ghost use Rattle.fab_zoning_rows.specs.Limits.{most_rows};
 ghost use Rattle.fab_lemmas.specs.Lists.{IsListOf};
@@ -13,7 +12,7 @@ ghost use Rattle.fab_lemmas.specs.MapsOfSets.{in_tree};
 ghost use Rattle.fab_zoning_rows.specs.Rows.{Row, row_cmp, IsRowOf, IsPlain};
 ghost use Rattle.fab_zoning_rows.specs.Views.{seen_rows};
 ghost use Rattle.fab_zoning_rows.specs.PortZones.{in_zones};
-ghost use Rattle.fab_zoning_rows.specs.Holding.{Holds};
+ghost use Rattle.fab_zoning_rows.specs.Holding.{Holds, address_member, has_row, place_member};
 
 use crate::by_zone::rows_by_zone;
 use crate::port_zones::PortZones;
@@ -29,8 +28,8 @@ pub const MOST_ROWS: usize = 65536;
 
 /// The rows (zone, member) of an active set. A contract sees their set.
 ///
-/// They are kept as the zones of each member, so that the zones of a port are found by its names
-/// and its place, however many rows there are.
+/// They are kept as the zones of each member, so that the zones of a port are found by its names,
+/// its place and its address, however many rows there are.
 #[derive(Drop)]
 pub struct ActiveRows<A: Allocator + Copy> {
     alloc: A,
@@ -109,11 +108,21 @@ fn one_more(count: usize, is_new: bool) -> usize
 }
 
 /// The member that stands for the port by its place, where the port is logged in.
-fn place_of(port: &Port) -> Option<Member>
-    ensures { result ≡ option_map (λ at. Place at.1) port.now.at }
+pub fn place_member(port: &Port) -> Option<Member>
+    ensures { result ≡ place_member port.now }
 {
     match port.at {
         Some((_, place)) => Some(Member::Place(place)),
+        None => None,
+    }
+}
+
+/// The member that stands for the port by its address, where it has one.
+pub fn address_member(port: &Port) -> Option<Member>
+    ensures { result ≡ address_member port.now }
+{
+    match port.address {
+        Some(address) => Some(Member::Address(address)),
         None => None,
     }
 }
@@ -271,17 +280,25 @@ impl<A: Allocator + Copy> ActiveRows<A> {
         self.zones_by_member.get(member)
     }
 
+    /// The zones that have the member, if there is a member and one has it.
+    fn zones_at(&self, member: Option<Member>) -> Option<&BTreeSet<Name, A>>
+        ensures { (z : List ℕ) → in_tree name_cmp (option_copied result) z ≡ has_row self.now z member }
+    {
+        let Some(member) = member else {
+            return None;
+        };
+        self.zones_with(&member)
+    }
+
     /// The zones that have the port.
     pub fn zones_of<'a>(&'a self, port: &Port) -> PortZones<'a, A>
         ensures { (z : List ℕ) → (in_zones result z ≡ true) ↔ Holds self.now port.now z }
     {
         PortZones {
-            by_port: self.zones_by_member.get(&Member::Port(port.name)),
-            by_node: self.zones_by_member.get(&Member::Node(port.node)),
-            by_place: match place_of(port) {
-                Some(member) => self.zones_by_member.get(&member),
-                None => None,
-            },
+            by_port: self.zones_with(&Member::Port(port.name)),
+            by_node: self.zones_with(&Member::Node(port.node)),
+            by_place: self.zones_at(place_member(port)),
+            by_address: self.zones_at(address_member(port)),
         }
     }
 

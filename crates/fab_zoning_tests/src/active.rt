@@ -45,11 +45,11 @@ fn wwn(rt: &impl Abort, text: &str) -> Wwn {
 }
 
 fn record(rt: &impl Abort, texts: Record) -> PortRow {
-    PortRow {
-        name: wwn(rt, texts.0),
-        node: wwn(rt, texts.1),
-        place: Place::read(texts.2).expect(rt, "a place"),
-    }
+    PortRow::plain(
+        wwn(rt, texts.0),
+        wwn(rt, texts.1),
+        Place::read(texts.2).expect(rt, "a place"),
+    )
 }
 
 /// Imports a port list.

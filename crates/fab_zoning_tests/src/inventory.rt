@@ -1,8 +1,8 @@
 //! Imports, puts, drops and look-ups of an inventory by example.
 use crate::rows::{named, numbered};
 use fab_inventory::{
-    Holder, HolderKind, Inventory, InventoryFault, InventoryLimit, Known, MOST_BYTES, PortRow,
-    RestoreFault, Volume,
+    Holder, HolderKind, Inventory, InventoryFault, InventoryLimit, MOST_BYTES, PortRow,
+    RestoreFault, Seat, Volume,
 };
 use fab_names::{Fabric, Name, Place, Wwn};
 use std::alloc::Global;
@@ -185,11 +185,7 @@ fn ports_of(rt: &(impl Abort + AllocGlobal), numbers: &[u64]) -> Vec<Wwn> {
 fn rows_of(rt: &(impl Abort + AllocGlobal), listed: &[(u64, u8)]) -> Vec<PortRow> {
     let mut rows = Vec::new(rt.alloc());
     for (number, domain) in listed {
-        let row = PortRow {
-            name: port(*number),
-            node: port(99),
-            place: place(*domain),
-        };
+        let row = PortRow::plain(port(*number), port(99), place(*domain));
         rows.push(row).expect(rt, "memory");
     }
     rows
@@ -432,17 +428,17 @@ const WORLDS: &[(World, Option<RestoreFault>)] = &[
     (World { bytes: 0, ..SMALL }, Some(RestoreFault::Volumes)),
 ];
 
-fn known_ports(rt: &(impl Abort + AllocGlobal), world: World) -> BTreeMap<Wwn, Known> {
+fn known_ports(rt: &(impl Abort + AllocGlobal), world: World) -> BTreeMap<Wwn, Seat> {
     let holder = named(rt, world.holder);
     let mut ports = BTreeMap::new(rt.alloc());
     for i in 0..world.ports {
         let holder = if i < world.held { Some(holder) } else { None };
-        let known = Known {
+        let seat = Seat {
             node: port(99),
             at: None,
             holder,
         };
-        let added: Result<_, _> = ports.insert(port(i.saturating_add(1)), known);
+        let added: Result<_, _> = ports.insert(port(i.saturating_add(1)), seat);
         added.expect(rt, "memory");
     }
     ports
@@ -485,7 +481,13 @@ fn restored(
     let ports = known_ports(rt, world);
     let holders = named_holders(rt, world);
     let volumes = named_volumes(rt, world);
-    Inventory::from_maps(rt.alloc(), ports, holders, volumes)
+    Inventory::from_maps(
+        rt.alloc(),
+        ports,
+        BTreeMap::new(rt.alloc()),
+        holders,
+        volumes,
+    )
 }
 
 /// Whether the inventory has as many ports, holders and volumes as the world.

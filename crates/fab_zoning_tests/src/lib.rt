@@ -4,6 +4,8 @@
 #[cfg(test)]
 mod active;
 #[cfg(test)]
+mod addresses;
+#[cfg(test)]
 mod copies;
 #[cfg(test)]
 mod inventory;

@@ -246,6 +246,7 @@ fn port_of(rt: &impl Abort, port: usize) -> Port {
         name: wwn(rt, name),
         node: wwn(rt, node),
         at,
+        address: None,
         holder: None,
     }
 }

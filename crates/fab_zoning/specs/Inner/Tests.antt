@@ -21,6 +21,7 @@ abbrev pub is_plain : Member → Bool
 is_plain (member.Port n) = true
 is_plain (member.Node n) = true
 is_plain (member.Place p) = true
+is_plain (member.Address n) = true
 is_plain (member.Alias a) = false
 
 -- whether the alias that it names, if it names one, passes
@@ -28,6 +29,7 @@ abbrev pub names_alias : (List ℕ → Bool) → Member → Bool
 names_alias test (member.Port n) = true
 names_alias test (member.Node n) = true
 names_alias test (member.Place p) = true
+names_alias test (member.Address n) = true
 names_alias test (member.Alias a) = test a
 
 -- whether the name is there

@@ -9,5 +9,5 @@ use Rattle.fab_reach_index.proofs.ZonesPlaced.{zones_as}
 use Rattle.fab_reach_patches.proofs.zone_maps.add_zones_with.Goals as goal
 
 pub returns : goal.returns
-returns g c v t = zones_as c.args.port c.args.fabric (HasName c.in_ok-these.these) (λ z. set.contains (zoning_at v.config c.args.fabric).rows (z, c.args.member.now) ≡ true) (IsIn nat_cmp zone_cmp c.args.zones.now) (IsIn nat_cmp zone_cmp c.add_zones.new.zones)
+returns g c v t = zones_as c.args.at.now.0 c.args.at.now.1 (HasName c.in_ok-these.these) (λ z. set.contains (zoning_at v.config c.args.at.now.1).rows (z, c.args.member.now) ≡ true) (IsIn nat_cmp zone_cmp c.args.zones.now) (IsIn nat_cmp zone_cmp c.add_zones.new.zones)
     (λ z. (c.in_ok-these.ensures v t z).0) (λ z. (c.in_ok-these.ensures v t z).1) c.in_ok-add_zones.ensures

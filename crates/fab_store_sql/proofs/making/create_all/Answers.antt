@@ -4,6 +4,7 @@ use Rattle.sqlite.specs.Held.{state}
 use Rattle.sqlite.proofs.InsideLemmas.{keeps_then}
 use Rattle.sqlite.proofs.StateLemmas.{survives_then}
 use Rattle.fab_store_sql.specs.NewDesk.{HasMade}
+use Rattle.fab_store_sql.proofs.Creates.{made_more, made_first}
 use Rattle.fab_store_sql.proofs.Makings.{place_at}
 use Rattle.fab_store_sql.proofs.making.create_all.Goals as goal
 
@@ -15,6 +16,7 @@ loop-table-preserved g c =
     let was = c.loop-table.invariant in
     let one = c.in_ok-create.ensures in
     let at = place_at c.loop-table.table-index _ (omega (arith, c.loop-table-test.true)) in
+    let made = λ (early : HasCleanDisk mid) (has : HasMade 0 old). subst (λ n. HasMade n mid) (sym at) (was.made early has) in
     record {
       same_reference = one.same_reference ∙ was.same_reference;
       survives = survives_then old mid new _ _ (λ _. ⊥) (λ _ db none. none) (λ _ db none. none) was.survives one.survives;
@@ -23,8 +25,8 @@ loop-table-preserved g c =
           keeps_then old mid new (was.kept early has) (one.kept clean (was.made early has).inside);
       made = λ clean has.
           let early : HasCleanDisk mid = omega (arith, one.survives.clean) in
-          subst (λ n. HasMade (n + 1) new) at (one.made clean (subst (λ n. HasMade n mid) (sym at) (was.made early has))).0;
+          subst (λ n. HasMade (n + 1) new) at (made_more _ mid new (made early has) (one.made clean (made_first _ mid (made early has))).0);
       sound = λ clean has some.
           let early : HasCleanDisk mid = omega (arith, one.survives.clean) in
-          (one.made clean (subst (λ n. HasMade n mid) (sym at) (was.made early has))).1;
+          (one.made clean (made_first _ mid (made early has))).1;
     }

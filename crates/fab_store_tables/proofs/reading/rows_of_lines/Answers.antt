@@ -13,4 +13,4 @@ returns-clause-ok g c =
     let inventory = c.in-Ok-inventory_of.ensures.ok in
     let records = c.in-Ok-records_of.ensures.ok in
     let plans = subst (λ ls. AllZip ShowsPlan ls c.in-Ok-plans_in.rows.items) c.as_slice.ensures.value c.in-Ok-plans_in.ensures.ok in
-    rows_read c.args.lines.now _ c.in-Ok.ensures.ok inventory.ports inventory.holders inventory.volumes plans records.approvals records.undo records.paths
+    rows_read c.args.lines.now _ c.in-Ok.ensures.ok inventory.ports inventory.addresses inventory.holders inventory.volumes plans records.approvals records.undo records.paths

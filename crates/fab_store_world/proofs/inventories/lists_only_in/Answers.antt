@@ -8,7 +8,7 @@ use Rattle.fab_names.specs.Orders.{name_cmp}
 use Rattle.fab_inventory.specs.declared.holder.Holder.{Holder}
 use Rattle.fab_inventory.specs.declared.holder.Volume.{Volume}
 use Rattle.fab_inventory.specs.declared.port.Known.{Known}
-use Rattle.fab_store_world.proofs.InventoryTables.{ports_told, holders_told, volumes_told}
+use Rattle.fab_store_world.proofs.InventoryTables.{ports_told, entries_told, addresses_told, holders_told, volumes_told}
 use Rattle.fab_store_world.proofs.inventories.lists_only_in.Goals as goal
 
 pub rows_without-requires : goal.rows_without-requires
@@ -18,11 +18,21 @@ rows_without-requires g c =
 
 pub rows_without-requires-2 : goal.rows_without-requires-2
 rows_without-requires-2 g c =
-    let known = c.args.inventory.now.holders in
-    subst (λ (es : List (List ℕ × Holder)). IsStrictlySortedBy name_cmp (keys_of es)) (sym c.holders.ensures) (sorted name_cmp (map.entries known) (map.entries_sorted known))
+    let known = c.args.inventory.now.ports in
+    subst (λ (es : List (ℕ × Known)). IsStrictlySortedBy nat_cmp (keys_of es)) (sym c.ports-2.ensures) (sorted nat_cmp (map.entries known) (map.entries_sorted known))
 
 pub rows_without-requires-3 : goal.rows_without-requires-3
 rows_without-requires-3 g c =
+    let known = c.args.inventory.now.ports in
+    subst (λ (es : List (ℕ × Known)). IsStrictlySortedBy nat_cmp (keys_of es)) (sym c.ports-3.ensures) (sorted nat_cmp (map.entries known) (map.entries_sorted known))
+
+pub rows_without-requires-4 : goal.rows_without-requires-4
+rows_without-requires-4 g c =
+    let known = c.args.inventory.now.holders in
+    subst (λ (es : List (List ℕ × Holder)). IsStrictlySortedBy name_cmp (keys_of es)) (sym c.holders.ensures) (sorted name_cmp (map.entries known) (map.entries_sorted known))
+
+pub rows_without-requires-5 : goal.rows_without-requires-5
+rows_without-requires-5 g c =
     let known = c.args.inventory.now.volumes in
     subst (λ (es : List (List ℕ × Volume)). IsStrictlySortedBy name_cmp (keys_of es)) (sym c.volumes.ensures) (sorted name_cmp (map.entries known) (map.entries_sorted known))
 
@@ -32,6 +42,8 @@ returns g c =
     let w = c.args.other.now in
     record {
       ports = ports_told v w c.ports.result c.in_ok-ports.ports.items c.ports.ensures c.in_ok-ports.ensures;
+      entries = entries_told v w c.ports-2.result c.in_ok-entries.entries.items c.ports-2.ensures c.in_ok-entries.ensures;
+      addresses = addresses_told v w c.ports-3.result c.in_ok-addresses.addresses.items c.ports-3.ensures c.in_ok-addresses.ensures;
       holders = holders_told v w c.holders.result c.in_ok-holders.holders.items c.holders.ensures c.in_ok-holders.ensures;
       volumes = volumes_told v w c.volumes.result c.in_ok-volumes.volumes.items c.volumes.ensures c.in_ok-volumes.ensures;
     }

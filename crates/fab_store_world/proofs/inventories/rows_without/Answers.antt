@@ -16,7 +16,7 @@ loop-key-preserved g c =
     let next = rest_more deref_pair c.loop-key.key-iterator c.next.new.self c.next.result (c.in-Some.key, c.in-Some.value) c.in-Some.is c.next.ensures.steps in (
       i.0 ++ (c.in-Some.key.now, c.in-Some.value.now) ∷ [],
       walked c.args.entries i.0 c.loop-key.key-iterator c.next.new.self (c.in-Some.key.now, c.in-Some.value.now) i.1 next,
-      listed_more g.T.Table.row_of (λ r. ¬ g.T.Table.knows c.args.other.now r) g.met.T.Table.by_key c.args.entries i.0 c.loop-key.key-iterator c.next.new.self (c.in-Some.key.now, c.in-Some.value.now) c.row.result c.loop-key.rows.items c.push_lacking.new.rows.items i.1 next c.requires c.row.ensures c.in_ok-push_lacking.ensures i.2,
+      listed_more g.T.Table.row_of (λ r. ¬ g.T.Table.knows c.args.other.now r) g.met.T.Table.by_key i.0 (c.in-Some.key.now, c.in-Some.value.now) c.args.entries c.loop-key.key-iterator c.next.new.self c.row.result c.loop-key.rows.items c.push_lacking.new.rows.items i.1 next c.requires c.row.ensures c.in_ok-push_lacking.ensures i.2,
     )
 
 pub returns : goal.returns

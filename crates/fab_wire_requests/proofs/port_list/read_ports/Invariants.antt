@@ -9,4 +9,4 @@ use Rattle.fab_wire_requests.proofs.port_list.read_ports.Given as goal
 abbrev pub invariant-loop-item : goal.invariant-loop-item
 invariant-loop-item g l = (l.item-iterator.rdr.trim ≡ trim.None) × Ready l.item-iterator.rdr × (0 < l.item-iterator.left) × (l.item-iterator.rdr.config ≡ default_config)
     × (y : List ℕ) × (source_of (λ s. Some s.now) l.item-iterator.rdr ≡ Some y)
-    × (recs : List (List (List ℕ))) × Reached default_config state.StartRecord (strip_bom l.fn.text) recs l.item-iterator.rdr.state y × HasRead l.headed recs l.rows.items
+    × (recs : List (List (List ℕ))) × Reached default_config state.StartRecord (strip_bom l.fn.text) recs l.item-iterator.rdr.state y × HasRead l.columns recs l.rows.items

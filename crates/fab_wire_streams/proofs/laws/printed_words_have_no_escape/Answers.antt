@@ -7,6 +7,7 @@ use Rattle.std.proofs.lemmas.List.Sums.{AllPass-from_list_all, list_all-from_All
 use Rattle.std.proofs.lemmas.List.Folds.{list_all-append}
 use Rattle.fab_names.specs.Names.{IsNameText, is_name_char}
 use Rattle.fab_names.specs.WorldWideNames.{wwn_text, hex_digit}
+use Rattle.fab_names.specs.Addresses.{address_text}
 use Rattle.fab_names.specs.Places.{place_text, Position, IsPosition}
 use Rattle.fab_names.specs.Members.{SpellsMember, member_text}
 use Rattle.fab_names.specs.declared.member.Member.{Member}
@@ -37,6 +38,9 @@ number n h = weaker is_ascii_digit is_line_byte digit-byte (decimal n) (all_digi
 wwn : (n : ℕ) → IsLines (wwn_text n)
 wwn n = simp hex-byte
 
+address : (n : ℕ) → IsLines (address_text n)
+address n = simp hex-byte
+
 place : (p : Position) → IsPosition p → IsLines (place_text p)
 place p h = joined (decimal p.domain ++ codes ",") (decimal p.slot) (joined (decimal p.domain) (codes ",") (number p.domain (omega arith)) refl) (number p.slot (omega arith))
 
@@ -47,6 +51,7 @@ member-lines : (text : List ℕ) (m : Member) → SpellsMember text m → IsLine
 member-lines text (member.Port w) h = joined (codes "wwpn=") (wwn_text w) refl (wwn w)
 member-lines text (member.Node w) h = joined (codes "wwnn=") (wwn_text w) refl (wwn w)
 member-lines text (member.Place p) h = joined (codes "dp=") (place_text p) refl (place p h.2.3.in_range)
+member-lines text (member.Address n) h = joined (codes "id=") (address_text n) refl (address n)
 member-lines text (member.Alias a) h = joined (codes "alias=") a refl (rw h.2.0 (name h.0 h.2.1))
 
 pub returns : goal.returns

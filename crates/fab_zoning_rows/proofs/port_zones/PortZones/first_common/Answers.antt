@@ -1,4 +1,4 @@
-use Rattle.std.proofs.Common.{◌||◌}
+use Rattle.std.proofs.Common.{List, ℕ, Bool, ◌||◌}
 use Rattle.std.specs.Option.{option_copied}
 use Rattle.fab_names.specs.Orders.{name_cmp}
 use Rattle.fab_lemmas.specs.MapsOfSets.{in_tree}
@@ -10,5 +10,10 @@ pub returns : goal.returns
 returns g c =
     let p = c.args.self.now in
     let t = in_zones c.args.other.now in
-    let later = first_of_either (in_tree name_cmp (option_copied p.by_node)) (in_tree name_cmp (option_copied p.by_place)) t _ _ _ c.first_in-by_node.ensures c.first_in-by_place.ensures c.lesser.ensures in
-    first_of_either (in_tree name_cmp (option_copied p.by_port)) (λ z. in_tree name_cmp (option_copied p.by_node) z || in_tree name_cmp (option_copied p.by_place) z) t _ _ _ c.first_in-by_port.ensures later c.lesser-2.ensures
+    let by_port : List ℕ → Bool = in_tree name_cmp (option_copied p.by_port) in
+    let by_node : List ℕ → Bool = in_tree name_cmp (option_copied p.by_node) in
+    let by_place : List ℕ → Bool = in_tree name_cmp (option_copied p.by_place) in
+    let by_address : List ℕ → Bool = in_tree name_cmp (option_copied p.by_address) in
+    let last = first_of_either by_place by_address t _ _ _ c.first_in-by_place.ensures c.first_in-by_address.ensures c.lesser.ensures in
+    let later = first_of_either by_node (λ z. by_place z || by_address z) t _ _ _ c.first_in-by_node.ensures last c.lesser-2.ensures in
+    first_of_either by_port (λ z. by_node z || (by_place z || by_address z)) t _ _ _ c.first_in-by_port.ensures later c.lesser-3.ensures

@@ -1,4 +1,0 @@
-use Rattle.fab_program_base.proofs.tasks.answer_to.Goals as goal
-
-pub returns-in-Import : goal.returns-in-Import
-returns-in-Import g c = rw c.in-Import.is c.import_over.ensures
