@@ -1,8 +1,8 @@
 #!/usr/bin/env python3
-"""Looks whether the documents are true of the repository: each crate is under a room's heading in crates.txt
-and has one line in docs/house.md, each contract is told in docs/CONTRACTS.md alone and is in the file that is
-named, what documents name is there, and the README is short. Commands that are shown with what they answer are
-run by examples/readme.sh and examples/session.sh.
+"""Looks whether the documents are true of the repository: each crate is under a room's heading in crates.txt,
+names each crate that its line there has below it, and has one line in docs/house.md, each contract is told in
+docs/CONTRACTS.md alone and is in the file that is named, what documents name is there, and the README is short.
+Commands that are shown with what they answer are run by examples/readme.sh and examples/session.sh.
 
 A line for each fault, and status 1 where there is one."""
 import collections
@@ -27,11 +27,13 @@ files = [it for it in listed.stdout.splitlines() if (TOP / it).is_file()]
 places = {str(it) for file in files for it in [pathlib.Path(file), *pathlib.Path(file).parents]}
 names = {pathlib.Path(it).name for it in files}
 documents = {it: (TOP / it).read_text() for it in files if re.fullmatch(r"(docs/)?[^/]+\.md", it)}
-known, items = set(), collections.defaultdict(set)
+known, items, used = set(), collections.defaultdict(set), collections.defaultdict(set)
 for file in files:
     if file.endswith((".rt", ".antt")):
         text = (TOP / file).read_text()
-        known.update(re.findall(r"\w+", text))
+        words = set(re.findall(r"\w+", text))
+        known |= words
+        used[file.split("/")[1]] |= words
         for item in re.findall(r"\b(?:fn|struct|enum|trait) (\w+)", text):
             items[item].add(file)
 crates, faults = [], []
@@ -48,11 +50,13 @@ def check_rooms():
     for line in (TOP / "crates.txt").read_text().splitlines():
         if line.startswith("#"):
             heading = heading or re.fullmatch(r"# [a-z]+: .+", line)
-        elif found := re.match(r"(\w+)[ \w=+]*:", line):
+        elif found := re.match(r"(\w+)[ \w=+]*:(.*)", line):
             crates.append(found[1])
             known.add(found[1])
             if not heading:
                 faults.append(f"crates.txt: {found[1]} is under no room: a group begins with '# ROOM: sentence'")
+            for below in set(found[2].split()) & set(crates) - used[found[1]]:
+                faults.append(f"crates.txt: {found[1]} uses nothing of {below}")
         else:
             heading = None
     for crate in crates:
