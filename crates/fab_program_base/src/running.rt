@@ -4,7 +4,7 @@ ghost use Rattle.sqlite.specs.Held.{state};
 ghost use Rattle.sqlite.specs.State.{HasCleanDisk};
 ghost use Rattle.sqlite.specs.Steps.{over_memory};
 ghost use Rattle.fab_store_sql.specs.NewDesk.{IsNewDesk};
-ghost use Rattle.fab_store_sql.specs.Trees.{tables_of};
+ghost use Rattle.fab_store_schema.specs.Trees.{tables_of};
 ghost use Rattle.fab_wire_streams.specs.Sinks.{Wrote, WroteSome};
 ghost use Rattle.fab_program_options.specs.Asking.{Asks};
 ghost use Rattle.fab_program_words.specs.declared.words.Words.{Words};

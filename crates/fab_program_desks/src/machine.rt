@@ -5,7 +5,7 @@ ghost use Rattle.sqlite.specs.Held.{state};
 ghost use Rattle.sqlite.specs.State.{HasCleanDisk};
 ghost use Rattle.sqlite.specs.Steps.{over_memory};
 ghost use Rattle.fab_store_sql.specs.NewDesk.{IsNewDesk};
-ghost use Rattle.fab_store_sql.specs.Trees.{tables_of};
+ghost use Rattle.fab_store_schema.specs.Trees.{tables_of};
 ghost use Rattle.fab_program_desks.specs.Tables.{IsBrought, IsFound, IsUnbrought, IsUnfound, IsUnopened, opened_fault};
 
 use crate::addresses::Addresses;
@@ -126,7 +126,7 @@ impl<'r> Databases for Machine<'r> {
     ghost use Rattle.sqlite.specs.Files.{file_state};
     ghost use Rattle.sqlite.specs.State.{HasCleanDisk};
     ghost use Rattle.fab_store_sql.specs.NewDesk.{IsNewDesk};
-    ghost use Rattle.fab_store_sql.specs.Trees.{tables_of};
+    ghost use Rattle.fab_store_schema.specs.Trees.{tables_of};
     ghost use Rattle.fab_program_desks.specs.Tables.{IsFound, IsUnfound};
 
     type Tables = FileTables;

@@ -4,7 +4,7 @@ ghost use Rattle.sqlite.specs.Held.{state};
 ghost use Rattle.sqlite.specs.State.{HasCleanDisk};
 ghost use Rattle.fab_store_sql.specs.NewDesk.{IsNewDesk};
 ghost use Rattle.fab_store_sql.specs.States.{IsReady};
-ghost use Rattle.fab_store_sql.specs.Trees.{tables_of};
+ghost use Rattle.fab_store_schema.specs.Trees.{tables_of};
 ghost use Rattle.fab_store_base.specs.Calls as store;
 ghost use Rattle.fab_store_base.specs.Calls.{IsCounted, Rises};
 ghost use Rattle.fab_store_migration.specs.Judging.{MigratesNot};

@@ -1,14 +1,9 @@
-pub mod Cells
 pub mod Commits
 pub mod Creates
 pub mod Edits
 pub mod Makings
-pub mod Meanings
 pub mod OneLine
-pub mod Places
 pub mod Puts
-pub mod Queries
 pub mod RowEdits
-pub mod Shapes
 pub mod Showings
 pub mod Walks

@@ -9,27 +9,11 @@ use Rattle.fab_store_columns.specs.MetaLines.{meta_line}
 use Rattle.fab_store_tables.specs.Tables.{Tables, IsAmong, row_of}
 use Rattle.fab_store_tables.specs.declared.stored_line.TableLine.{TableLine}
 use Rattle.fab_store_tables.specs.declared.stored_line.TableLine.TheVariants as line
-use Rattle.fab_store_sql.specs.Schema.{all_tables, tree_of, schema_of}
+use Rattle.fab_store_schema.specs.Schema.{all_tables, place_of, tree_of, schema_of}
 
 -- the first tables of the schema
 abbrev pub schema_first : ℕ → Schema
 schema_first n = schema_of (take n all_tables)
-
--- the place of the table in the schema
-abbrev pub place_of : Table → ℕ
-place_of table.Meta = 0
-place_of table.Ports = 1
-place_of table.Holders = 2
-place_of table.Volumes = 3
-place_of table.Zoning = 4
-place_of table.Active = 5
-place_of table.Groups = 6
-place_of table.GroupParts = 7
-place_of table.Plans = 8
-place_of table.Approvals = 9
-place_of table.Undo = 10
-place_of table.Paths = 11
-place_of table.Addresses = 12
 
 -- in a transaction, with so many tables of the schema
 pub record HasFirst (n : ℕ) (s : State) : Type 0 where

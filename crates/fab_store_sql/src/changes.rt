@@ -3,11 +3,11 @@ ghost use Rattle.std.specs.Prelude.{◌≡◌, ◌⊎◌, false, OnOk, OnErr, Is
 ghost use Rattle.sqlite.specs.State.{HasCleanDisk, IsLive, IsUnchanged, IsRolledBack, KeepsCommit, Survives};
 ghost use Rattle.sqlite.specs.Held.{state};
 ghost use Rattle.fab_store_tables.specs.Tables.{IsAmong, CanChange, AreChanged};
-ghost use Rattle.fab_store_sql.specs.Trees.{tables_of};
+ghost use Rattle.fab_store_schema.specs.Trees.{tables_of};
 ghost use Rattle.fab_store_sql.specs.States.{IsReady, IsInside, IsServing, HasKeyAmong, Gains, Loses, Walks};
 
 use crate::lines::{delete_line, insert_line};
-use crate::texts::delete_text;
+use fab_store_schema::delete_text;
 use fab_store_tables::{LineChanges, Table, TableLine};
 use sqlite::{Alter, Connection, Error, Transaction};
 use std::alloc::Allocator;

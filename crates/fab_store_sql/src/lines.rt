@@ -4,8 +4,8 @@ ghost use Rattle.sqlite.specs.State.{HasCleanDisk, KeepsCommit, Survives};
 ghost use Rattle.sqlite.specs.Held.{state};
 ghost use Rattle.fab_store_sql.specs.States.{IsInside, IsOf, HasKey, Gains, Loses, Walks};
 
-use crate::texts::{delete_text, insert_text};
 use crate::values::{key_width, values_of};
+use fab_store_schema::{delete_text, insert_text};
 use fab_store_tables::TableLine;
 use sqlite::{Alter, Error, Transaction};
 use std::alloc::Allocator;

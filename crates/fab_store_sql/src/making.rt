@@ -3,16 +3,16 @@ ghost use Rattle.std.specs.Prelude.{◌≡◌, ◌+◌, false, IsTrue, IfOk, OnO
 ghost use Rattle.sqlite.specs.Effect.{IsDatabase};
 ghost use Rattle.sqlite.specs.Held.{state};
 ghost use Rattle.sqlite.specs.State.{HasCleanDisk, KeepsCommit, Survives};
-ghost use Rattle.fab_store_sql.specs.Trees.{tables_of};
+ghost use Rattle.fab_store_schema.specs.Schema.{place_of};
+ghost use Rattle.fab_store_schema.specs.Trees.{tables_of};
 ghost use Rattle.fab_store_sql.specs.States.{IsInside, IsReady, IsServing};
 ghost use Rattle.fab_store_sql.specs.Reading.{Stays};
 ghost use Rattle.fab_store_sql.specs.NewDesk as spec;
 ghost use Rattle.fab_store_sql.specs.NewDesk.{HasFirst, IsOneMore, HasMade, HaveJust, IsBlank, IsNewDesk};
 
 use crate::changes::add_all;
-use crate::shape::ALL;
-use crate::texts::create_text;
 use fab_store_columns::MetaLine;
+use fab_store_schema::{ALL, create_text};
 use fab_store_tables::{Table, TableLine};
 use sqlite::{Alter, Connection, Error, ErrorCode, Transaction};
 use std::alloc::{AllocError, Global};
@@ -23,7 +23,7 @@ use std::alloc::{AllocError, Global};
 /// Where the statement fails.
 pub fn create<S: Alter>(tx: &mut Transaction<'_, S>, table: Table) -> Result<(), Error>
     ensures same_reference { tx.new.conn.ghost_name ≡ tx.old.conn.ghost_name }
-    ensures made { HasCleanDisk (state S.Store tx.new.conn.now) → HasFirst (spec.place_of table) (state S.Store tx.old.conn.now) → OnOk result (IsOneMore table (state S.Store tx.old.conn.now) (state S.Store tx.new.conn.now) × IsDatabase (state S.Store tx.new.conn.now).now) }
+    ensures made { HasCleanDisk (state S.Store tx.new.conn.now) → HasFirst (place_of table) (state S.Store tx.old.conn.now) → OnOk result (IsOneMore table (state S.Store tx.old.conn.now) (state S.Store tx.new.conn.now) × IsDatabase (state S.Store tx.new.conn.now).now) }
     ensures kept { HasCleanDisk (state S.Store tx.new.conn.now) → IsTrue (state S.Store tx.old.conn.now).in_transaction → KeepsCommit (state S.Store tx.old.conn.now) (state S.Store tx.new.conn.now) }
     ensures survives { Survives (state S.Store tx.old.conn.now) (state S.Store tx.new.conn.now) (λ _. ⊥) }
 {

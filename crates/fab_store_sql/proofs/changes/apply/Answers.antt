@@ -5,7 +5,7 @@ use Rattle.sqlite.specs.State.{HasCleanDisk}
 use Rattle.sqlite.specs.Held.{state}
 use Rattle.sqlite.proofs.StateLemmas.{survives_then}
 use Rattle.fab_store_tables.specs.Tables.{CanChange, AreChanged}
-use Rattle.fab_store_sql.specs.Trees.{tables_of}
+use Rattle.fab_store_schema.specs.Trees.{tables_of}
 use Rattle.fab_store_sql.specs.States.{IsReady}
 use Rattle.fab_store_sql.proofs.Commits.{serving, can_still, changed_from}
 use Rattle.fab_store_sql.proofs.changes.apply.Goals as goal

@@ -7,7 +7,7 @@ use Rattle.sqlite.specs.Held.{state}
 use Rattle.sqlite.proofs.StateLemmas.{survives_then}
 use Rattle.sqlite.proofs.Callers.{survives_begin}
 use Rattle.fab_store_tables.specs.Tables.{CanChange, AreChanged}
-use Rattle.fab_store_sql.specs.Trees.{tables_of}
+use Rattle.fab_store_schema.specs.Trees.{tables_of}
 use Rattle.fab_store_sql.specs.States.{IsServing, IsInside}
 use Rattle.fab_store_sql.proofs.Commits.{settled_commit, inside_begin, kept_begin, failed_commit}
 use Rattle.fab_store_sql.proofs.changes.change.Goals as goal

@@ -21,8 +21,8 @@ use Rattle.sqlite.specs.Term.{holds}
 use Rattle.sqlite_sql.specs.Ops.{is_null}
 use Rattle.sqlite_schema.specs.Rules.{are_typed, are_present, suits, is_of}
 use Rattle.sqlite_schema.specs.declared.schema.Column.{Column}
-use Rattle.fab_store_sql.specs.Trees.{cells_from}
-use Rattle.fab_store_sql.proofs.Meanings.{keys_from}
+use Rattle.fab_store_schema.specs.Trees.{cells_from}
+use Rattle.fab_store_schema.proofs.Meanings.{keys_from}
 
 same_bytes : (s t : List ℕ) → bytes_eq s t ≡ true → s ≡ t
 same_bytes s t h = grind (arith, bytes_eq-Decides)

@@ -15,11 +15,10 @@ use Rattle.sqlite.specs.Source.TheVariants.{Values}
 use Rattle.sqlite.proofs.Callers.{IsPlain, command_of}
 use Rattle.fab_store_load.specs.declared.fault.Table.{Table}
 use Rattle.fab_store_load.specs.declared.fault.Table.TheVariants as table
-use Rattle.fab_store_sql.specs.Schema.{desk_schema}
-use Rattle.fab_store_sql.specs.Statements.{insert_text, delete_text, select_text, paths_text}
-use Rattle.fab_store_sql.proofs.Queries.{table_query}
-use Rattle.fab_store_sql.specs.Trees.{tree_of, width_of, key_width}
-pub use Rattle.fab_store_sql.specs.NewDesk.{place_of}
+use Rattle.fab_store_schema.specs.Schema.{desk_schema, place_of}
+use Rattle.fab_store_schema.specs.Statements.{insert_text, delete_text, select_text, paths_text}
+use Rattle.fab_store_schema.proofs.Queries.{table_query}
+use Rattle.fab_store_schema.specs.Trees.{tree_of, width_of, key_width}
 
 -- so many parameters, from this one on
 abbrev pub params_from : ℕ → ℕ → List Term

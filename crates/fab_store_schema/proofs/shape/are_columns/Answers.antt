@@ -1,8 +1,8 @@
 use Rattle.std.proofs.Common.{◌∙◌, sym, ap, arith}
 use Rattle.std.specs.Option.{option_map}
-use Rattle.fab_store_sql.specs.Schema.{number_columns}
-use Rattle.fab_store_sql.proofs.Shapes.{with_number}
-use Rattle.fab_store_sql.proofs.shape.are_columns.Goals as goal
+use Rattle.fab_store_schema.specs.Schema.{number_columns}
+use Rattle.fab_store_schema.proofs.Shapes.{with_number}
+use Rattle.fab_store_schema.proofs.shape.are_columns.Goals as goal
 
 pub returns-in-Some : goal.returns-in-Some
 returns-in-Some c found =

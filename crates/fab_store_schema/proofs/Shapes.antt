@@ -7,7 +7,7 @@ use Rattle.sqlite_schema.specs.declared.schema.Column.{Column}
 use Rattle.sqlite_value.specs.Keys.{plain}
 use Rattle.fab_store_load.specs.declared.fault.Table.{Table}
 use Rattle.fab_store_load.specs.declared.fault.Table.TheVariants as table
-use Rattle.fab_store_sql.specs.Schema.{text_column, number_columns, columns_named, tree_of, name_of, places_of, index_name, key_index}
+use Rattle.fab_store_schema.specs.Schema.{text_column, number_columns, columns_named, tree_of, name_of, places_of, index_name, key_index}
 
 one_digit : decimal 1 ≡ codes "1"
 one_digit = decimal_digit 1 (omega arith)

@@ -1,6 +1,6 @@
 //! The texts of the statements.
 ghost use Rattle.std.specs.Prelude.{◌≡◌};
-ghost use Rattle.fab_store_sql.specs.Statements as spec;
+ghost use Rattle.fab_store_schema.specs.Statements as spec;
 
 use fab_store_tables::Table;
 

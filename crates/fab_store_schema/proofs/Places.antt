@@ -6,9 +6,8 @@ use Rattle.sqlite_rules.specs.Lists.{Has}
 use Rattle.sqlite_rules.specs.Action.{works}
 use Rattle.fab_store_load.specs.declared.fault.Table.{Table}
 use Rattle.fab_store_load.specs.declared.fault.Table.TheVariants as table
-use Rattle.fab_store_sql.specs.Schema.{made_of, desk_schema}
-use Rattle.fab_store_sql.specs.Trees.{tree_of}
-use Rattle.fab_store_sql.proofs.Meanings.{place_of}
+use Rattle.fab_store_schema.specs.Schema.{made_of, desk_schema, place_of}
+use Rattle.fab_store_schema.specs.Trees.{tree_of}
 
 abbrev pub table_at : ℕ → Table
 table_at n = slice_index_or (table.Meta ∷ table.Meta ∷ table.Ports ∷ table.Ports ∷ table.Holders ∷ table.Holders ∷ table.Volumes ∷ table.Volumes ∷ table.Zoning ∷ table.Zoning ∷ table.Active ∷ table.Active ∷ table.Groups ∷ table.Groups ∷ table.GroupParts ∷ table.GroupParts ∷ table.Plans ∷ table.Plans ∷ table.Approvals ∷ table.Approvals ∷ table.Undo ∷ table.Undo ∷ table.Paths ∷ table.Paths ∷ table.Addresses ∷ table.Addresses ∷ []) n table.Meta

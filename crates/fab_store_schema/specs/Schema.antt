@@ -49,6 +49,22 @@ strict_table tree name columns key = record {
 abbrev pub all_tables : List Table
 all_tables = table.Meta ∷ table.Ports ∷ table.Holders ∷ table.Volumes ∷ table.Zoning ∷ table.Active ∷ table.Groups ∷ table.GroupParts ∷ table.Plans ∷ table.Approvals ∷ table.Undo ∷ table.Paths ∷ table.Addresses ∷ []
 
+-- the place of a table among them
+abbrev pub place_of : Table → ℕ
+place_of table.Meta = 0
+place_of table.Ports = 1
+place_of table.Holders = 2
+place_of table.Volumes = 3
+place_of table.Zoning = 4
+place_of table.Active = 5
+place_of table.Groups = 6
+place_of table.GroupParts = 7
+place_of table.Plans = 8
+place_of table.Approvals = 9
+place_of table.Undo = 10
+place_of table.Paths = 11
+place_of table.Addresses = 12
+
 -- the tree that a table's rows are in
 abbrev pub tree_of : Table → ℕ
 tree_of table.Meta = 0

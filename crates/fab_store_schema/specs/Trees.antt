@@ -5,7 +5,7 @@ use Rattle.sqlite.specs.Tree.{Trees}
 use Rattle.fab_store_load.specs.declared.fault.Table.{Table}
 use Rattle.fab_store_load.specs.declared.fault.Table.TheVariants as table
 use Rattle.fab_store_tables.specs.Tables.{Tables}
-pub use Rattle.fab_store_sql.specs.Schema.{tree_of}
+pub use Rattle.fab_store_schema.specs.Schema.{tree_of}
 
 -- how many columns a table has
 abbrev pub width_of : Table → ℕ

@@ -5,7 +5,7 @@ ghost use Rattle.sqlite.specs.Held.{state};
 ghost use Rattle.sqlite.specs.Kind.TheVariants.{Text};
 ghost use Rattle.sqlite_value.specs.Keys.{plain};
 ghost use Rattle.fab_store_load.specs.declared.fault.Table.TheVariants as table;
-ghost use Rattle.fab_store_sql.specs.Schema as spec;
+ghost use Rattle.fab_store_schema.specs.Schema as spec;
 
 use fab_store_tables::Table;
 use sqlite::{Alter, Connection};
