@@ -1,8 +1,9 @@
 -- The lines of all tables, and tables with the same rows.
-use Rattle.std.proofs.Common.{◌≡◌, ◌↔◌, List, map, Contains, IsTrue, subst, arith}
+use Rattle.std.proofs.Common.{◌≡◌, ◌↔◌, ◌∙◌, List, map, Contains, IsTrue, false, sym, subst, arith}
 use Rattle.sqlite.specs.Effect.{Database}
 use Rattle.sqlite.specs.Order.{Row}
-use Rattle.sqlite.specs.State.{State, HasCleanDisk}
+use Rattle.sqlite.specs.State.{State, HasCleanDisk, Survives}
+use Rattle.sqlite.proofs.StateLemmas.{survives_then}
 use Rattle.fab_store_load.specs.declared.fault.Table.{Table}
 use Rattle.fab_store_load.specs.declared.fault.Table.TheVariants as table
 use Rattle.fab_store_base.proofs.Distinct.{in_map, map_in}
@@ -84,6 +85,17 @@ pub told_before : (found : TableLines) (old mid new : State) → (IsTrue old.is_
 told_before found old mid new settled stays only told clean =
     let early : HasCleanDisk mid = omega (arith, clean, only.survives.clean) in
     let seen = told clean in subst (AreTablesOf found) (stays early settled seen.1.was_open).1 seen.0
+
+-- such a look and a read behind it only read
+pub looked_before : (old mid new : State) → Survives old mid (λ _. ⊥) → (HasCleanDisk mid → Stays old mid) → mid.in_transaction ≡ false → OnlyReads mid new → OnlyReads old new
+looked_before old mid new survives stays outside only = record {
+  survives = survives_then old mid new (λ _. ⊥) (λ _. ⊥) (λ _. ⊥) (λ _ _ h. h) (λ _ _ h. h) survives only.survives;
+  stays = λ clean settled is_open.
+      let early : HasCleanDisk mid = omega (arith, clean, only.survives.clean) in
+      let later = only.stays clean (λ open_mid. let e = stays early settled open_mid in e.1 ∙ settled e.0 ∙ sym e.2) is_open in
+      let first = stays early settled later.0 in (first.0, later.1 ∙ first.1, later.2 ∙ first.2);
+  outside = λ _. only.outside outside;
+}
 
 module _ (a b : Tables) (same : HaveSame a b) where
   pub holds_there : (w : WorldRows) → HoldsWorld b w → HoldsWorld a w

@@ -2,6 +2,7 @@
 #![tactic(auto)]
 
 mod lots;
+mod naming;
 mod opening;
 mod paths;
 mod reading;

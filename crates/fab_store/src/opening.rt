@@ -14,6 +14,7 @@ ghost use Rattle.fab_store_tables.specs.Versions.{TellSchema};
 ghost use Rattle.fab_store.specs.Loading.{HaveNamesOnce, TellsNewer, TellNewer};
 ghost use Rattle.fab_store.specs.Reads.{OnlyReads, SeesSame, AreTablesOf};
 
+use crate::naming::open_tables;
 use crate::reading::read_tables;
 use fab_store_base::{OpenFault, TableLines, world_of_lines};
 use fab_store_columns::{MetaLine, MetaRow, PlanLine};
@@ -89,7 +90,7 @@ fn are_once(alloc: Global, lines: &[PlanLine<Global>]) -> Result<bool, AllocErro
 /// # Errors
 /// As for a store's `load`. `Store` where nothing sound has the rows, and a plan stands twice: no
 /// table with its key has it so.
-fn open_lines<A: Allocator + Copy>(
+pub(crate) fn open_lines<A: Allocator + Copy>(
     alloc: A,
     heap: Global,
     lines: &TableLines,
@@ -138,7 +139,7 @@ pub(crate) fn load_world<A: Allocator + Copy, S: Alter>(
         return Err(OpenFault::OldSchema(1));
     }
     match read_tables(conn, heap) {
-        Ok(lines) => open_lines(alloc, heap, &lines),
+        Ok(lines) => open_tables(alloc, heap, lines),
         Err(ReadFault::Memory) => Err(OpenFault::Memory),
         Err(_) => Err(OpenFault::Store),
     }

@@ -1,6 +1,7 @@
 //! The rows that the lines of all tables show.
 ghost use Rattle.std.specs.Prelude.{◌≡◌, IfOk, IfErr, OnOk, filter_map};
 ghost use Rattle.std.specs.List.{AllZip};
+ghost use Rattle.fab_store_columns.specs.MetaLines.{ShowsMeta};
 ghost use Rattle.fab_store_columns.specs.PlanLines.{ShowsPlan};
 ghost use Rattle.fab_store_load.specs.Faults.{OfTable};
 ghost use Rattle.fab_store_load.specs.declared.fault.Table.TheVariants.{Plans};
@@ -175,25 +176,32 @@ fn config_in<A: Allocator + Copy>(
     Ok(rows)
 }
 
-/// The rows that the lines of settings and of the tables of a configuration show.
-fn settings_of<A: Allocator + Copy>(
-    alloc: A,
-    lines: &TableLines,
-) -> Result<SettingsIn<A>, LoadFault>
-    ensures ok { IfOk result (λ rows. spec.AreSettingsOf A lines.now rows.counts.items rows.config.items) }
+/// The rows that the lines of settings show.
+fn meta_in<A: Allocator + Copy>(alloc: A, lines: &TableLines) -> Result<Vec<MetaRow, A>, LoadFault>
+    ensures ok { IfOk result (λ rows. AllZip ShowsMeta lines.now.meta.items rows.items) }
     ensures err { IfErr result (OfTable (spec.HasOddLine A lines.now)) }
 {
-    let rows = match rows_in(alloc, lines.meta.as_slice(), Table::Meta) {
-        Ok(rows) => rows,
-        Err(fault) => return Err(fault),
-    };
-    let counts = counts_in(alloc, rows.as_slice())?;
-    let settings = settings_in(alloc, rows.as_slice())?;
-    let config = match config_in(settings, lines) {
-        Ok(rows) => rows,
-        Err(fault) => return Err(fault),
-    };
-    Ok(SettingsIn { counts, config })
+    match rows_in(alloc, lines.meta.as_slice(), Table::Meta) {
+        Ok(rows) => Ok(rows),
+        Err(fault) => Err(fault),
+    }
+}
+
+/// The rows that the lines of settings, which show these, and of the tables of a configuration show.
+fn settings_of<A: Allocator + Copy>(
+    alloc: A,
+    settings: &[MetaRow],
+    lines: &TableLines,
+) -> Result<SettingsIn<A>, LoadFault>
+    ensures ok { AllZip ShowsMeta lines.now.meta.items settings.now → IfOk result (λ rows. spec.AreSettingsOf A lines.now rows.counts.items rows.config.items) }
+    ensures err { IfErr result (OfTable (spec.HasOddLine A lines.now)) }
+{
+    let counts = counts_in(alloc, settings)?;
+    let config = settings_in(alloc, settings)?;
+    match config_in(config, lines) {
+        Ok(config) => Ok(SettingsIn { counts, config }),
+        Err(fault) => Err(fault),
+    }
 }
 
 /// The rows that the lines of the tables of an inventory show.
@@ -256,7 +264,8 @@ fn records_of<A: Allocator + Copy>(alloc: A, lines: &TableLines) -> Result<Recor
 /// line.
 ///
 /// # Errors
-/// `Damaged` with a table of which some line shows no row. `Memory` where there is none.
+/// `Damaged` with the first table, in the order of `Table`, of which some line shows no row. `Memory`
+/// where there is none.
 pub fn rows_of_lines<A: Allocator + Copy>(
     alloc: A,
     lines: &TableLines,
@@ -264,7 +273,7 @@ pub fn rows_of_lines<A: Allocator + Copy>(
     ensures ok { IfOk result (spec.AreRowsOf lines.now) }
     ensures err { IfErr result (OfTable (spec.HasOddLine A lines.now)) }
 {
-    let SettingsIn { counts, config } = match settings_of(alloc, lines) {
+    let settings = match meta_in(alloc, lines) {
         Ok(rows) => rows,
         Err(fault) => return Err(fault),
     };
@@ -274,6 +283,10 @@ pub fn rows_of_lines<A: Allocator + Copy>(
         holders,
         volumes,
     } = match inventory_of(alloc, lines) {
+        Ok(rows) => rows,
+        Err(fault) => return Err(fault),
+    };
+    let SettingsIn { counts, config } = match settings_of(alloc, settings.as_slice(), lines) {
         Ok(rows) => rows,
         Err(fault) => return Err(fault),
     };
