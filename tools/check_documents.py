@@ -1,7 +1,8 @@
 #!/usr/bin/env python3
 """Looks whether the documents are true of the repository: each crate is under a room's heading in crates.txt,
 names each crate that its line there has below it, and has one line in docs/house.md, each contract is told in
-docs/CONTRACTS.md alone and is in the file that is named, what documents name is there, and the README is short.
+docs/CONTRACTS.md alone and is in the file that is named, what documents name is there, there are as many recorded
+requests and wrong bodies as they say, and the README is short.
 Commands that are shown with what they answer are run by examples/readme.sh and examples/session.sh.
 
 A line for each fault, and status 1 where there is one."""
@@ -92,8 +93,26 @@ def check_names(name, line):
             faults.append(f"{name}: nothing is called {word}")
 
 
+def those(form):
+    return [it for it in files if re.fullmatch(form, it)]
+
+
+def check_counts():
+    texts = [(TOP / it).read_text() for it in those(r"crates/fab_wire_conformance/data/\w+\.txt")]
+    tried, by_hand = those(r"crates/\w+/must-fail/\w+\.edit"), those(r"crates/\w+/must-fail/\w+\.md")
+    rooms = {it.split("/")[1] for it in tried}
+    for name, told in (
+        ("README.md", f"{sum(it.count(chr(10) + '@ ') for it in texts):,} recorded requests"),
+        ("docs/GATE.md", f"{len(tried)} that the gate tries, in {len(rooms)} crates"),
+        ("docs/GATE.md", f"{len(by_hand)} that are tried by hand"),
+    ):
+        if told not in documents[name]:
+            faults.append(f"{name}: there are {told}")
+
+
 check_rooms()
 check_contracts()
+check_counts()
 for name, text in documents.items():
     for line in [] if name == DATED else text.splitlines():
         check_names(name, line)

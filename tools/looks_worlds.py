@@ -16,6 +16,7 @@ CALLERS = {"all": TENANTS + ["store"], "blue": ["blue"]}
 
 # The worlds that were written by hand. At A the ports are in no zone and the default zone joins them, at B a zone
 # does; then no zone has both, and the default zone denies; then the storage group is another's, as is the host group.
+# The last is the worked world: what is another's is told as what is not there.
 BY_HAND = os.path.join(os.path.dirname(os.path.realpath(__file__)), "looks_by_hand.txt")
 
 

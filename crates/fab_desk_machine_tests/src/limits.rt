@@ -6,25 +6,6 @@ use fab_names::Fabric;
 use fab_test_machine::{ADA, Ask, NO_PORTS, See, Turn, holds_in};
 use std::process::Abort;
 
-/// A list of one port.
-const ONE: &str = "port_name,node_name,domain,port
-10:00:00:00:00:00:00:01,20:00:00:00:00:00:00:01,1,1
-";
-
-/// A list of another port.
-const TWO: &str = "port_name,node_name,domain,port
-10:00:00:00:00:00:00:02,20:00:00:00:00:00:00:01,1,1
-";
-
-/// A new port needs room, and those that are logged out are known still.
-const PORTS: &[Turn] = &[
-    (ADA, 0, Ask::Import(Fabric::B, ONE), "changed at 1"),
-    (ADA, 0, Ask::Import(Fabric::B, TWO), "limit ports"),
-    (ADA, 0, Ask::Import(Fabric::A, NO_PORTS), "changed at 2"),
-    (ADA, 0, Ask::Import(Fabric::B, TWO), "limit ports"),
-    (ADA, 0, Ask::Import(Fabric::B, ONE), "changed at 3"),
-];
-
 /// A new holder needs room, of whichever kind; one that is replaced does not.
 const HOLDERS: &[Turn] = &[
     (ADA, 0, Ask::Put(Host, "one", "blue", &[]), "changed at 1"),
@@ -99,7 +80,7 @@ const CHANGES: &[Turn] = &[
     ),
     (ADA, 0, Ask::Stage("q", "deactivate B"), "staged q of 1"),
     (ADA, 0, Ask::Withdraw("p"), "withdrawn p"),
-    (ADA, 0, Ask::Show(See::Holder(Host, "one")), "host one blue"),
+    (ADA, 0, Ask::Show(See::Paths("one")), "paths one"),
 ];
 
 /// Ends the test where the world does not answer so.
@@ -109,11 +90,6 @@ fn hold(rt: &(impl Abort + AllocGlobal), nearly: Nearly, stages: &[&[Turn]]) {
         Ok(is_so) => assert!(rt; is_so),
         Err(_) => panic!(rt; "a sound world, commands, and memory"),
     }
-}
-
-#[test]
-fn the_last_port_is_taken(rt: HostRuntime) {
-    hold(&rt, Nearly::Ports, &[PORTS]);
 }
 
 #[test]

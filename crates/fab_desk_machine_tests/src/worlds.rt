@@ -1,7 +1,7 @@
 //! Worlds that have one less of something than there may be.
 
-use fab_inventory::{HolderKind, Inventory, PortRow};
-use fab_names::{Fabric, Name, Place, Wwn};
+use fab_inventory::{HolderKind, Inventory};
+use fab_names::Name;
 use fab_plans::{PlanText, Staged};
 use fab_plans_text::read_plan;
 use fab_world::{AnyPlan, KeptPlan, World};
@@ -12,8 +12,6 @@ use std::process::Abort;
 /// What there is one less of than there may be.
 #[derive(Clone, Copy)]
 pub enum Nearly {
-    /// Ports, from 1 on, in fabric A.
-    Ports,
     /// Hosts, from `h0` on.
     Holders,
     /// Volumes, from `v0` on, on the array `arr`.
@@ -33,17 +31,6 @@ fn named(rt: &impl Abort, text: &str) -> Name {
 fn numbered(rt: &(impl Abort + AllocGlobal), letter: &str, number: u64) -> Name {
     let text = format!(in rt.alloc(); "{letter}{number}").expect(rt, "room for a name");
     named(rt, text.as_str())
-}
-
-fn put_ports(rt: &(impl Abort + AllocGlobal), inventory: &mut Inventory<Global>) {
-    let mut rows = Vec::new(rt.alloc());
-    for number in 1..4096 {
-        let row = PortRow::plain(Wwn::new(number), Wwn::new(1), Place::new(1, 1));
-        rows.push(row).expect(rt, "room for a port");
-    }
-    inventory
-        .import(Fabric::A, rows.as_slice())
-        .expect(rt, "ports");
 }
 
 fn put_holders(rt: &(impl Abort + AllocGlobal), inventory: &mut Inventory<Global>) {
@@ -92,7 +79,6 @@ fn put_plans(
 /// Fills a new world.
 fn fill(rt: &(impl Abort + AllocGlobal), world: &mut World<Global>, nearly: Nearly) {
     match nearly {
-        Nearly::Ports => put_ports(rt, &mut world.inventory),
         Nearly::Holders => put_holders(rt, &mut world.inventory),
         Nearly::Volumes => put_volumes(rt, &mut world.inventory),
         Nearly::Plans => put_plans(rt, &mut world.plans),

@@ -12,7 +12,7 @@ use std::alloc::Global;
 use std::process::Abort;
 
 /// Whether the desk answers the list of the turns as they say.
-pub fn answers<S: Store<Global>>(
+fn answers<S: Store<Global>>(
     rt: &(impl Abort + AllocGlobal),
     desk: &mut DeskOver<S>,
     turns: &[Turn],
@@ -52,13 +52,7 @@ fn is_kept_after<S: Store<Global>>(
 /// The world, the first plan, the volume taken away, and what is refused then.
 const LISTS: &[List] = &[List::World, List::First, List::Unmapped, List::Row15];
 
-/// Whether a new desk answers the lists as their turns say, and its tables have the machine's world
-/// then.
-fn are_answered(rt: &(impl Abort + AllocGlobal), lists: &[List]) -> bool {
-    is_kept_after(rt, tables(rt), lists)
-}
-
 #[test]
 fn lists_are_answered_at_once(rt: HostRuntime) {
-    assert!(rt; are_answered(&rt, LISTS));
+    assert!(rt; is_kept_after(&rt, tables(&rt), LISTS));
 }

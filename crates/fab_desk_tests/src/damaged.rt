@@ -1,8 +1,8 @@
 //! Tables that somebody else has changed.
 
-use crate::desks::{open, tables_of};
+use crate::desks::{is_counted, open, refusals};
 use crate::lists::List;
-use crate::memory::{Tables, tables_after, tables_then};
+use crate::memory::{Tables, changed, tables_after, tables_then};
 use fab_inventory::HolderKind::Array;
 use fab_names::Fabric;
 use fab_store::{OpenFault, Store, Table};
@@ -10,18 +10,16 @@ use fab_test_machine::{ADA, Ask, FIRST, FIRST_TARGET, NO_PORTS, SECOND_TARGET, S
 use std::alloc::Global;
 use std::process::Abort;
 
-/// The tables after a statement.
-fn changed(rt: &(impl Abort + AllocGlobal), tables: Tables, statement: &str) -> Tables {
-    let mut conn = tables.into_connection();
-    conn.execute_batch(statement).expect(rt, "a statement");
-    tables_of(rt, conn)
-}
-
-/// Why no desk is opened over the store.
+/// Why no desk is opened over the store. If the store refused a call, that is counted once, and nothing
+/// else is.
 fn fault_of<S: Store<Global>>(rt: &(impl Abort + AllocGlobal), store: S) -> Option<OpenFault> {
     match open(rt, store) {
         Ok(_) => None,
-        Err((fault, _)) => Some(fault),
+        Err((fault, store)) => {
+            let is_refused = fault == OpenFault::Store;
+            assert!(rt; is_counted(0, refusals(&store), is_refused));
+            Some(fault)
+        }
     }
 }
 
@@ -41,121 +39,179 @@ const MOVED: &[Turn] = &[
     ),
 ];
 
-/// Why no desk is opened over the tables after the first plan and this statement.
-fn fault_after(rt: &(impl Abort + AllocGlobal), statement: &str) -> Option<OpenFault> {
+/// Why no desk is opened over the tables after the first plan and these statements.
+fn fault_after(rt: &(impl Abort + AllocGlobal), statements: &str) -> Option<OpenFault> {
     let tables = tables_after(rt, &[List::World, List::First], MOVED);
-    fault_of(rt, changed(rt, tables, statement))
+    fault_of(rt, changed(rt, tables, statements))
 }
 
-/// Statements, and why no desk is opened then.
-const FAULTS: &[(&str, Option<OpenFault>)] = &[
+/// Statements, and the table that is named then: the first that is damaged, in the order of tables.
+const DAMAGED: &[(&str, Table)] = &[
+    ("DELETE FROM meta WHERE key = 'schema'", Table::Meta),
+    (
+        "UPDATE meta SET value = '02' WHERE key = 'schema'",
+        Table::Meta,
+    ),
+    (
+        "UPDATE meta SET value = '1000000001' WHERE key = 'revision'",
+        Table::Meta,
+    ),
+    ("DELETE FROM meta WHERE key = 'active.B'", Table::Meta),
+    (
+        "UPDATE ports SET domain = 240 WHERE wwpn = '1000000000000001'",
+        Table::Ports,
+    ),
+    (
+        "UPDATE ports SET holder = 'db9' WHERE wwpn = '1000000000000002'",
+        Table::Ports,
+    ),
+    ("DELETE FROM holders WHERE name = 'db2'", Table::Ports),
+    (
+        "INSERT INTO addresses VALUES ('1000000000000001', '0x010100')",
+        Table::Addresses,
+    ),
+    // No such port is known.
+    (
+        "INSERT INTO addresses VALUES ('5000000000000009', '010200')",
+        Table::Addresses,
+    ),
+    // The port is known and logged in nowhere.
+    (
+        "UPDATE ports SET fabric = NULL, domain = NULL, slot = NULL WHERE wwpn = '1000000000000003'; INSERT INTO addresses VALUES ('1000000000000003', '010200')",
+        Table::Addresses,
+    ),
+    (
+        "INSERT INTO addresses VALUES ('x', 'x'); UPDATE ports SET wwnn = 'x' WHERE wwpn = '1000000000000001'",
+        Table::Ports,
+    ),
+    (
+        "INSERT INTO addresses VALUES ('x', 'x'); UPDATE holders SET kind = 'x'",
+        Table::Addresses,
+    ),
+    (
+        "UPDATE holders SET kind = 'printer' WHERE name = 'db2'",
+        Table::Holders,
+    ),
+    (
+        "UPDATE volumes SET array = 'db1' WHERE name = 'v2'",
+        Table::Volumes,
+    ),
+    (
+        "UPDATE volumes SET bytes = 0 WHERE name = 'v2'",
+        Table::Volumes,
+    ),
+    (
+        "INSERT INTO zoning VALUES ('A', 'alias', 'spare', 'alias=disk')",
+        Table::Zoning,
+    ),
+    (
+        "INSERT INTO zoning VALUES ('A', 'box', 'z2', 'z1')",
+        Table::Zoning,
+    ),
+    (
+        "UPDATE meta SET value = '' WHERE key = 'active.A'",
+        Table::Active,
+    ),
+    (
+        "INSERT INTO active VALUES ('C', 'z1', 'dp=1,1')",
+        Table::Active,
+    ),
+    (
+        "UPDATE groups SET array = 'arr9' WHERE name = 'g1'",
+        Table::Groups,
+    ),
+    (
+        "INSERT INTO groups VALUES ('host', 'hosts2', 'blue', 'arr1', 0)",
+        Table::Groups,
+    ),
+    // The port is of another array than the storage group.
+    (
+        "INSERT INTO group_parts VALUES ('storage', 'g1', 'target', '5000000000000002', '')",
+        Table::GroupParts,
+    ),
+    (
+        "INSERT INTO group_parts VALUES ('storage', 'g1', 'unit', '16384', 'v2')",
+        Table::GroupParts,
+    ),
+    ("UPDATE plans SET position = 2", Table::Plans),
+    ("UPDATE plans SET state = 'waiting'", Table::Plans),
+    (
+        "INSERT INTO approvals VALUES ('p9', 'bob', 6)",
+        Table::Approvals,
+    ),
+    (
+        "INSERT INTO approvals VALUES ('p1', '0', 6)",
+        Table::Approvals,
+    ),
+    (
+        "INSERT INTO undo VALUES ('p1', '=', 'meta active.A s1')",
+        Table::Undo,
+    ),
+    (
+        "INSERT INTO undo VALUES ('p1', '-', 'meta active.A s1')",
+        Table::Undo,
+    ),
+    (
+        "DELETE FROM undo WHERE entry = 'meta active.A s1'",
+        Table::Undo,
+    ),
+    ("DELETE FROM group_parts WHERE part = 'unit'", Table::Undo),
+    (
+        "INSERT INTO paths VALUES ('db1', 'A', '1000000000000001', '5000000000000002', 'v1', 0)",
+        Table::Paths,
+    ),
+    (
+        "INSERT INTO paths VALUES ('db1', 'A', '1000000000000001', '5000000000000001', 'v1', 16384)",
+        Table::Paths,
+    ),
+    ("DELETE FROM paths", Table::Paths),
+    (
+        "DELETE FROM paths; INSERT INTO approvals VALUES ('p9', 'bob', 6)",
+        Table::Approvals,
+    ),
+    (
+        "INSERT INTO zoning VALUES ('A', 'box', 'z2', 'z1'); UPDATE ports SET domain = 240 WHERE wwpn = '1000000000000001'",
+        Table::Ports,
+    ),
+    (
+        "INSERT INTO active VALUES ('C', 'z1', 'dp=1,1'); UPDATE holders SET kind = 'printer' WHERE name = 'db2'",
+        Table::Holders,
+    ),
+    (
+        "INSERT INTO zoning VALUES ('A', 'box', 'z2', 'z1'); UPDATE ports SET holder = 'db9' WHERE wwpn = '1000000000000002'",
+        Table::Ports,
+    ),
+    (
+        "UPDATE plans SET state = 'waiting'; UPDATE volumes SET array = 'db1' WHERE name = 'v2'",
+        Table::Volumes,
+    ),
+];
+
+/// Whether the table is named after the statements.
+fn is_named(rt: &(impl Abort + AllocGlobal), statements: &str, table: Table) -> bool {
+    fault_after(rt, statements) == Some(OpenFault::Damaged(table))
+}
+
+#[test]
+fn damage_is_told(rt: HostRuntime) {
+    for (place, case) in DAMAGED.iter().enumerate() {
+        assert!(rt; is_named(&rt, case.0, case.1), "{place}");
+    }
+}
+
+/// Statements, and why else no desk is opened then, or that one is.
+const OTHERS: &[(&str, Option<OpenFault>)] = &[
     (
         "UPDATE meta SET value = '3' WHERE key = 'schema'",
         Some(OpenFault::NewerSchema(3)),
     ),
     (
-        "DELETE FROM meta WHERE key = 'schema'",
-        Some(OpenFault::Damaged(Table::Meta)),
-    ),
-    (
-        "UPDATE meta SET value = '1000000001' WHERE key = 'revision'",
-        Some(OpenFault::Damaged(Table::Meta)),
-    ),
-    (
-        "UPDATE meta SET value = '1000000000' WHERE key = 'revision'",
-        None,
-    ),
-    (
-        "UPDATE ports SET domain = 240 WHERE wwpn = '1000000000000001'",
-        Some(OpenFault::Damaged(Table::Ports)),
-    ),
-    (
         "UPDATE meta SET value = '1' WHERE key = 'schema'",
         Some(OpenFault::OldSchema(1)),
     ),
-    (
-        "UPDATE ports SET holder = 'db9' WHERE wwpn = '1000000000000002'",
-        Some(OpenFault::Damaged(Table::Ports)),
-    ),
-    (
-        "UPDATE holders SET kind = 'printer' WHERE name = 'db2'",
-        Some(OpenFault::Damaged(Table::Holders)),
-    ),
-    (
-        "UPDATE volumes SET array = 'db1' WHERE name = 'v2'",
-        Some(OpenFault::Damaged(Table::Volumes)),
-    ),
-    (
-        "INSERT INTO zoning VALUES ('A', 'alias', 'spare', 'alias=disk')",
-        Some(OpenFault::Damaged(Table::Zoning)),
-    ),
-    (
-        "UPDATE meta SET value = '' WHERE key = 'active.A'",
-        Some(OpenFault::Damaged(Table::Active)),
-    ),
-    (
-        "UPDATE groups SET array = 'arr9' WHERE name = 'g1'",
-        Some(OpenFault::Damaged(Table::Groups)),
-    ),
-    // The port is of another array than the storage group.
-    (
-        "INSERT INTO group_parts VALUES ('storage', 'g1', 'target', '5000000000000002', '')",
-        Some(OpenFault::Damaged(Table::GroupParts)),
-    ),
-    (
-        "UPDATE plans SET position = 2",
-        Some(OpenFault::Damaged(Table::Plans)),
-    ),
-    (
-        "INSERT INTO approvals VALUES ('p9', 'bob', 6)",
-        Some(OpenFault::Damaged(Table::Approvals)),
-    ),
-    (
-        "INSERT INTO undo VALUES ('p1', '=', 'meta active.A s1')",
-        Some(OpenFault::Damaged(Table::Undo)),
-    ),
-    (
-        "INSERT INTO undo VALUES ('p1', '-', 'meta active.A s1')",
-        Some(OpenFault::Damaged(Table::Undo)),
-    ),
-    (
-        "DELETE FROM undo WHERE entry = 'meta active.A s1'",
-        Some(OpenFault::Damaged(Table::Undo)),
-    ),
-    (
-        "INSERT INTO paths VALUES ('db1', 'A', '1000000000000001', '5000000000000002', 'v1', 0)",
-        Some(OpenFault::Damaged(Table::Paths)),
-    ),
-    ("DELETE FROM paths", Some(OpenFault::Damaged(Table::Paths))),
-    (
-        "DELETE FROM paths; INSERT INTO approvals VALUES ('p9', 'bob', 6)",
-        Some(OpenFault::Damaged(Table::Approvals)),
-    ),
     ("DROP TABLE paths", Some(OpenFault::Store)),
-];
-
-/// The first of the statements after which another fault is told.
-fn first_wrong(
-    rt: &(impl Abort + AllocGlobal),
-    faults: &[(&'static str, Option<OpenFault>)],
-) -> Option<&'static str> {
-    for (statement, fault) in faults {
-        if fault_after(rt, statement) != *fault {
-            return Some(statement);
-        }
-    }
-    None
-}
-
-#[test]
-fn damage_is_told(rt: HostRuntime) {
-    assert_eq!(rt; first_wrong(&rt, FAULTS), None);
-}
-
-const UNSOUND_ADDRESSES: Option<OpenFault> = Some(OpenFault::Damaged(Table::Addresses));
-
-/// The same of the table of addresses, and of the order of tables around it.
-const ADDRESSES: &[(&str, Option<OpenFault>)] = &[
+    ("DROP TABLE addresses", Some(OpenFault::Store)),
+    ("CREATE TABLE extra (x TEXT) STRICT", Some(OpenFault::Store)),
     (
         "INSERT INTO addresses VALUES ('1000000000000001', '010100')",
         None,
@@ -165,62 +221,16 @@ const ADDRESSES: &[(&str, Option<OpenFault>)] = &[
         None,
     ),
     (
-        "INSERT INTO addresses VALUES ('1000000000000001', '0x0101')",
-        UNSOUND_ADDRESSES,
+        "UPDATE meta SET value = '1000000000' WHERE key = 'revision'",
+        None,
     ),
-    (
-        "INSERT INTO addresses VALUES ('1000000000000001', '0x010100')",
-        UNSOUND_ADDRESSES,
-    ),
-    (
-        "INSERT INTO addresses VALUES ('1000000000000001', '0101AB')",
-        UNSOUND_ADDRESSES,
-    ),
-    (
-        "INSERT INTO addresses VALUES ('1000000000000001', 'f00000')",
-        UNSOUND_ADDRESSES,
-    ),
-    (
-        "INSERT INTO addresses VALUES ('1000000000000001', '00ffff')",
-        UNSOUND_ADDRESSES,
-    ),
-    (
-        "INSERT INTO addresses VALUES ('1000000000000001', '')",
-        UNSOUND_ADDRESSES,
-    ),
-    (
-        "INSERT INTO addresses VALUES ('10:00:00:00:00:00:00:01', '010100')",
-        UNSOUND_ADDRESSES,
-    ),
-    (
-        "INSERT INTO addresses VALUES ('100000000000000A', '010100')",
-        UNSOUND_ADDRESSES,
-    ),
-    // No such port is known.
-    (
-        "INSERT INTO addresses VALUES ('5000000000000009', '010200')",
-        UNSOUND_ADDRESSES,
-    ),
-    // The port is known and logged in nowhere.
-    (
-        "UPDATE ports SET fabric = NULL, domain = NULL, slot = NULL WHERE wwpn = '1000000000000003'; INSERT INTO addresses VALUES ('1000000000000003', '010200')",
-        UNSOUND_ADDRESSES,
-    ),
-    (
-        "INSERT INTO addresses VALUES ('x', 'x'); UPDATE ports SET wwnn = 'x' WHERE wwpn = '1000000000000001'",
-        Some(OpenFault::Damaged(Table::Ports)),
-    ),
-    (
-        "INSERT INTO addresses VALUES ('x', 'x'); UPDATE holders SET kind = 'x'",
-        UNSOUND_ADDRESSES,
-    ),
-    ("DROP TABLE addresses", Some(OpenFault::Store)),
-    ("CREATE TABLE extra (x TEXT) STRICT", Some(OpenFault::Store)),
 ];
 
 #[test]
-fn damage_of_addresses_is_told(rt: HostRuntime) {
-    assert_eq!(rt; first_wrong(&rt, ADDRESSES), None);
+fn other_faults_are_told(rt: HostRuntime) {
+    for (statements, fault) in OTHERS {
+        assert!(rt; fault_after(&rt, statements) == *fault);
+    }
 }
 
 /// Sets the greatest revision that there may be.

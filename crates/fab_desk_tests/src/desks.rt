@@ -41,6 +41,19 @@ pub fn new_tables<S: Alter + Drop>(
     tables
 }
 
+/// How many calls were refused.
+pub fn refusals<S: Store<Global>>(store: &S) -> u64 {
+    Store::<Global>::refusals(store)
+}
+
+/// Whether a count of refused calls is as it was, or one more where a call was refused.
+pub fn is_counted(before: u64, after: u64, is_refused: bool) -> bool {
+    if is_refused {
+        return after == before.saturating_add(1);
+    }
+    after == before
+}
+
 /// A desk over the store, or why there is none, with the store.
 pub fn open<S: Store<Global>>(
     rt: &(impl Abort + AllocGlobal),

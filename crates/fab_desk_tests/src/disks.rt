@@ -14,14 +14,23 @@ pub enum Failing {
 }
 
 /// New files.
-pub fn files(alloc: Global, failing: Failing, calls: u64) -> Files<Fuse<Memory>> {
-    let (db, log) = match failing {
+pub fn new_files(alloc: Global) -> Files<Memory> {
+    Files {
+        log: Memory::new(alloc),
+        db: Memory::new(alloc),
+    }
+}
+
+/// The files, with the disk that fails after so many calls.
+pub fn fused<D: Disk>(files: Files<D>, failing: Failing, calls: u64) -> Files<Fuse<D>> {
+    let (of_db, of_log) = match failing {
         Failing::Database => (calls, u64::MAX),
         Failing::Log => (u64::MAX, calls),
     };
+    let Files { log, db } = files;
     Files {
-        log: Fuse::new(Memory::new(alloc), log),
-        db: Fuse::new(Memory::new(alloc), db),
+        log: Fuse::new(log, of_log),
+        db: Fuse::new(db, of_db),
     }
 }
 

@@ -1,11 +1,12 @@
 //! The worked lists of turns, by name: a table of names is cheaper to prove than one of lists.
 
+use fab_names::Fabric;
 use fab_test_machine::rows::{
     ACTIVE_IS_A_COPY, APPROVALS, DEFAULT_ZONE, FREEZING, LATE, NO_APPROVAL, PLACE_AND_NODE,
     PORTS_GONE, REFUSED_PLAN, SHUT, SIGNED, STAGED, THAWED, UNDONE, UNIT_CLASH, UNMAPPED,
     VOLUME_GONE, ZONES_OVERLAP,
 };
-use fab_test_machine::{FIRST, SECOND, Turn, WORLD};
+use fab_test_machine::{ADA, Ask, FIRST, SECOND, See, Turn, WORLD};
 use std::process::Abort;
 
 /// A worked list of turns.
@@ -39,12 +40,79 @@ pub enum List {
     Row15,
     /// Both plans are undone.
     Undone,
+    /// A zone of an address, which is another's for a while, and then nobody's.
+    Addressed,
+    /// An approval, and another by the same caller at a later revision.
+    SignedAgain,
 }
+
+/// The ports of the worked world, without addresses.
+const NO_ADDRESS: &str = "port_name,node_name,domain,port
+10:00:00:00:00:00:00:01,20:00:00:00:00:00:00:01,1,1
+10:00:00:00:00:00:00:02,20:00:00:00:00:00:00:02,12,5
+10:00:00:00:00:00:00:03,20:00:00:00:00:00:00:03,12,5
+50:00:00:00:00:00:00:01,50:00:00:00:00:00:00:00,1,2
+50:00:00:00:00:00:00:02,50:00:00:00:00:00:00:00,1,3
+";
+
+/// The same, where the first initiator has an address.
+const ONE_ADDRESS: &str = "port_name,node_name,domain,port,address
+10:00:00:00:00:00:00:01,20:00:00:00:00:00:00:01,1,1,010100
+10:00:00:00:00:00:00:02,20:00:00:00:00:00:00:02,12,5,
+10:00:00:00:00:00:00:03,20:00:00:00:00:00:00:03,12,5,
+50:00:00:00:00:00:00:01,50:00:00:00:00:00:00:00,1,2,
+50:00:00:00:00:00:00:02,50:00:00:00:00:00:00:00,1,3,
+";
+
+/// The same, where it has another.
+const OTHER_ADDRESS: &str = "port_name,node_name,domain,port,address
+10:00:00:00:00:00:00:01,20:00:00:00:00:00:00:01,1,1,010101
+10:00:00:00:00:00:00:02,20:00:00:00:00:00:00:02,12,5,
+10:00:00:00:00:00:00:03,20:00:00:00:00:00:00:03,12,5,
+50:00:00:00:00:00:00:01,50:00:00:00:00:00:00:00,1,2,
+50:00:00:00:00:00:00:02,50:00:00:00:00:00:00:00,1,3,
+";
+
+/// The zone's path is there while its member's address is.
+const ADDRESSED: &[Turn] = &[
+    (ADA, 0, Ask::Import(Fabric::A, ONE_ADDRESS), "changed at 8"),
+    (
+        ADA,
+        0,
+        Ask::Stage("p2", "zone.put A z1 id=010100 alias=disk\nactivate A s1\n"),
+        "staged p2 of 2",
+    ),
+    (ADA, 0, Ask::Activate("p2"), "done p2 at 9"),
+    (
+        ADA,
+        0,
+        Ask::Import(Fabric::A, OTHER_ADDRESS),
+        "changed at 10",
+    ),
+    (ADA, 0, Ask::Show(See::Paths("db1")), "paths db1"),
+    (ADA, 0, Ask::Import(Fabric::A, NO_ADDRESS), "changed at 11"),
+    (ADA, 0, Ask::Show(See::Paths("db1")), "paths db1"),
+    (
+        ADA,
+        0,
+        Ask::Rollback("p2"),
+        "done p2 at 12
++A 10:00:00:00:00:00:00:01 50:00:00:00:00:00:00:01 v1 0",
+    ),
+];
+
+/// Bob approves again after an import.
+const SIGNED_AGAIN: &[Turn] = &[
+    ("t-bob", 0, Ask::Approve("q1"), "approved q1 by 1 at 6"),
+    (ADA, 0, Ask::Import(Fabric::A, NO_ADDRESS), "changed at 7"),
+    ("t-bob", 0, Ask::Approve("q1"), "approved q1 by 1 at 7"),
+];
 
 fn turns_on_fabric_b(list: List) -> &'static [Turn] {
     match list {
         List::Staged => STAGED,
         List::Signed => SIGNED,
+        List::SignedAgain => SIGNED_AGAIN,
         List::Shut => SHUT,
         List::Freezing => FREEZING,
         List::Thawed => THAWED,
@@ -70,6 +138,7 @@ pub fn turns_of(list: List) -> &'static [Turn] {
         List::Unmapped => UNMAPPED,
         List::Row15 => VOLUME_GONE,
         List::Undone => UNDONE,
+        List::Addressed => ADDRESSED,
         _ => turns_on_fabric_b(list),
     }
 }

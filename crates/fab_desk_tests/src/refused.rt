@@ -1,7 +1,7 @@
 //! Each call of the store refused in turn. A read that the store refused is answered so, and the desk
 //! serves on; a change halts it, until it is opened again over the store that it hands out.
 
-use crate::desks::{Came, DeskOver, ask, ask_all, closed, open, opened};
+use crate::desks::{Came, DeskOver, ask, ask_all, closed, open, opened, refusals};
 use crate::lists::{List, all_turns};
 use crate::memory::tables;
 use crate::worlds::are_kept;
@@ -95,8 +95,8 @@ fn store_at_last<S: Refusing>(rt: &(impl Abort + AllocGlobal), store: S, turns: 
     closed(rt, desk)
 }
 
-/// How many calls are refused, where a desk answers these lists over a store that refuses the call
-/// after so many. The store has the machine's world then.
+/// How many calls are refused, one at most, where a desk answers these lists over a store that refuses
+/// the call after so many. The store has the machine's world then.
 fn refusals_over<S: Store<Global>>(
     rt: &(impl Abort + AllocGlobal),
     store: S,
@@ -105,10 +105,11 @@ fn refusals_over<S: Store<Global>>(
 ) -> u64 {
     let turns = all_turns(rt, lists, &[]);
     let store = store_at_last(rt, RefusingStore::new(store, calls), turns.as_slice());
-    let refusals = Store::<Global>::refusals(&store);
+    let count = refusals(&store);
+    assert!(rt; count <= 1);
     let mut inner = store.into_inner();
     assert!(rt; are_kept(rt, &mut inner, lists, &[]));
-    refusals
+    count
 }
 
 /// More calls than any list of turns makes.

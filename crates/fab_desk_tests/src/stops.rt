@@ -1,7 +1,7 @@
 //! A stop at each call of a disk: what is left is opened again, and has the rows after the requests that
 //! were answered, or after them and the one in progress.
 
-use crate::disks::{Failing, files, have_served, stop};
+use crate::disks::{Failing, fused, have_served, new_files, stop};
 use crate::files::{Then, Work, run};
 use crate::lists::{List, all_turns};
 use fab_test_machine::Turn;
@@ -10,7 +10,7 @@ use sqlite_disk::Crash;
 use std::process::Abort;
 
 /// More calls than a run makes.
-const MOST: u64 = 1000;
+pub const MOST: u64 = 1000;
 
 /// Whether a run over the new files meets no stop. What it leaves is opened again, and what is to be
 /// done then is done.
@@ -32,12 +32,8 @@ fn is_whole<D: Crash + Drop>(
 fn stop_row(rt: &(impl Abort + AllocGlobal), row: &[List], failing: Failing, then: Then) {
     let turns = all_turns(rt, row, &[]);
     for calls in 0..MOST {
-        if is_whole(
-            rt,
-            files(rt.alloc(), failing, calls),
-            turns.as_slice(),
-            then,
-        ) {
+        let files = fused(new_files(rt.alloc()), failing, calls);
+        if is_whole(rt, files, turns.as_slice(), then) {
             return;
         }
     }

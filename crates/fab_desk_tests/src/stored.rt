@@ -3,11 +3,10 @@
 
 use crate::desks::store_after;
 use crate::lists::{List, turns_of};
-use crate::memory::{tables, tables_after};
+use crate::memory::{shown, tables, tables_after};
 use crate::worlds::are_kept;
 use fab_store::Store;
 use fab_test_machine::Turn;
-use sqlite::{Connection, MemStore, Row};
 use std::alloc::Global;
 use std::process::Abort;
 
@@ -38,28 +37,9 @@ fn are_stored(rt: &(impl Abort + AllocGlobal), before: &[List], turns: &[Turn]) 
 }
 
 /// What shows the rows of paths, each as a text, in order.
-const PATHS: &str =
-    "SELECT host || ' ' || fabric || ' ' || initiator || ' ' || target || ' ' || volume || ' ' || lun FROM paths ORDER BY host, fabric, initiator, target, volume, lun";
-
-/// The texts of the rows, each on a line of its own.
-fn told(rt: &(impl Abort + AllocGlobal), rows: &[Row]) -> String {
-    let mut text = String::new(rt.alloc());
-    for row in rows {
-        let line: String = row.get(0).expect(rt, "a text");
-        write!(text, "{line}\n").expect(rt, "memory");
-    }
-    text
-}
-
-/// Whether the rows of paths are these.
-fn are_paths(
-    rt: &(impl Abort + AllocGlobal),
-    conn: &mut Connection<MemStore>,
-    wanted: &str,
-) -> bool {
-    let rows = conn.query_all(PATHS, &[]).expect(rt, "rows");
-    told(rt, rows.as_slice()).as_str() == wanted
-}
+const PATHS: &[&str] = &[
+    "SELECT host || ' ' || fabric || ' ' || initiator || ' ' || target || ' ' || volume || ' ' || lun FROM paths ORDER BY host, fabric, initiator, target, volume, lun",
+];
 
 /// Whether the rows of paths after these turns are these.
 fn have_paths(
@@ -68,8 +48,8 @@ fn have_paths(
     turns: &[Turn],
     wanted: &str,
 ) -> bool {
-    let mut conn = tables_after(rt, before, turns).into_connection();
-    are_paths(rt, &mut conn, wanted)
+    let (found, _tables) = shown(rt, tables_after(rt, before, turns), PATHS);
+    found.as_str() == wanted
 }
 
 /// What comes before a list of turns.
@@ -155,6 +135,18 @@ const CASES: &[Case] = &[
     ("row_15, unmapped", Before::FirstPlan, List::Unmapped, ""),
     ("row_15", Before::Unmapping, List::Row15, ""),
     ("row_15, undone", Before::Unmapping, List::Undone, ""),
+    (
+        "the rows of addresses",
+        Before::FirstPlan,
+        List::Addressed,
+        FIRST_PATH,
+    ),
+    (
+        "an approval given again",
+        Before::Staging,
+        List::SignedAgain,
+        "",
+    ),
 ];
 
 /// Whether the tables have the machine's world after each turn, and these paths after the last.

@@ -2,27 +2,11 @@
 //! configuration when plans are rolled back, the last one first, by one desk or each by a desk that is
 //! opened anew.
 
-use crate::desks::tables_of;
 use crate::lists::List;
-use crate::memory::{Tables, tables_after, tables_then};
+use crate::memory::{Tables, shown, tables_after, tables_then};
 use fab_names::Fabric;
 use fab_test_machine::{ADA, Ask, Turn};
-use sqlite::{Connection, MemStore};
 use std::process::Abort;
-
-/// The rows of a query, each of which is one text, on lines of their own.
-fn add_rows(
-    rt: &(impl Abort + AllocGlobal),
-    text: &mut String,
-    conn: &mut Connection<MemStore>,
-    query: &str,
-) {
-    let rows = conn.query_all(query, &[]).expect(rt, "rows");
-    for row in rows.iter() {
-        let line: String = row.get(0).expect(rt, "a text");
-        write!(text, "{line}\n").expect(rt, "memory");
-    }
-}
 
 /// The lines as one text.
 fn text_of(rt: &(impl Abort + AllocGlobal), lines: &[&str]) -> String {
@@ -34,20 +18,16 @@ fn text_of(rt: &(impl Abort + AllocGlobal), lines: &[&str]) -> String {
 }
 
 /// The tables again. Ends the test where the queries, one after the other, show other lines of them.
-fn shown(
+fn looked_at(
     rt: &(impl Abort + AllocGlobal),
     tables: Tables,
     queries: &[&str],
     lines: &[&str],
 ) -> Tables {
-    let mut conn = tables.into_connection();
-    let mut found = String::new(rt.alloc());
-    for query in queries {
-        add_rows(rt, &mut found, &mut conn, query);
-    }
+    let (found, tables) = shown(rt, tables, queries);
     let wanted = text_of(rt, lines);
     assert_eq!(rt; found.as_str(), wanted.as_str());
-    tables_of(rt, conn)
+    tables
 }
 
 /// What shows the plan, the sign and the entry of each change to undo.
@@ -107,9 +87,9 @@ const MAPPED_ENTRIES: &[&str] = &[
 #[test]
 fn undo_entries(rt: HostRuntime) {
     let permitted = tables_after(&rt, &[], PERMITTED);
-    let _tables = shown(&rt, permitted, ENTRIES, PERMITTED_ENTRIES);
+    let _tables = looked_at(&rt, permitted, ENTRIES, PERMITTED_ENTRIES);
     let mapped = tables_after(&rt, &[List::World, List::First, List::Row14], &[]);
-    let _tables = shown(&rt, mapped, ENTRIES, MAPPED_ENTRIES);
+    let _tables = looked_at(&rt, mapped, ENTRIES, MAPPED_ENTRIES);
 }
 
 /// What shows the rows of the configuration, table by table.
@@ -266,7 +246,7 @@ const WORKED: &[List] = &[List::World, List::First, List::Second];
 fn rolled_back_last_first(rt: HostRuntime) {
     for (place, lines) in STAGES.iter().enumerate() {
         let turns = THERE_AND_BACK.get(..=place).expect(&rt, "turns");
-        let _tables = shown(&rt, tables_after(&rt, WORKED, turns), CONFIG, lines);
+        let _tables = looked_at(&rt, tables_after(&rt, WORKED, turns), CONFIG, lines);
     }
 }
 
@@ -275,6 +255,6 @@ fn rolled_back_by_desks_opened_anew(rt: HostRuntime) {
     let mut tables = tables_after(&rt, WORKED, &[]);
     for (turn, lines) in THERE_AND_BACK.iter().zip(STAGES) {
         tables = tables_then(&rt, tables, &[], &[*turn]);
-        tables = shown(&rt, tables, CONFIG, lines);
+        tables = looked_at(&rt, tables, CONFIG, lines);
     }
 }

@@ -1,10 +1,10 @@
 //! Which names callers are told of each kind.
 
-use crate::stock::{ADA, CYD, EVE, caller, made, name, world};
-use fab_looks::{Kind, list, list_ports};
+use crate::stock::{CYD, EVE, STAGES, caller, made, name, world};
+use fab_looks::{Kind, list};
 use fab_names::Fabric;
 use fab_policy::Policy;
-use fab_test_machine::policy;
+use fab_test_machine::{ADA, policy};
 use fab_world::World;
 use std::alloc::Global;
 use std::process::Abort;
@@ -22,13 +22,13 @@ const CASES: &[Case] = &[
     (CYD, Kind::Arrays, &[]),
     (CYD, Kind::Volumes, &["v1"]),
     (CYD, Kind::HostGroups, &["hosts1"]),
-    (EVE, Kind::Hosts, &["db2"]),
     (EVE, Kind::Groups, &["g2"]),
-    (EVE, Kind::Plans, &["p1", "p2"]),
+    (EVE, Kind::Plans, &["p1", "p2", "p3"]),
     (EVE, Kind::Aliases(Fabric::A), &["disk"]),
     (EVE, Kind::Zones(Fabric::A), &["z1", "z3"]),
     (EVE, Kind::Sets(Fabric::A), &["s1"]),
-    (EVE, Kind::Zones(Fabric::B), &[]),
+    (EVE, Kind::Aliases(Fabric::B), &[]),
+    (EVE, Kind::Zones(Fabric::B), &["z1"]),
 ];
 
 /// Whether the caller is told just these names.
@@ -51,25 +51,13 @@ fn is_listed(
 /// Each list is as its case says.
 fn assert_lists(rt: &(impl Abort + AllocGlobal)) {
     let policy = made(rt, policy(rt.alloc()), "policy");
-    let world = world(rt);
+    let world = world(rt, STAGES);
     for case in CASES {
         assert!(rt; is_listed(rt, &policy, &world, *case));
     }
 }
 
-/// All known ports are listed.
-fn assert_ports(rt: &(impl Abort + AllocGlobal)) {
-    let world = world(rt);
-    let ports = list_ports(rt.alloc(), &world).expect(rt, "memory");
-    assert!(rt; ports.len() == 5);
-}
-
 #[test]
 fn names_are_those_of_the_caller(rt: HostRuntime) {
     assert_lists(&rt);
-}
-
-#[test]
-fn all_ports_are_listed(rt: HostRuntime) {
-    assert_ports(&rt);
 }

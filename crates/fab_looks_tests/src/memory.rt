@@ -1,6 +1,6 @@
 //! Want of memory: each request of a look is refused in turn, and it tells that or the whole answer.
 
-use crate::stock::{ADA, caller, made, name};
+use crate::stock::{caller, made, name};
 use fab_inventory::HolderKind;
 use fab_looks::{Kind, list, list_ports, told, who_told};
 use fab_looks_base::Why;
@@ -10,7 +10,7 @@ use fab_plans::trial;
 use fab_plans_text::read_plan;
 use fab_policy::{CallerId, Policy};
 use fab_test_alloc::Refusing;
-use fab_test_machine::policy;
+use fab_test_machine::{ADA, policy};
 use fab_wire_requests::port_list::read_ports;
 use fab_world::World;
 use std::alloc::Global;

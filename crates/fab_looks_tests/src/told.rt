@@ -1,7 +1,7 @@
-//! Why a host reaches a volume, and who reaches it, as callers are told.
+//! Why a host reaches a volume, as callers are told.
 
-use crate::stock::{ADA, CYD, EVE, caller, made, name, world};
-use fab_looks::{told, who_told};
+use crate::stock::{CYD, EVE, STAGES, caller, made, name, world};
+use fab_looks::told;
 use fab_looks_base::{Link, Why};
 use fab_policy::Policy;
 use fab_test_machine::policy;
@@ -9,38 +9,25 @@ use fab_world::World;
 use std::alloc::Global;
 use std::process::Abort;
 
-/// What is expected: so many paths, or the first missing link.
-#[derive(Clone, Copy)]
-enum Want {
-    Paths(usize),
-    Missing(Link),
-}
-
-/// A token, a host, a volume, and the answer.
-type Case = (&'static str, &'static str, &'static str, Want);
+/// A token, a host, a volume, and the first link that is missing, if one is.
+type Case = (&'static str, &'static str, &'static str, Option<Link>);
 
 /// What is another's is told as what is not there.
 const CASES: &[Case] = &[
-    (ADA, "db1", "v1", Want::Paths(1)),
-    (ADA, "db2", "v2", Want::Paths(2)),
-    (ADA, "db1", "v2", Want::Missing(Link::Served)),
-    (ADA, "db9", "v1", Want::Missing(Link::Host)),
-    (ADA, "arr1", "v1", Want::Missing(Link::Host)),
-    (ADA, "db1", "v9", Want::Missing(Link::Volume)),
-    (CYD, "db1", "v1", Want::Paths(1)),
-    (CYD, "db1", "v2", Want::Missing(Link::Volume)),
-    (CYD, "db1", "v9", Want::Missing(Link::Volume)),
-    (CYD, "db2", "v1", Want::Missing(Link::Host)),
-    (CYD, "db9", "v1", Want::Missing(Link::Host)),
-    (EVE, "db2", "v2", Want::Paths(2)),
-    (EVE, "db1", "v1", Want::Missing(Link::Host)),
+    (CYD, "db1", "v1", None),
+    (CYD, "db1", "v2", Some(Link::Volume)),
+    (CYD, "db1", "v9", Some(Link::Volume)),
+    (CYD, "db2", "v1", Some(Link::Host)),
+    (CYD, "db9", "v1", Some(Link::Host)),
+    (EVE, "db2", "v2", None),
+    (EVE, "db1", "v1", Some(Link::Host)),
 ];
 
-/// Whether this is the answer.
-fn is_wanted(why: &Why<Global>, want: Want) -> bool {
-    match (why, want) {
-        (Why::Reaches(paths), Want::Paths(count)) => paths.len() == count,
-        (Why::Missing(link), Want::Missing(wanted)) => *link == wanted,
+/// Whether this link is missing, or none is.
+fn is_wanted(why: &Why<Global>, missing: Option<Link>) -> bool {
+    match (why, missing) {
+        (Why::Reaches(_), None) => true,
+        (Why::Missing(link), Some(wanted)) => *link == wanted,
         _ => false,
     }
 }
@@ -61,7 +48,7 @@ fn is_told(
 /// Each case is as it says.
 fn assert_cases(rt: &(impl Abort + AllocGlobal)) {
     let policy = made(rt, policy(rt.alloc()), "policy");
-    let world = world(rt);
+    let world = world(rt, STAGES);
     for case in CASES {
         assert!(rt; is_told(rt, &policy, &world, *case));
     }
@@ -70,49 +57,4 @@ fn assert_cases(rt: &(impl Abort + AllocGlobal)) {
 #[test]
 fn others_are_not_there(rt: HostRuntime) {
     assert_cases(&rt);
-}
-
-/// A token, a volume, and the one host that is told with its paths at fabric A; or nobody.
-type Reach = (&'static str, &'static str, Option<(&'static str, usize)>);
-
-const REACHES: &[Reach] = &[
-    (ADA, "v1", Some(("db1", 1))),
-    (ADA, "v2", Some(("db2", 2))),
-    (ADA, "v9", None),
-    (CYD, "v1", Some(("db1", 1))),
-    (CYD, "v2", None),
-    (EVE, "v2", Some(("db2", 2))),
-    (EVE, "v1", None),
-];
-
-/// Whether the caller is told so.
-fn is_reached(
-    rt: &(impl Abort + AllocGlobal),
-    policy: &Policy,
-    world: &World<Global>,
-    reach: Reach,
-) -> bool {
-    let id = caller(rt, policy, reach.0);
-    let reachers = who_told(rt.alloc(), policy, world, id, &name(rt, reach.1)).expect(rt, "memory");
-    let Some((host, count)) = reach.2 else {
-        return reachers.is_empty();
-    };
-    match reachers.get(&name(rt, host)) {
-        Some(counts) => reachers.len() == 1 && counts.a == count && counts.b == 0,
-        None => false,
-    }
-}
-
-/// Each volume is reached as its case says.
-fn assert_reaches(rt: &(impl Abort + AllocGlobal)) {
-    let policy = made(rt, policy(rt.alloc()), "policy");
-    let world = world(rt);
-    for reach in REACHES {
-        assert!(rt; is_reached(rt, &policy, &world, *reach));
-    }
-}
-
-#[test]
-fn hosts_of_others_are_left_out(rt: HostRuntime) {
-    assert_reaches(&rt);
 }

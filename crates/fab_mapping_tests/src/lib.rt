@@ -1,5 +1,5 @@
-//! Mappings by example: tables of steps, of limits, of look-ups and of what is shown. Nothing here is
-//! part of the product.
+//! Mappings that are made of parts: which are sound, which groups are the same, copies, and what no step
+//! of a plan can ask for. Nothing here is part of the product.
 #![tactic(auto)]
 
 #[cfg(test)]
@@ -8,7 +8,5 @@ mod limits;
 mod shown;
 #[cfg(test)]
 mod sound;
-#[cfg(test)]
-mod steps;
 #[cfg(test)]
 mod stock;

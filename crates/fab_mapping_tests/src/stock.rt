@@ -1,6 +1,6 @@
 //! An inventory of hosts, arrays and volumes, and mappings of rows over it.
 use fab_inventory::{HolderKind, Inventory, PortRow};
-use fab_mapping::{HostGroup, Mapping, MappingFault, StorageGroup};
+use fab_mapping::{HostGroup, Mapping, StorageGroup};
 use fab_names::{Fabric, Name, Place, Wwn};
 use std::alloc::Global;
 use std::collections::{BTreeMap, BTreeSet};
@@ -35,8 +35,11 @@ pub type Row = (
     &'static str,
 );
 
+/// A storage group that is sound and fits the stock.
+pub const GOOD: Row = ("g1", "arr1", "hosts1", 1, 0, "v1");
+
 /// The port of a number.
-pub fn port(number: u64) -> Wwn {
+fn port(number: u64) -> Wwn {
     if number == 0 {
         return Wwn::new(1);
     }
@@ -156,27 +159,4 @@ fn groups_of(
 pub fn world(rt: &(impl Abort + AllocGlobal), rows: &[Row]) -> Mapping<Global> {
     let groups = groups_of(rt, rows);
     Mapping::from_maps(rt.alloc(), host_groups(rt), groups)
-}
-
-/// Puts a host group of `blue` with two hosts.
-pub fn put_two(
-    rt: &impl Abort,
-    mapping: &mut Mapping<Global>,
-    inventory: &Inventory<Global>,
-    name: Name,
-    (host, other): (&str, &str),
-) -> Result<(), MappingFault> {
-    let hosts = [named(rt, host), named(rt, other)];
-    mapping.put_host_group(name, named(rt, "blue"), &hosts, inventory)
-}
-
-/// Makes a storage group of `blue`.
-pub fn new_group(
-    rt: &impl Abort,
-    mapping: &mut Mapping<Global>,
-    inventory: &Inventory<Global>,
-    name: Name,
-    array: &str,
-) -> Result<(), MappingFault> {
-    mapping.new_group(name, named(rt, "blue"), named(rt, array), inventory)
 }

@@ -1,34 +1,10 @@
-//! The steps of a plan as they are kept: which texts are kept, for which steps, and in how many bytes.
+//! The steps of a plan as they are kept: which texts are kept, and in how many bytes.
 
-use crate::texts::{AGAIN, FIRST, PERMIT};
-use crate::worlds::steps;
 use fab_plans::PlanText;
-use fab_plans_base::{Step, are_same};
-use fab_plans_text::{is_within_limits, read_plan};
+use fab_plans_text::{Step, read_plan};
 use linked_list_allocator::LocalHeap;
 use std::alloc::Global;
 use std::process::Abort;
-
-/// The text that is kept of steps.
-pub fn kept(rt: &(impl Abort + AllocGlobal), steps: &[Step<Global>]) -> PlanText<Global> {
-    assert!(rt; is_within_limits(steps));
-    PlanText::of(rt.alloc(), steps).expect(rt, "a text")
-}
-
-/// Whether the steps of the text are kept as the text, and read again as they were.
-fn is_kept(rt: &(impl Abort + AllocGlobal), text: &str) -> bool {
-    let steps = steps(rt, text);
-    let kept = kept(rt, &steps);
-    let again = kept.steps(rt.alloc()).expect(rt, "steps");
-    kept.as_str() == text && kept.is_within_limits() && are_same(&steps, &again)
-}
-
-#[test]
-fn texts_are_kept(rt: HostRuntime) {
-    for text in [FIRST, AGAIN, PERMIT] {
-        assert!(&rt; is_kept(&rt, text));
-    }
-}
 
 #[test]
 fn no_text_keeps_no_step(rt: HostRuntime) {
@@ -60,18 +36,6 @@ fn printed_texts_are_found(rt: HostRuntime) {
     for (text, want) in FOUND {
         assert!(&rt; is_found(&rt, text) == *want);
     }
-}
-
-/// Whether the steps of two texts are kept as the same.
-fn are_kept_same(rt: &(impl Abort + AllocGlobal), text: &str, other: &str) -> bool {
-    let (steps, others) = (steps(rt, text), steps(rt, other));
-    kept(rt, &steps).is_same(&kept(rt, &others))
-}
-
-#[test]
-fn texts_are_the_same(rt: HostRuntime) {
-    assert!(&rt; are_kept_same(&rt, "sg.map g 07 v", "sg.map g 7 v\n"));
-    assert!(&rt; !are_kept_same(&rt, "sg.map g 7 v", "sg.map g 8 v"));
 }
 
 /// The text of 200 steps, each with a list of 157 names of a letter: 65,200 bytes, whose steps take

@@ -1,21 +1,18 @@
-//! Tests of plans: what plan texts make of a configuration beside an inventory, what refuses them,
-//! the states of a plan, which steps are the same, and what is kept of them.
-//! Nothing here is part of the product.
+//! Tests of plans and texts: names, plan texts, command lines, what a plan makes of a configuration
+//! beside an inventory, and what is kept of its steps. Nothing here is part of the product.
 #![tactic(auto)]
 
 #[cfg(test)]
-mod facts;
-#[cfg(test)]
 mod kept;
+#[cfg(test)]
+mod names;
+#[cfg(test)]
+mod plans;
 #[cfg(test)]
 mod refusals;
 #[cfg(test)]
 mod rows;
 #[cfg(test)]
-mod same;
-#[cfg(test)]
-mod states;
-#[cfg(test)]
-mod texts;
+mod words;
 #[cfg(test)]
 mod worlds;

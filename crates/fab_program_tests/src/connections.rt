@@ -99,10 +99,10 @@ fn serve<S: Store<Global>>(
     assert!(rt; served.is_ok());
 }
 
-/// Sends all requests, has them served over these new tables, and compares the answers.
-fn are_served<S: Alter + Drop>(
+/// Sends all requests, has them served by a desk over this store, and compares the answers.
+fn are_served<S: Store<Global>>(
     rt: &(impl Abort + AllocGlobal + Clock + Net<Listener = TcpListener, Stream = TcpStream>),
-    tables: SqlStore<S>,
+    store: S,
 ) {
     let address = SocketAddr::from((Ipv4Addr::LOCALHOST, 0));
     let listener = TcpListener::bind(rt, address).expect(rt, "a listener");
@@ -111,11 +111,19 @@ fn are_served<S: Alter + Drop>(
         let stream = sent(rt, &listener, &asking_of(rt, text));
         streams.push(stream).expect(rt, "memory");
     }
-    let mut front = front_of(rt, made(rt, tables));
+    let mut front = front_of(rt, store);
     serve(rt, &listener, &mut front);
     for (stream, text) in streams.iter().zip(ASKED) {
         is_answered(rt, stream, &asking_of(rt, text));
     }
+}
+
+/// The same over these new tables.
+fn are_served_over<S: Alter + Drop>(
+    rt: &(impl Abort + AllocGlobal + Clock + Net<Listener = TcpListener, Stream = TcpStream>),
+    tables: SqlStore<S>,
+) {
+    are_served(rt, made(rt, tables));
 }
 
 #[test]
@@ -123,5 +131,5 @@ fn connections_are_served_in_turn_by_a_desk(rt: HostRuntime) {
     let Ok(connection) = Connection::open_in_memory(rt.alloc()) else {
         panic!(rt; "no connection");
     };
-    are_served(&rt, SqlStore::new(connection, rt.alloc()));
+    are_served_over(&rt, SqlStore::new(connection, rt.alloc()));
 }

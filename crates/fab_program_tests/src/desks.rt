@@ -1,9 +1,9 @@
 //! A desk whose memory comes from an allocator of the test's, and what the tests ask of it.
 
-use super::tables::are_same;
 use fab_policy_base::{Policy, TRIAL_POLICY};
 use fab_reach_books::PathBook;
 use fab_store::{SqlStore, Store};
+use fab_test_world::is_same;
 use fab_wire::{Desk, serve_one};
 use fab_wire_base::routes::Routes;
 use fab_wire_streams::counted::Counted;
@@ -80,6 +80,15 @@ fn loaded<A: Allocator + Copy, S: Store<A>>(rt: &impl Abort, alloc: A, store: &m
     match store.load(alloc) {
         Ok(world) => world,
         Err(_) => panic!(rt; "no world"),
+    }
+}
+
+/// Ends the test unless two worlds are the same.
+fn are_same<A: Allocator + Copy>(rt: &impl Abort, alloc: A, one: &World<A>, other: &World<A>) {
+    match is_same(alloc, one, other) {
+        Ok(true) => {}
+        Ok(false) => panic!(rt; "other rows"),
+        Err(_) => panic!(rt; "memory"),
     }
 }
 

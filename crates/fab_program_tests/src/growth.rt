@@ -7,6 +7,7 @@
 
 use super::answers::{Asking, asking_of, is_given};
 use super::desks::{Asked, Trial, desk_of, made};
+use super::quiet::is_quiet;
 use fab_reach::IndexBook;
 use fab_reach_books::PathBook;
 use fab_store::{SqlStore, Store};
@@ -24,18 +25,26 @@ const MOST: u64 = 100_000;
 
 /// Whether the desk stays after a refusal, or is opened anew.
 #[derive(Clone, Copy)]
-enum Way {
+pub enum Way {
     Stays,
     Opened,
 }
 
 /// A request that is tried: what its desk was asked before it, and what becomes of the desk.
 #[derive(Clone, Copy)]
-struct Case<'t> {
+pub struct Case<'t> {
     way: Way,
     lists: &'t [&'t [&'t str]],
     texts: &'t [&'t str],
     asking: &'t Asking,
+}
+
+/// What is done with a new desk: a request is tried from a refusal on, or calls are made that take no
+/// memory.
+#[derive(Clone, Copy)]
+pub enum Task<'t> {
+    Refused(Case<'t>, u64),
+    Quiet,
 }
 
 /// What came of a request, one of whose requests for memory was to be refused.
@@ -147,48 +156,68 @@ fn tried(
     }
 }
 
-/// Tries the request at a new desk over this store, from this refusal on.
-fn try_at<R: Abort + AllocGlobal, A: Allocator + Copy, S: Store<A>, B: PathBook<A>>(
+/// Makes the calls that take no memory. The number of a request for memory, if there was one.
+fn quiet(refusing: &Refusing<Global>, desk: &impl Asked) -> Option<u64> {
+    if is_quiet(refusing, desk) {
+        None
+    } else {
+        Some(0)
+    }
+}
+
+/// Does this with the desk.
+fn done(
+    rt: &(impl Abort + AllocGlobal),
+    refusing: &Refusing<Global>,
+    desk: impl Asked,
+    task: &Task<'_>,
+) -> Option<u64> {
+    match task {
+        Task::Refused(case, first) => tried(rt, refusing, desk, case, *first),
+        Task::Quiet => quiet(refusing, &desk),
+    }
+}
+
+/// Does it with a new desk over this store.
+fn done_at<R: Abort + AllocGlobal, A: Allocator + Copy, S: Store<A>, B: PathBook<A>>(
     rt: &R,
     alloc: A,
     refusing: &Refusing<Global>,
     store: S,
-    case: &Case<'_>,
-    first: u64,
+    task: &Task<'_>,
 ) -> Option<u64> {
     let desk: Trial<A, S, B> = desk_of(rt, alloc, store);
-    tried(rt, refusing, desk, case, first)
+    done(rt, refusing, desk, task)
 }
 
 /// The same over these new tables, with the book of ports.
-fn try_over<R: Abort + AllocGlobal, S: Alter + Drop>(
+fn done_over<R: Abort + AllocGlobal, S: Alter + Drop>(
     rt: &R,
     refusing: &Refusing<Global>,
     tables: SqlStore<S>,
-    case: &Case<'_>,
-    first: u64,
+    task: &Task<'_>,
 ) -> Option<u64> {
     let tables = made(rt, tables);
-    try_at::<R, &Refusing<Global>, SqlStore<S>, IndexBook<&Refusing<Global>>>(
-        rt, refusing, refusing, tables, case, first,
+    done_at::<R, &Refusing<Global>, SqlStore<S>, IndexBook<&Refusing<Global>>>(
+        rt, refusing, refusing, tables, task,
     )
 }
 
-/// Tries the request at a new desk, from this refusal on.
-fn try_from(rt: &(impl Abort + AllocGlobal), case: &Case<'_>, first: u64) -> Option<u64> {
+/// Does it with a new desk in memory.
+pub fn done_anew(rt: &(impl Abort + AllocGlobal), task: &Task<'_>) -> Option<u64> {
     let refusing = Refusing::new(rt.alloc());
     let Ok(connection) = Connection::open_in_memory(rt.alloc()) else {
         panic!(rt; "no connection");
     };
     let tables = SqlStore::new(connection, rt.alloc());
-    try_over(rt, &refusing, tables, case, first)
+    done_over(rt, &refusing, tables, task)
 }
 
 /// Tries the request with each of its requests for memory refused.
 fn try_case(rt: &(impl Abort + AllocGlobal), case: &Case<'_>) {
     let mut first = 0;
     for _ in 0..MOST {
-        match try_from(rt, case, first) {
+        match done_anew(rt, &Task::Refused(*case, first)) {
             None => return,
             Some(next) => first = next,
         }

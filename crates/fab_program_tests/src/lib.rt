@@ -22,6 +22,4 @@ mod quiet;
 #[cfg(test)]
 mod runs;
 #[cfg(test)]
-mod tables;
-#[cfg(test)]
 mod unsound;

@@ -176,6 +176,24 @@ const STATUSES: &[Run<'static>] = &[
         ..QUIET
     },
     Run {
+        words: "sandesk paths --db status.db --policy status.toml --token t-ada --host db9",
+        output: "{\"code\":9,\"error\":\"not-found\"}\n",
+        status: 1,
+        ..QUIET
+    },
+    Run {
+        words: "sandesk report --db status.db --policy status.toml --token t-ada --host db9",
+        output: "{\"code\":9,\"error\":\"not-found\"}\n",
+        status: 1,
+        ..QUIET
+    },
+    Run {
+        words: "sandesk export --db status.db --policy status.toml --token t-zed --fabric A",
+        output: "{\"code\":1,\"error\":\"no-caller\"}\n",
+        status: 1,
+        ..QUIET
+    },
+    Run {
         words: "sandesk once --db status.db",
         errors: "sandesk: words\n",
         status: 2,

@@ -6,178 +6,320 @@ ghost use Rattle.fab_reach_base.specs.Views.{seen};
 use crate::books::assert_delta;
 use crate::steps::{Act, Item, change, empty};
 use crate::stock::{
-    DISK, FIRST_INITIATOR, FIRST_TARGET, G1, G3, HOSTS1, S1, S2, SECOND_TARGET, V2, Z1, Z2, list,
-    stock,
+    DB2, DISK, FIRST_INITIATOR, FIRST_TARGET, G1, G2, G3, HOSTS1, HOSTS2, Listed, S1, S2,
+    SECOND_INITIATOR, SECOND_TARGET, THIRD_INITIATOR, V2, Z1, Z2, Z3, list_all, stock,
 };
 use crate::ways::Ways;
 use fab_inventory::Inventory;
+use fab_names::Fabric;
 use fab_reach::IndexBook;
 use fab_reach_base::{Config, View};
 use fab_reach_books::{PathBook, ViewSight, row_diff};
 use std::alloc::Global;
 use std::process::Abort;
 
-/// How many ports the port list of fabric A has.
-const ALL: usize = 5;
+/// What is done: a fabric lists ports, or acts are carried out.
+#[derive(Clone, Copy)]
+enum Deed {
+    Listed(Fabric, &'static [Listed]),
+    Acts(&'static [Act]),
+}
 
-/// What is before a step, its acts, how many ports are listed by it, how many pairs it asks about, how
-/// many it affects, and what it gains and loses.
-struct Case {
-    before: &'static [Act],
-    acts: &'static [Act],
+/// A step, how many pairs a book asks about by it, how many it affects, and what it gains and loses.
+#[derive(Clone, Copy)]
+struct Turn {
+    deed: Deed,
     asked: u64,
     affected: u64,
-    listed: usize,
     gained: Ways,
     lost: Ways,
 }
 
-/// The worked rows on zones, on default zones and on storage groups; a port list that is a header alone,
-/// and one that is as the list before.
-const CASES: &[Case] = &[
-    Case {
-        before: &[],
-        acts: &[Act::First],
-        asked: 1,
-        affected: 4,
-        listed: ALL,
-        gained: Ways::One,
-        lost: Ways::None,
-    },
-    Case {
-        before: &[Act::First],
-        acts: &[Act::Alias(DISK, SECOND_TARGET)],
+/// The first plan.
+const FIRST: Turn = Turn {
+    deed: Deed::Acts(&[Act::First]),
+    asked: 1,
+    affected: 4,
+    gained: Ways::One,
+    lost: Ways::None,
+};
+
+/// What is active is a copy, until it is activated again.
+const ACTIVE_IS_A_COPY: &[Turn] = &[
+    FIRST,
+    Turn {
+        deed: Deed::Acts(&[Act::Alias(DISK, SECOND_TARGET)]),
         asked: 0,
         affected: 0,
-        listed: ALL,
         gained: Ways::None,
         lost: Ways::None,
     },
-    Case {
-        before: &[Act::First, Act::Alias(DISK, SECOND_TARGET)],
-        acts: &[Act::Activate(S1)],
+    Turn {
+        deed: Deed::Acts(&[Act::Activate(S1)]),
         asked: 1,
         affected: 6,
-        listed: ALL,
-        gained: Ways::None,
-        lost: Ways::One,
-    },
-    Case {
-        before: &[Act::First],
-        acts: &[
-            Act::Zone(Z2, Item::Port(FIRST_INITIATOR), Item::Port(FIRST_TARGET)),
-            Act::Set(S1, Z1, Z2),
-            Act::Activate(S1),
-        ],
-        asked: 1,
-        affected: 4,
-        listed: ALL,
-        gained: Ways::None,
-        lost: Ways::None,
-    },
-    Case {
-        before: &[
-            Act::First,
-            Act::Zone(Z2, Item::Port(FIRST_INITIATOR), Item::Port(FIRST_TARGET)),
-            Act::Set(S1, Z1, Z2),
-            Act::Activate(S1),
-        ],
-        acts: &[Act::Set(S2, Z2, Z2), Act::Activate(S2)],
-        asked: 1,
-        affected: 4,
-        listed: ALL,
-        gained: Ways::None,
-        lost: Ways::None,
-    },
-    Case {
-        before: &[Act::First],
-        acts: &[Act::Permit, Act::Target(G1, SECOND_TARGET)],
-        asked: 1,
-        affected: 6,
-        listed: ALL,
-        gained: Ways::None,
-        lost: Ways::None,
-    },
-    Case {
-        before: &[Act::First, Act::Permit, Act::Target(G1, SECOND_TARGET)],
-        acts: &[
-            Act::Zone(Z1, Item::Alias(DISK), Item::Alias(DISK)),
-            Act::Activate(S1),
-        ],
-        asked: 2,
-        affected: 2,
-        listed: ALL,
-        gained: Ways::OtherTarget,
-        lost: Ways::One,
-    },
-    Case {
-        before: &[Act::First],
-        acts: &[Act::Second],
-        asked: 3,
-        affected: 5,
-        listed: ALL,
-        gained: Ways::Second,
-        lost: Ways::None,
-    },
-    Case {
-        before: &[Act::First],
-        acts: &[
-            Act::Group(G3, HOSTS1),
-            Act::Target(G3, FIRST_TARGET),
-            Act::Map(G3, 0, V2),
-            Act::Expose(G3),
-            Act::Unmap(G1, 0),
-        ],
-        asked: 1,
-        affected: 1,
-        listed: ALL,
-        gained: Ways::OtherVolume,
-        lost: Ways::One,
-    },
-    Case {
-        before: &[Act::First],
-        acts: &[Act::Copied],
-        asked: 0,
-        affected: 0,
-        listed: ALL,
-        gained: Ways::None,
-        lost: Ways::None,
-    },
-    Case {
-        before: &[Act::First],
-        acts: &[],
-        asked: 1,
-        affected: 6,
-        listed: 0,
         gained: Ways::None,
         lost: Ways::One,
     },
 ];
 
-/// The configuration after these acts.
-pub fn changed(
-    rt: &(impl Abort + AllocGlobal),
-    inventory: &Inventory<Global>,
-    config: &Config<Global>,
-    acts: &[Act],
-) -> Config<Global> {
-    let mut config = config.copy().expect(rt, "a copy");
-    for act in acts {
-        change(&mut config, rt, inventory, *act);
-    }
-    config
-}
+/// Zones overlap, and one of them is enough.
+const ZONES_OVERLAP: &[Turn] = &[
+    FIRST,
+    Turn {
+        deed: Deed::Acts(&[
+            Act::Zone(Z2, Item::Port(FIRST_INITIATOR), Item::Port(FIRST_TARGET)),
+            Act::Set(S1, Z1, Z2),
+            Act::Activate(S1),
+        ]),
+        asked: 1,
+        affected: 4,
+        gained: Ways::None,
+        lost: Ways::None,
+    },
+    Turn {
+        deed: Deed::Acts(&[Act::Set(S2, Z2, Z2), Act::Activate(S2)]),
+        asked: 1,
+        affected: 4,
+        gained: Ways::None,
+        lost: Ways::None,
+    },
+];
 
-/// The inventory after an import of the first so many ports into fabric A.
-fn imported(
-    rt: &(impl Abort + AllocGlobal),
-    inventory: &Inventory<Global>,
-    count: usize,
-) -> Inventory<Global> {
-    let mut after = inventory.copy().expect(rt, "a copy");
-    list(&mut after, rt, count);
-    after
-}
+/// A port that is in a zone is not in the default zone.
+const DEFAULT_ZONE: &[Turn] = &[
+    FIRST,
+    Turn {
+        deed: Deed::Acts(&[Act::Permit, Act::Target(G1, SECOND_TARGET)]),
+        asked: 1,
+        affected: 6,
+        gained: Ways::None,
+        lost: Ways::None,
+    },
+    Turn {
+        deed: Deed::Acts(&[
+            Act::Zone(Z1, Item::Alias(DISK), Item::Alias(DISK)),
+            Act::Activate(S1),
+        ]),
+        asked: 2,
+        affected: 2,
+        gained: Ways::OtherTarget,
+        lost: Ways::One,
+    },
+];
+
+/// A place stands for all ports that are logged in there; and an equal world.
+const PLACE: &[Turn] = &[
+    FIRST,
+    Turn {
+        deed: Deed::Acts(&[Act::Second]),
+        asked: 3,
+        affected: 5,
+        gained: Ways::Second,
+        lost: Ways::None,
+    },
+    Turn {
+        deed: Deed::Acts(&[Act::Copied]),
+        asked: 0,
+        affected: 0,
+        gained: Ways::None,
+        lost: Ways::None,
+    },
+];
+
+/// Another volume at the host's unit, by another group.
+const ANOTHER_VOLUME: &[Turn] = &[
+    FIRST,
+    Turn {
+        deed: Deed::Acts(&[
+            Act::Group(G3, HOSTS1),
+            Act::Target(G3, FIRST_TARGET),
+            Act::Map(G3, 0, V2),
+            Act::Expose(G3),
+            Act::Unmap(G1, 0),
+        ]),
+        asked: 1,
+        affected: 1,
+        gained: Ways::OtherVolume,
+        lost: Ways::One,
+    },
+];
+
+/// An empty list takes all ports of its fabric out.
+const PORTS_GONE: &[Turn] = &[
+    FIRST,
+    Turn {
+        deed: Deed::Listed(Fabric::A, &[]),
+        asked: 1,
+        affected: 6,
+        gained: Ways::None,
+        lost: Ways::One,
+    },
+];
+
+/// The initiator of a zone is told by its address, which port lists tell, tell again in another way, change
+/// and leave out; then the zone is as it was.
+const BY_ADDRESS: &[Turn] = &[
+    FIRST,
+    Turn {
+        deed: Deed::Listed(
+            Fabric::A,
+            &[
+                (FIRST_INITIATOR, Some("010100")),
+                (SECOND_INITIATOR, None),
+                (THIRD_INITIATOR, None),
+                (FIRST_TARGET, None),
+                (SECOND_TARGET, None),
+            ],
+        ),
+        asked: 1,
+        affected: 2,
+        gained: Ways::None,
+        lost: Ways::None,
+    },
+    Turn {
+        deed: Deed::Listed(
+            Fabric::A,
+            &[
+                (FIRST_INITIATOR, Some("0x010100")),
+                (SECOND_INITIATOR, None),
+                (THIRD_INITIATOR, None),
+                (FIRST_TARGET, None),
+                (SECOND_TARGET, None),
+            ],
+        ),
+        asked: 0,
+        affected: 0,
+        gained: Ways::None,
+        lost: Ways::None,
+    },
+    Turn {
+        deed: Deed::Acts(&[
+            Act::Zone(Z1, Item::Address("010100"), Item::Alias(DISK)),
+            Act::Activate(S1),
+        ]),
+        asked: 0,
+        affected: 0,
+        gained: Ways::None,
+        lost: Ways::None,
+    },
+    Turn {
+        deed: Deed::Listed(
+            Fabric::A,
+            &[
+                (FIRST_INITIATOR, Some("010101")),
+                (SECOND_INITIATOR, None),
+                (THIRD_INITIATOR, None),
+                (FIRST_TARGET, None),
+                (SECOND_TARGET, None),
+            ],
+        ),
+        asked: 1,
+        affected: 2,
+        gained: Ways::None,
+        lost: Ways::One,
+    },
+    Turn {
+        deed: Deed::Listed(
+            Fabric::A,
+            &[
+                (FIRST_INITIATOR, None),
+                (SECOND_INITIATOR, None),
+                (THIRD_INITIATOR, None),
+                (FIRST_TARGET, None),
+                (SECOND_TARGET, None),
+            ],
+        ),
+        asked: 1,
+        affected: 2,
+        gained: Ways::None,
+        lost: Ways::None,
+    },
+    Turn {
+        deed: Deed::Acts(&[
+            Act::Zone(Z1, Item::Port(FIRST_INITIATOR), Item::Alias(DISK)),
+            Act::Activate(S1),
+        ]),
+        asked: 1,
+        affected: 2,
+        gained: Ways::One,
+        lost: Ways::None,
+    },
+];
+
+/// Two ports have one address; then another has it in the place of one of them, and the last of them has it
+/// in the other fabric.
+const SHARED: &[Turn] = &[
+    FIRST,
+    Turn {
+        deed: Deed::Listed(
+            Fabric::A,
+            &[
+                (FIRST_INITIATOR, Some("010100")),
+                (SECOND_INITIATOR, Some("ef0001")),
+                (THIRD_INITIATOR, Some("ef0001")),
+                (FIRST_TARGET, Some("020200")),
+                (SECOND_TARGET, None),
+            ],
+        ),
+        asked: 1,
+        affected: 6,
+        gained: Ways::None,
+        lost: Ways::None,
+    },
+    Turn {
+        deed: Deed::Acts(&[
+            Act::Zone(Z3, Item::Address("ef0001"), Item::Address("020200")),
+            Act::Set(S1, Z1, Z3),
+            Act::Activate(S1),
+            Act::Hosts(HOSTS2, DB2),
+            Act::Group(G2, HOSTS2),
+            Act::Target(G2, FIRST_TARGET),
+            Act::Target(G2, SECOND_TARGET),
+            Act::Map(G2, 0, V2),
+            Act::Expose(G2),
+        ]),
+        asked: 5,
+        affected: 5,
+        gained: Ways::Second,
+        lost: Ways::None,
+    },
+    Turn {
+        deed: Deed::Listed(
+            Fabric::A,
+            &[
+                (FIRST_INITIATOR, Some("010100")),
+                (SECOND_INITIATOR, Some("ef0001")),
+                (THIRD_INITIATOR, None),
+                (FIRST_TARGET, Some("020200")),
+                (SECOND_TARGET, Some("ef0001")),
+            ],
+        ),
+        asked: 3,
+        affected: 4,
+        gained: Ways::SecondFar,
+        lost: Ways::Third,
+    },
+    Turn {
+        deed: Deed::Listed(Fabric::B, &[(SECOND_INITIATOR, Some("ef0001"))]),
+        asked: 2,
+        affected: 2,
+        gained: Ways::None,
+        lost: Ways::SecondNearAndFar,
+    },
+];
+
+/// Steps from an empty configuration on, table by table.
+const TABLES: &[&[Turn]] = &[
+    ACTIVE_IS_A_COPY,
+    ZONES_OVERLAP,
+    DEFAULT_ZONE,
+    PLACE,
+    ANOTHER_VOLUME,
+    PORTS_GONE,
+    BY_ADDRESS,
+    SHARED,
+];
 
 /// A book that stands at the first world makes the step to the second ready, and drops it.
 pub fn assert_tried<B: PathBook<Global>>(
@@ -200,7 +342,7 @@ pub fn assert_tried<B: PathBook<Global>>(
 
 /// A book that is opened at the first world is led to the second: the step is tried first. Gives how
 /// many questions each of both was.
-pub fn questions<B: PathBook<Global>>(
+fn questions<B: PathBook<Global>>(
     rt: &(impl Abort + AllocGlobal),
     before: &View<'_, Global>,
     after: &View<'_, Global>,
@@ -217,43 +359,94 @@ pub fn questions<B: PathBook<Global>>(
     (tried, book.asked())
 }
 
-/// The step from one world to the other asks about as many pairs as the case says, where it is tried and
-/// where it is taken.
-fn assert_asked(
+/// The step of the turn asks about as many pairs as the turn says, where it is tried and where it is
+/// taken.
+fn assert_turn(
     rt: &(impl Abort + AllocGlobal),
     before: &View<'_, Global>,
     after: &View<'_, Global>,
-    case: &Case,
+    turn: &Turn,
 ) {
-    let lists = (case.gained, case.lost);
+    let lists = (turn.gained, turn.lost);
     let asked = questions::<IndexBook<Global>>(rt, before, after, lists);
-    assert!(rt; asked.0 == case.asked);
-    assert!(rt; asked.1 == case.asked.saturating_add(case.asked));
-    assert!(rt; asked.0 <= case.affected);
+    assert!(rt; asked.0 == turn.asked);
+    assert!(rt; asked.1 == turn.asked.saturating_add(turn.asked));
+    assert!(rt; asked.0 <= turn.affected);
 }
 
-/// The same of the step of the case, from one inventory to the other.
-fn assert_step(
+/// The inventory after the deed.
+fn inventory_after(
     rt: &(impl Abort + AllocGlobal),
-    old: &Inventory<Global>,
-    new: &Inventory<Global>,
-    case: &Case,
-) {
-    let before = changed(rt, old, &empty(rt.alloc()), case.before);
-    let after = changed(rt, old, &before, case.acts);
-    assert_asked(rt, &View::of(old, &before), &View::of(new, &after), case);
+    inventory: &Inventory<Global>,
+    deed: Deed,
+) -> Inventory<Global> {
+    let mut after = inventory.copy().expect(rt, "a copy");
+    if let Deed::Listed(fabric, ports) = deed {
+        list_all(&mut after, rt, fabric, ports);
+    }
+    after
 }
 
-/// The same of the case.
-fn assert_case(rt: &(impl Abort + AllocGlobal), case: &Case) {
-    let old = stock(rt);
-    let new = imported(rt, &old, case.listed);
-    assert_step(rt, &old, &new, case);
+/// The configuration after these acts.
+fn changed(
+    rt: &(impl Abort + AllocGlobal),
+    inventory: &Inventory<Global>,
+    config: &Config<Global>,
+    acts: &[Act],
+) -> Config<Global> {
+    let mut config = config.copy().expect(rt, "a copy");
+    for act in acts {
+        change(&mut config, rt, inventory, *act);
+    }
+    config
+}
+
+/// The configuration after the deed.
+fn config_after(
+    rt: &(impl Abort + AllocGlobal),
+    inventory: &Inventory<Global>,
+    config: &Config<Global>,
+    deed: Deed,
+) -> Config<Global> {
+    let acts: &[Act] = match deed {
+        Deed::Listed(..) => &[],
+        Deed::Acts(acts) => acts,
+    };
+    changed(rt, inventory, config, acts)
+}
+
+/// A book is led through a turn. Gives what is after it.
+fn led(
+    rt: &(impl Abort + AllocGlobal),
+    inventory: &Inventory<Global>,
+    config: &Config<Global>,
+    turn: &Turn,
+) -> (Inventory<Global>, Config<Global>) {
+    let new_config = config_after(rt, inventory, config, turn.deed);
+    let new_inventory = inventory_after(rt, inventory, turn.deed);
+    assert_turn(
+        rt,
+        &View::of(inventory, config),
+        &View::of(&new_inventory, &new_config),
+        turn,
+    );
+    (new_inventory, new_config)
+}
+
+/// Books are led through the turns of a table, from an empty configuration on.
+fn assert_turns(rt: &(impl Abort + AllocGlobal), turns: &[Turn]) {
+    let mut inventory = stock(rt);
+    let mut config = empty(rt.alloc());
+    for turn in turns {
+        let (new_inventory, new_config) = led(rt, &inventory, &config, turn);
+        inventory = new_inventory;
+        config = new_config;
+    }
 }
 
 #[test]
 fn meter_bounds(rt: HostRuntime) {
-    for case in CASES {
-        assert_case(&rt, case);
+    for turns in TABLES {
+        assert_turns(&rt, turns);
     }
 }

@@ -1,8 +1,8 @@
-//! Tests of paths, of the links of a way, and of who reaches a volume, over worlds that are built call by call. Nothing here is part of the product.
+//! Tests of books of paths, of how many pairs a step asks about, of the limit on paths, of the links of a
+//! way, and of who reaches a volume, over worlds that are built call by call. What is said by requests and
+//! answers alone is recorded in `fab_wire_conformance`. Nothing here is part of the product.
 #![tactic(auto)]
 
-#[cfg(test)]
-mod addresses;
 #[cfg(test)]
 mod books;
 #[cfg(test)]
@@ -15,8 +15,6 @@ mod links;
 mod places;
 #[cfg(test)]
 mod reachers;
-#[cfg(test)]
-mod rows;
 #[cfg(test)]
 mod steps;
 #[cfg(test)]

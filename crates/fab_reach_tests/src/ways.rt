@@ -33,47 +33,27 @@ pub enum Ways {
     Third,
     /// Those of the second host from its first port to both targets.
     SecondNearAndFar,
-    /// Those of both hosts.
-    Both,
     /// That of the first host to the first volume at unit 5.
     UnitFive,
     /// Those of the first host to the first volume at units 0 and 5.
     TwoUnits,
-    /// The same, and that to the second volume at unit 1.
-    Units,
 }
 
 /// The path of this number, if there are so many.
 fn way(ways: Ways, number: usize) -> Option<Way> {
     match (ways, number) {
-        (Ways::One | Ways::Both | Ways::TwoUnits | Ways::Units, 0) => Some(ONE),
+        (Ways::One | Ways::TwoUnits, 0) => Some(ONE),
         (Ways::OtherTarget, 0) => Some((FIRST_INITIATOR, SECOND_TARGET, V1, 0)),
         (Ways::OtherVolume, 0) => Some((FIRST_INITIATOR, FIRST_TARGET, V2, 0)),
-        (Ways::Second | Ways::SecondNearAndFar, 0) | (Ways::Both, 1) => Some((
-            SECOND_INITIATOR,
-            FIRST_TARGET,
-            V2,
-            0,
-        )),
+        (Ways::Second | Ways::SecondNearAndFar, 0) => Some((SECOND_INITIATOR, FIRST_TARGET, V2, 0)),
         (Ways::SecondFar, 0) | (Ways::SecondNearAndFar, 1) => Some((
             SECOND_INITIATOR,
             SECOND_TARGET,
             V2,
             0,
         )),
-        (Ways::Third, 0) | (Ways::Second, 1) | (Ways::Both, 2) => Some((
-            THIRD_INITIATOR,
-            FIRST_TARGET,
-            V2,
-            0,
-        )),
-        (Ways::UnitFive, 0) | (Ways::TwoUnits | Ways::Units, 1) => Some((
-            FIRST_INITIATOR,
-            FIRST_TARGET,
-            V1,
-            5,
-        )),
-        (Ways::Units, 2) => Some((FIRST_INITIATOR, FIRST_TARGET, V2, 1)),
+        (Ways::Third, 0) | (Ways::Second, 1) => Some((THIRD_INITIATOR, FIRST_TARGET, V2, 0)),
+        (Ways::UnitFive, 0) | (Ways::TwoUnits, 1) => Some((FIRST_INITIATOR, FIRST_TARGET, V1, 5)),
         _ => None,
     }
 }

@@ -1,18 +1,14 @@
-//! The world of the rows, and the table that is named where there is none.
+//! The table that is named where rows are no world's.
 
 use crate::edits::{Edit, apply_all};
-use crate::lines::{Line, are, name};
-use crate::records::CONFIG;
-use crate::stock::{FIRST_INITIATOR, FIRST_TARGET, SECOND_TARGET, stock};
+use crate::lines::Line;
+use crate::stock::{FIRST_INITIATOR, FIRST_TARGET, SECOND_TARGET};
 use crate::tables::tables;
 use fab_inventory::HolderKind::{Array, Host};
-use fab_inventory::Inventory;
 use fab_names::Fabric::A;
-use fab_reach_base::Config;
 use fab_store_load::{LoadFault, Table};
-use fab_store_rows::{PlanState, Sign, TableRows, config_rows};
-use fab_store_world::{InventoryLists, are_path_rows, inventory_difference, world_of};
-use fab_world::{KeptPlan, World};
+use fab_store_rows::{Sign, TableRows};
+use fab_store_world::world_of;
 use std::alloc::Global;
 use std::process::Abort;
 
@@ -35,6 +31,10 @@ const META: &[Damage] = &[
 const INVENTORY: &[Damage] = &[
     (&[Edit::Port], Some(Table::Ports)),
     (&[Edit::Address(FIRST_TARGET)], None),
+    (
+        &[Edit::Address(FIRST_TARGET), Edit::Address(FIRST_TARGET)],
+        None,
+    ),
     (&[Edit::Address(FIRST_INITIATOR)], Some(Table::Addresses)),
     (&[Edit::Address(9)], Some(Table::Addresses)),
     (&[Edit::LogOut, Edit::NoAddress], Some(Table::Paths)),
@@ -49,20 +49,21 @@ const INVENTORY: &[Damage] = &[
     (&[Edit::Volume("arr9")], Some(Table::Volumes)),
     (&[Edit::Volume("db1")], Some(Table::Volumes)),
     (&[Edit::Volume("arr1")], None),
+    (
+        &[
+            Edit::Holder("arr2", Array),
+            Edit::Volume("arr1"),
+            Edit::Volume("arr2"),
+        ],
+        Some(Table::Volumes),
+    ),
 ];
 
+/// Configurations that do not fit the inventory, and some that are none.
 const CONFIGURATION: &[Damage] = &[
-    (
-        &[Edit::Config(16, Line::AliasAlias("tape", "disk"))],
-        Some(Table::Zoning),
-    ),
     (
         &[Edit::Config(16, Line::Set("s1", "z9"))],
         Some(Table::Zoning),
-    ),
-    (
-        &[Edit::Config(16, Line::ActiveAlias("z1", "disk"))],
-        Some(Table::Active),
     ),
     (
         &[Edit::Config(0, Line::NoActiveSet(A))],
@@ -94,10 +95,34 @@ const CONFIGURATION: &[Damage] = &[
     ),
 ];
 
-const RECORDS: &[Damage] = &[
-    (&[Edit::Plan("deactivate A", 0)], Some(Table::Plans)),
-    (&[Edit::Plan("deactivate A\n", 2)], Some(Table::Plans)),
+/// The printed form of a plan.
+const LONG: &str =
+    "default A permit\nsg.map g1 7 v1\nalias.put A a dp=1,2 wwpn=50:00:00:00:00:00:00:01\n";
+
+const PLANS: &[Damage] = &[
     (&[Edit::Plan("deactivate A\n", 0)], None),
+    (&[Edit::Plan(LONG, 0)], None),
+    (&[Edit::Plan("", 0)], Some(Table::Plans)),
+    (&[Edit::Plan("deactivate A", 0)], Some(Table::Plans)),
+    (&[Edit::Plan("deactivate  A\n", 0)], Some(Table::Plans)),
+    (&[Edit::Plan("deactivate A\n\n", 0)], Some(Table::Plans)),
+    (&[Edit::Plan("deactivate C\n", 0)], Some(Table::Plans)),
+    (&[Edit::Plan("sg.map g1 007 v1\n", 0)], Some(Table::Plans)),
+    (&[Edit::Plan("deactivate A\n", 2)], Some(Table::Plans)),
+    (
+        &[
+            Edit::Plan("deactivate A\n", 0),
+            Edit::Plan("deactivate A\n", 0),
+        ],
+        Some(Table::Plans),
+    ),
+    (
+        &[Edit::Plan("deactivate A\n", 0), Edit::Plan(LONG, 0)],
+        Some(Table::Plans),
+    ),
+];
+
+const RECORDS: &[Damage] = &[
     (&[Edit::Approval("p9", 6)], Some(Table::Approvals)),
     (&[Edit::Approval("p1", 5)], Some(Table::Approvals)),
     (
@@ -109,6 +134,13 @@ const RECORDS: &[Damage] = &[
     ),
     (
         &[Edit::Undo(14, "p9", Sign::Added, SAME)],
+        Some(Table::Undo),
+    ),
+    (
+        &[
+            Edit::Plan("deactivate A\n", 0),
+            Edit::Undo(14, "p2", Sign::Added, SAME),
+        ],
         Some(Table::Undo),
     ),
     (&[Edit::Undo(0, "p1", Sign::Added, SAME)], Some(Table::Undo)),
@@ -207,8 +239,12 @@ fn configurations_are_told(rt: &(impl Abort + AllocGlobal)) {
     are_told(rt, "configurations", CONFIGURATION);
 }
 
-fn plans_and_paths_are_told(rt: &(impl Abort + AllocGlobal)) {
-    are_told(rt, "plans and paths", RECORDS);
+fn plans_are_told(rt: &(impl Abort + AllocGlobal)) {
+    are_told(rt, "plans", PLANS);
+}
+
+fn records_are_told(rt: &(impl Abort + AllocGlobal)) {
+    are_told(rt, "approvals, changes and paths", RECORDS);
 }
 
 fn first_of_several_is_told(rt: &(impl Abort + AllocGlobal)) {
@@ -220,83 +256,7 @@ fn damage_is_named(rt: HostRuntime) {
     settings_are_told(&rt);
     inventories_are_told(&rt);
     configurations_are_told(&rt);
-    plans_and_paths_are_told(&rt);
+    plans_are_told(&rt);
+    records_are_told(&rt);
     first_of_several_is_told(&rt);
-}
-
-/// Whether there is no row.
-fn is_empty(lists: &InventoryLists<Global>) -> bool {
-    lists.ports.is_empty()
-        && lists.entries.is_empty()
-        && lists.addresses.is_empty()
-        && lists.holders.is_empty()
-        && lists.volumes.is_empty()
-}
-
-/// Whether the inventory is that of the rows.
-fn has_inventory(rt: &(impl Abort + AllocGlobal), inventory: &Inventory<Global>) -> bool {
-    let found = inventory_difference(rt.alloc(), inventory, &stock(rt)).expect(rt, "memory");
-    is_empty(&found.taken) && is_empty(&found.added)
-}
-
-fn has_config(rt: &(impl Abort + AllocGlobal), config: &Config<Global>) -> bool {
-    let rows = config_rows(rt.alloc(), config).expect(rt, "memory");
-    are(rt, rows.as_slice(), CONFIG)
-}
-
-fn has_paths(
-    rt: &(impl Abort + AllocGlobal),
-    world: &World<Global>,
-    tables: &TableRows<Global>,
-) -> bool {
-    let rows = tables.paths.as_slice();
-    are_path_rows(rt.alloc(), &world.inventory, &world.config, rows).expect(rt, "paths")
-}
-
-/// Whether the plan is ada's, active, of ten steps, with bob's approval, and its activation took one
-/// row away and added thirteen.
-fn is_first(rt: &impl Abort, kept: &KeptPlan<Global>) -> bool {
-    let plan = kept.plan();
-    if plan.author != name(rt, "ada") || kept.state() != PlanState::Active {
-        return false;
-    }
-    if plan.text.as_str().lines().count() != 10
-        || plan.approvals.get(&name(rt, "bob")) != Some(&6)
-    {
-        return false;
-    }
-    match kept.undo() {
-        Some(change) => change.taken.len() == 1 && change.added.len() == 13,
-        None => false,
-    }
-}
-
-/// Whether the world has the one plan, which is in force, at revision 7.
-fn has_plan(rt: &impl Abort, world: &World<Global>) -> bool {
-    let p1 = name(rt, "p1");
-    if world.plans.len() != 1 || world.revision != 7 {
-        return false;
-    }
-    if world.order.len() != 1 || world.order.get(0) != Some(&p1) {
-        return false;
-    }
-    match world.plans.get(&p1) {
-        Some(kept) => is_first(rt, kept),
-        None => false,
-    }
-}
-
-/// The world of the rows.
-pub fn restored(rt: &(impl Abort + AllocGlobal), tables: &TableRows<Global>) -> World<Global> {
-    world_of(rt.alloc(), tables).expect(rt, "a world")
-}
-
-#[test]
-fn rows_come_back(rt: HostRuntime) {
-    let tables = tables(&rt);
-    let world = restored(&rt, &tables);
-    assert!(rt; has_inventory(&rt, &world.inventory));
-    assert!(rt; has_config(&rt, &world.config));
-    assert!(rt; has_paths(&rt, &world, &tables));
-    assert!(rt; has_plan(&rt, &world));
 }

@@ -1,7 +1,7 @@
 //! Changes of the rows.
 
-use crate::lines::{Line, name, port, row};
-use crate::records::undo_row;
+use crate::lines::{Line, name, port};
+use crate::records::{set_row, undo_row};
 use crate::tables::{put_approval, put_counts, put_path, put_plan};
 use fab_inventory::HolderKind;
 use fab_names::Address;
@@ -85,13 +85,6 @@ fn put_volume(rt: &impl Abort, tables: &mut TableRows<Global>, array: &str) {
     tables.volumes.push(volume).expect(rt, "memory");
 }
 
-fn set_config(rt: &impl Abort, tables: &mut TableRows<Global>, place: usize, line: Line) {
-    let Some(there) = tables.config.get_mut(place) else {
-        panic!(rt; "no row");
-    };
-    *there = row(rt, line);
-}
-
 fn set_undo(rt: &impl Abort, tables: &mut TableRows<Global>, place: usize, row: UndoRow) {
     let Some(there) = tables.undo.get_mut(place) else {
         panic!(rt; "no row");
@@ -110,7 +103,7 @@ fn apply(rt: &(impl Abort + AllocGlobal), tables: &mut TableRows<Global>, edit: 
         Edit::NoAddress => tables.addresses.clear(),
         Edit::Holder(holder, kind) => put_holder(rt, tables, holder, kind),
         Edit::Volume(array) => put_volume(rt, tables, array),
-        Edit::Config(place, line) => set_config(rt, tables, place, line),
+        Edit::Config(place, line) => set_row(rt, &mut tables.config, place, line),
         Edit::Plan(text, position) => {
             put_plan(rt, tables, ("p2", text, PlanState::Staged, position))
         }

@@ -1,9 +1,10 @@
-//! Tests of worlds from the rows of their tables: rows that come back, and the table that damaged
-//! rows name. Nothing here is part of the product.
+//! Tests of worlds and configurations from the rows of their tables: the table that damaged rows name,
+//! the order of the activations in force, and other rows as another world. Nothing here is part of the
+//! product.
 #![tactic(auto)]
 
 #[cfg(test)]
-mod addresses;
+mod configs;
 #[cfg(test)]
 mod damages;
 #[cfg(test)]
@@ -14,8 +15,6 @@ mod lines;
 mod orders;
 #[cfg(test)]
 mod plan_lines;
-#[cfg(test)]
-mod plans;
 #[cfg(test)]
 mod records;
 #[cfg(test)]

@@ -7,8 +7,9 @@ use fab_store_rows::{
 };
 use std::process::Abort;
 
-/// A row: settings of a fabric; items and active rows of fabric A; groups and parts, each group of
-/// the tenant `blue`, or `green`, and each storage group on `arr1`, or on the host `db1`.
+/// A row: settings of a fabric; items and active rows of fabric A, and a port of a zone of fabric B;
+/// groups and parts, each group of the tenant `blue`, or `green`, and each storage group on `arr1`, or
+/// on the host `db1`.
 #[derive(Clone, Copy)]
 pub enum Line {
     NoActiveSet(Fabric),
@@ -18,6 +19,7 @@ pub enum Line {
     AliasAlias(&'static str, &'static str),
     ZonePort(&'static str, u64),
     ZoneAlias(&'static str, &'static str),
+    OtherZone(&'static str, u64),
     Set(&'static str, &'static str),
     Active(&'static str, u64),
     ActiveAlias(&'static str, &'static str),
@@ -44,18 +46,26 @@ pub fn name(rt: &impl Abort, text: &str) -> Name {
     Name::read(text).expect(rt, "a name")
 }
 
-/// The row of an item of fabric A.
-fn item(item: ZoningItem) -> ConfigRow {
-    let fabric = Fabric::A;
+fn item(fabric: Fabric, item: ZoningItem) -> ConfigRow {
     ConfigRow::Zoning(ZoningRow { fabric, item })
 }
 
 fn alias(rt: &impl Abort, alias: &str, member: Member) -> ConfigRow {
-    item(ZoningItem::Alias(name(rt, alias), member))
+    item(Fabric::A, ZoningItem::Alias(name(rt, alias), member))
 }
 
-fn zone(rt: &impl Abort, zone: &str, member: Member) -> ConfigRow {
-    item(ZoningItem::Zone(name(rt, zone), member))
+fn zone(rt: &impl Abort, fabric: Fabric, zone: &str, member: Member) -> ConfigRow {
+    item(fabric, ZoningItem::Zone(name(rt, zone), member))
+}
+
+/// A member that names a port.
+fn a_port(rt: &impl Abort, number: u64) -> Member {
+    Member::Port(port(rt, number))
+}
+
+/// A member that names an alias.
+fn an_alias(rt: &impl Abort, text: &str) -> Member {
+    Member::Alias(name(rt, text))
 }
 
 fn active(rt: &impl Abort, zone: &str, member: Member) -> ConfigRow {
@@ -111,13 +121,14 @@ fn mapping_row(rt: &impl Abort, line: Line) -> ConfigRow {
 /// The row of an item of a zoning or of an active zone set, or of a group or a part.
 fn item_row(rt: &impl Abort, line: Line) -> ConfigRow {
     match line {
-        Line::Alias(name, number) => alias(rt, name, Member::Port(port(rt, number))),
-        Line::AliasAlias(text, other) => alias(rt, text, Member::Alias(name(rt, other))),
-        Line::ZonePort(name, number) => zone(rt, name, Member::Port(port(rt, number))),
-        Line::ZoneAlias(text, alias) => zone(rt, text, Member::Alias(name(rt, alias))),
-        Line::Set(set, zone) => item(ZoningItem::Set(name(rt, set), name(rt, zone))),
-        Line::Active(zone, number) => active(rt, zone, Member::Port(port(rt, number))),
-        Line::ActiveAlias(zone, alias) => active(rt, zone, Member::Alias(name(rt, alias))),
+        Line::Alias(name, number) => alias(rt, name, a_port(rt, number)),
+        Line::AliasAlias(name, other) => alias(rt, name, an_alias(rt, other)),
+        Line::ZonePort(name, number) => zone(rt, Fabric::A, name, a_port(rt, number)),
+        Line::ZoneAlias(name, alias) => zone(rt, Fabric::A, name, an_alias(rt, alias)),
+        Line::OtherZone(name, number) => zone(rt, Fabric::B, name, a_port(rt, number)),
+        Line::Set(set, zone) => item(Fabric::A, ZoningItem::Set(name(rt, set), name(rt, zone))),
+        Line::Active(zone, number) => active(rt, zone, a_port(rt, number)),
+        Line::ActiveAlias(zone, alias) => active(rt, zone, an_alias(rt, alias)),
         _ => mapping_row(rt, line),
     }
 }
@@ -134,14 +145,4 @@ pub fn row(rt: &impl Abort, line: Line) -> ConfigRow {
         }
         _ => item_row(rt, line),
     }
-}
-
-/// Whether the rows are those of the lines, in this order.
-pub fn are(rt: &impl Abort, rows: &[ConfigRow], lines: &[Line]) -> bool {
-    for (i, line) in lines.iter().enumerate() {
-        if rows.get(i) != Some(&row(rt, *line)) {
-            return false;
-        }
-    }
-    rows.len() == lines.len()
 }

@@ -14,7 +14,7 @@ const ROWS: usize = 20;
 const LAST: Line = Line::Unit("g1", 0, "v1");
 
 /// The rows of the configuration, in their order.
-pub const CONFIG: &[Line] = &[
+const CONFIG: &[Line] = &[
     Line::ActiveSet(A, "s1"),
     Line::NoActiveSet(B),
     Line::DefaultZone(A, false),
@@ -59,6 +59,14 @@ pub fn config_rows(rt: &(impl Abort + AllocGlobal)) -> Vec<ConfigRow> {
         rows.push(row(rt, line)).expect(rt, "memory");
     }
     rows
+}
+
+/// Puts the row of a line in the place of another.
+pub fn set_row(rt: &impl Abort, rows: &mut Vec<ConfigRow>, place: usize, line: Line) {
+    let Some(there) = rows.get_mut(place) else {
+        panic!(rt; "no row");
+    };
+    *there = row(rt, line);
 }
 
 /// A changed row of a plan.

@@ -1,12 +1,13 @@
 //! Worlds of other rows are other worlds.
 
-use crate::damages::restored;
 use crate::edits::{Edit, apply_all};
 use crate::lines::Line;
 use crate::stock::FIRST_TARGET;
 use crate::tables::tables;
 use fab_inventory::HolderKind::Host;
 use fab_names::Fabric::B;
+use fab_store_rows::TableRows;
+use fab_store_world::world_of;
 use fab_test_world::is_same;
 use fab_world::World;
 use std::alloc::Global;
@@ -26,6 +27,11 @@ const WORLDS: &[&[Edit]] = &[
     &[Edit::Plan("deactivate A\n", 0), Edit::Approval("p2", 6)],
     &[Edit::Plan("deactivate A\n", 0), Edit::Approval("p2", 7)],
 ];
+
+/// The world of the rows.
+fn restored(rt: &(impl Abort + AllocGlobal), tables: &TableRows<Global>) -> World<Global> {
+    world_of(rt.alloc(), tables).expect(rt, "a world")
+}
 
 /// The world of the changed rows.
 fn world(rt: &(impl Abort + AllocGlobal), edits: &[Edit]) -> World<Global> {

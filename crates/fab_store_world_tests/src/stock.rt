@@ -10,10 +10,10 @@ use std::process::Abort;
 pub const FIRST_INITIATOR: u64 = 0x1000_0000_0000_0001;
 
 /// A port of the second host.
-pub const SECOND_INITIATOR: u64 = 0x1000_0000_0000_0002;
+const SECOND_INITIATOR: u64 = 0x1000_0000_0000_0002;
 
 /// The other port of the second host, logged in at the same place.
-pub const THIRD_INITIATOR: u64 = 0x1000_0000_0000_0003;
+const THIRD_INITIATOR: u64 = 0x1000_0000_0000_0003;
 
 /// A port of the array.
 pub const FIRST_TARGET: u64 = 0x5000_0000_0000_0001;

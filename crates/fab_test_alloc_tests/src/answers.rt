@@ -1,24 +1,9 @@
 //! What a world shows: look-ups that take no memory.
-use crate::script::Call;
 use crate::worlds::{INITIATOR, TARGET, World, name, port};
 use fab_inventory::{Holder, HolderKind, Port};
-use fab_names::{Fabric, Name, Wwn};
+use fab_names::{Name, Wwn};
 use fab_zoning::Why;
 use std::process::Abort;
-
-/// Whether the port is logged in at fabric A.
-fn is_at_a(port: Option<Port>) -> bool {
-    match port {
-        Some(port) => matches!(port.at, Some((Fabric::A, _))),
-        None => false,
-    }
-}
-
-/// Whether both ports are logged in at fabric A.
-fn are_logged_in(world: &World<'_>) -> bool {
-    is_at_a(world.inventory.port(&Wwn::new(INITIATOR)))
-        && is_at_a(world.inventory.port(&Wwn::new(TARGET)))
-}
 
 fn is_named(there: Option<Name>, wanted: &str) -> bool {
     match there {
@@ -88,25 +73,5 @@ pub fn is_joined(world: &World<'_>, cause: Cause) -> bool {
     match (one, other) {
         (Some(one), Some(other)) => is_why(world.config.a.joined(&one, &other), cause),
         _ => false,
-    }
-}
-
-/// Whether the storage group of this name maps the volume at unit 0.
-fn maps(rt: &impl Abort, world: &World<'_>, group: &str, volume: &str) -> bool {
-    match world.config.mapping.group(&name(rt, group)) {
-        Some(group) => is_named(group.unit(0), volume),
-        None => false,
-    }
-}
-
-/// Whether the world shows what the call did.
-pub fn shows(rt: &impl Abort, world: &World<'_>, call: Call) -> bool {
-    match call {
-        Call::Import => are_logged_in(world),
-        Call::PutHolder(kind, holder, number) => holds(rt, world, kind, holder, number),
-        Call::PutVolume(volume) => has_volume(rt, world, volume),
-        Call::Activate | Call::SetActive => is_joined(world, Cause::Zone),
-        Call::Map(group, volume) => maps(rt, world, group, volume),
-        _ => true,
     }
 }

@@ -1,6 +1,5 @@
-//! Each request for memory of a call refused in turn: the call answers want of memory and changes no
-//! row, and then, when memory is there again, the same call does what it says.
-use crate::answers::shows;
+//! Each request for memory of a call refused in turn: the call answers want of memory and moves no row,
+//! and then, when memory is there again, the same call moves as many rows as it says.
 use crate::calls::make;
 use crate::rows::moves;
 use crate::script::{SCRIPT, Turn};
@@ -15,12 +14,12 @@ pub const MOST: u64 = 1000;
 /// What came of a call with a request refused.
 #[derive(Clone, Copy)]
 pub enum Came {
-    /// The call made fewer requests, and did what it says.
+    /// The call made fewer requests, and moved as many rows as it says.
     Through,
-    /// The call did what it says without what was refused.
+    /// It did so without what was refused.
     Without,
-    /// The call answered want of memory and changed no row, and did what it says when memory was
-    /// there again.
+    /// The call answered want of memory and moved no row, and as many as it says when memory was there
+    /// again.
     Refused,
     /// None of these.
     Astray,
@@ -36,7 +35,7 @@ pub fn world_after<'a>(rt: &impl Abort, heap: Heap<'a>, count: usize) -> World<'
     world
 }
 
-/// Whether the call of the turn did what it says.
+/// Whether the call of the turn moved as many rows as it says.
 fn is_done<'a>(
     rt: &impl Abort,
     heap: Heap<'a>,
@@ -44,10 +43,10 @@ fn is_done<'a>(
     world: &World<'a>,
     turn: Turn,
 ) -> bool {
-    moves(rt, heap, before, world) == turn.1 && shows(rt, world, turn.0)
+    moves(rt, heap, before, world) == turn.1
 }
 
-/// Whether no row was changed, and the call then does what it says.
+/// Whether no row was moved, and the call then moves as many as it says.
 fn is_as_ever<'a>(
     rt: &impl Abort,
     heap: Heap<'a>,

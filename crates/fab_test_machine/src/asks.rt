@@ -35,7 +35,6 @@ pub enum See {
     Paths(&'static str),
     Joined(u64, u64),
     Port(u64),
-    Holder(HolderKind, &'static str),
     Group(&'static str),
 }
 
@@ -117,10 +116,6 @@ fn query(see: See) -> Result<Query, Fail> {
         See::Joined(first, second) => joined(first, second),
         See::Port(number) => Ok(Query::Port {
             name: port(number)?,
-        }),
-        See::Holder(kind, text) => Ok(Query::Holder {
-            kind,
-            name: name(text)?,
         }),
         See::Group(text) => Ok(Query::Group { name: name(text)? }),
     }

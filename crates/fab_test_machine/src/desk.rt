@@ -116,16 +116,6 @@ fn is_kept<B: PathBook<Global>>(
     are_all_answered(alloc, world, &mut book, policy, stages)
 }
 
-/// Whether a new desk answers each turn of these lists as it says, one list after the other.
-///
-/// # Errors
-/// Where a turn says no command, or there is no memory.
-pub fn holds(alloc: Global, stages: &[&[Turn]]) -> Result<bool, Fail> {
-    let policy = policy(alloc)?;
-    let mut world = World::new(alloc);
-    is_kept::<IndexBook<Global>>(alloc, &policy, &mut world, stages)
-}
-
 /// Whether a desk with this world answers each turn of these lists as it says, one list after the
 /// other.
 ///

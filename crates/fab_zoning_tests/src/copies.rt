@@ -1,5 +1,5 @@
-//! A copy of a zoning is equal to it, and stays so when the zoning changes.
-use crate::rows::named;
+//! A copy of a zoning, and the rows of an active set, stay as they are when the zoning changes.
+use crate::inventory::named;
 use fab_names::{Fabric, Member, Name, Place, Wwn};
 use fab_zoning::{DefaultFlag, Zoning};
 use std::alloc::Global;
@@ -117,4 +117,31 @@ fn copy_is_equal(rt: HostRuntime) {
     zoning.drop_set(&named(&rt, "s2")).expect(&rt, "a set");
     assert!(rt; !is_equal(&rt, &zoning, &copy));
     assert!(rt; is_equal(&rt, &filled(&rt), &copy));
+}
+
+/// Puts the alias anew, for another port.
+fn move_alias(rt: &impl Abort, zoning: &mut Zoning<Global>) {
+    zoning
+        .put_alias(named(rt, "disk"), &[Member::Port(Wwn::new(3))])
+        .expect(rt, "an alias");
+}
+
+/// Whether either port of the alias, that of before and the other, is in the active rows of its zone.
+fn active_ports(rt: &impl Abort, zoning: &Zoning<Global>) -> [bool; 2] {
+    let zone = named(rt, "z1");
+    [
+        zoning.has_active(&zone, &Member::Port(Wwn::new(1))),
+        zoning.has_active(&zone, &Member::Port(Wwn::new(3))),
+    ]
+}
+
+#[test]
+fn active_set_is_a_copy(rt: HostRuntime) {
+    let mut zoning = filled(&rt);
+    move_alias(&rt, &mut zoning);
+    assert!(rt; active_ports(&rt, &zoning) == [true, false]);
+    zoning
+        .activate(&named(&rt, "s1"))
+        .expect(&rt, "an active set");
+    assert!(rt; active_ports(&rt, &zoning) == [false, true]);
 }

@@ -1,27 +1,19 @@
-//! Imports, puts, drops and look-ups of an inventory by example.
-use crate::rows::{named, numbered};
+//! Inventories: what no request can ask for, restores, limits and copies.
 use fab_inventory::{
-    Holder, HolderKind, Inventory, InventoryFault, InventoryLimit, MOST_BYTES, PortRow,
-    RestoreFault, Seat, Volume,
+    Holder, HolderKind, Inventory, InventoryFault, InventoryLimit, PortRow, RestoreFault, Seat,
+    Volume,
 };
 use fab_names::{Fabric, Name, Place, Wwn};
 use std::alloc::Global;
 use std::collections::BTreeMap;
 use std::process::Abort;
 
-/// A change or a question. Ports and domains are numbers; each port is at port 1 of its domain.
+/// A change, or which ports leave a holder that would hold these. Ports are numbers.
 #[derive(Clone, Copy)]
 enum Step {
-    Import(Fabric, &'static [(u64, u8)]),
+    Import(&'static [u64]),
     PutHolder(&'static str, HolderKind, &'static [u64]),
-    DropHolder(&'static str),
     PutVolume(&'static str, &'static str, u64),
-    DropVolume(&'static str),
-    At(u64, Option<(Fabric, u8)>),
-    HeldBy(u64, Option<&'static str>),
-    Kind(&'static str, Option<HolderKind>),
-    Bytes(&'static str, Option<u64>),
-    PortsOf(&'static str, &'static [u64]),
     Leaving(&'static str, &'static [u64], &'static [u64]),
 }
 
@@ -29,12 +21,6 @@ enum Step {
 #[derive(Clone, Copy)]
 enum Answer {
     Done,
-    Clash(u64),
-    UnknownPort(u64),
-    Held(u64, &'static str),
-    Unknown(&'static str),
-    WrongKind(&'static str),
-    InUse(&'static str, &'static str),
     TooMuch(InventoryLimit),
 }
 
@@ -45,96 +31,22 @@ const MANY: &[u64] = &[
     51, 52, 53, 54, 55, 56, 57, 58, 59, 60, 61, 62, 63, 64, 65,
 ];
 
+/// Which ports leave, and what no body can list: a port too many, and too few or too many bytes. That
+/// is refused before other kinds and arrays that are not there.
 const STEPS: &[(Step, Answer)] = &[
-    (Step::At(1, None), Answer::Done),
-    (Step::Import(Fabric::A, &[(1, 1), (2, 1)]), Answer::Done),
-    (Step::Import(Fabric::B, &[(3, 1)]), Answer::Done),
-    (Step::At(1, Some((Fabric::A, 1))), Answer::Done),
-    // port 1 is not listed any more
-    (Step::Import(Fabric::A, &[(2, 7)]), Answer::Done),
-    (Step::At(1, None), Answer::Done),
-    (Step::At(2, Some((Fabric::A, 7))), Answer::Done),
-    (Step::At(3, Some((Fabric::B, 1))), Answer::Done),
-    // equal records count once, and the first that differs is answered
-    (Step::Import(Fabric::A, &[(1, 1), (1, 1)]), Answer::Done),
+    (Step::Import(&[1, 7, 8, 9]), Answer::Done),
     (
-        Step::Import(Fabric::A, &[(2, 1), (3, 1), (2, 2), (3, 2)]),
-        Answer::Clash(2),
-    ),
-    (Step::At(1, Some((Fabric::A, 1))), Answer::Done),
-    (Step::At(2, None), Answer::Done),
-    (
-        Step::Import(Fabric::A, &[(7, 1), (8, 1), (9, 1), (3, 1)]),
+        Step::PutHolder("db1", HolderKind::Host, &[9, 7, 8, 9]),
         Answer::Done,
     ),
-    // holders
-    (Step::PutHolder("db1", HolderKind::Host, &[1]), Answer::Done),
-    (Step::Kind("db1", Some(HolderKind::Host)), Answer::Done),
-    (Step::Kind("db2", None), Answer::Done),
-    (
-        Step::PutHolder("db2", HolderKind::Host, &[2, 1]),
-        Answer::Held(1, "db1"),
-    ),
-    (Step::HeldBy(2, None), Answer::Done),
-    (Step::Leaving("db1", &[3, 2, 3], &[1]), Answer::Done),
-    (
-        Step::PutHolder("db1", HolderKind::Host, &[3, 2, 3]),
-        Answer::Done,
-    ),
-    (Step::HeldBy(1, None), Answer::Done),
-    (Step::HeldBy(2, Some("db1")), Answer::Done),
-    (Step::HeldBy(3, Some("db1")), Answer::Done),
-    (
-        Step::PutHolder("db2", HolderKind::Array, &[1]),
-        Answer::Done,
-    ),
-    (Step::DropHolder("db1"), Answer::Done),
-    (Step::HeldBy(2, None), Answer::Done),
-    (Step::HeldBy(1, Some("db2")), Answer::Done),
-    (Step::DropHolder("db1"), Answer::Unknown("db1")),
-    // refusals come in their order
-    (
-        Step::PutHolder("db2", HolderKind::Host, MANY),
-        Answer::TooMuch(InventoryLimit::PortsOfHolder),
-    ),
-    (
-        Step::PutHolder("db2", HolderKind::Host, &[71]),
-        Answer::WrongKind("db2"),
-    ),
-    (
-        Step::PutHolder("db1", HolderKind::Host, &[72, 1, 71]),
-        Answer::UnknownPort(71),
-    ),
-    (
-        Step::PutHolder("db1", HolderKind::Host, &[7, 8]),
-        Answer::Done,
-    ),
-    (
-        Step::PutHolder("db3", HolderKind::Host, &[9, 8, 7]),
-        Answer::Held(7, "db1"),
-    ),
-    // the ports of a holder, in their order
-    (
-        Step::PutHolder("db1", HolderKind::Host, &[9, 7, 8]),
-        Answer::Done,
-    ),
-    (Step::PortsOf("db1", &[7, 8, 9]), Answer::Done),
-    (Step::PortsOf("db2", &[1]), Answer::Done),
-    (Step::PortsOf("db4", &[]), Answer::Done),
     (Step::Leaving("db1", &[], &[7, 8, 9]), Answer::Done),
     (Step::Leaving("db1", &[8, 1, 71], &[7, 9]), Answer::Done),
     (Step::Leaving("db1", &[9, 8, 7], &[]), Answer::Done),
-    // volumes
+    (Step::Leaving("db2", &[], &[]), Answer::Done),
     (
-        Step::PutHolder("arr1", HolderKind::Array, &[2]),
-        Answer::Done,
+        Step::PutHolder("db1", HolderKind::Array, MANY),
+        Answer::TooMuch(InventoryLimit::PortsOfHolder),
     ),
-    (Step::PutVolume("v2", "arr1", 1), Answer::Done),
-    (Step::PutVolume("v1", "arr1", MOST_BYTES), Answer::Done),
-    (Step::Bytes("v1", Some(9223372036854775807)), Answer::Done),
-    (Step::Bytes("v3", None), Answer::Done),
-    (Step::PutVolume("v1", "db1", 1), Answer::Unknown("db1")),
-    (Step::PutVolume("v1", "arr9", 1), Answer::Unknown("arr9")),
     (
         Step::PutVolume("v1", "arr1", 0),
         Answer::TooMuch(InventoryLimit::Bytes),
@@ -143,33 +55,26 @@ const STEPS: &[(Step, Answer)] = &[
         Step::PutVolume("v1", "arr1", 9223372036854775808),
         Answer::TooMuch(InventoryLimit::Bytes),
     ),
-    (Step::Bytes("v1", Some(9223372036854775807)), Answer::Done),
-    (Step::DropHolder("arr1"), Answer::InUse("arr1", "v1")),
-    (Step::DropVolume("v1"), Answer::Done),
-    (Step::DropVolume("v1"), Answer::Unknown("v1")),
-    (Step::DropHolder("arr1"), Answer::InUse("arr1", "v2")),
-    (Step::DropVolume("v2"), Answer::Done),
-    (Step::DropHolder("arr1"), Answer::Done),
-    (Step::HeldBy(2, None), Answer::Done),
-    (Step::Kind("arr1", None), Answer::Done),
-    (Step::Bytes("v2", None), Answer::Done),
-    (Step::HeldBy(7, Some("db1")), Answer::Done),
+    (Step::Leaving("db1", &[], &[7, 8, 9]), Answer::Done),
 ];
 
+/// The name that the text spells.
+pub(crate) fn named(rt: &impl Abort, text: &str) -> Name {
+    Name::read(text).expect(rt, "a name")
+}
+
+/// The name of this number.
+pub(crate) fn numbered(rt: &(impl Abort + AllocGlobal), number: u64) -> Name {
+    let text = format!(in rt.alloc(); "n{number}").expect(rt, "memory");
+    named(rt, text.as_str())
+}
+
 /// The port of a number.
-fn port(number: u64) -> Wwn {
+pub(crate) fn port(number: u64) -> Wwn {
     if number == 0 {
         return Wwn::new(1);
     }
     Wwn::new(number)
-}
-
-/// Port 1 of a domain.
-fn place(domain: u8) -> Place {
-    if domain < 1 || domain > 239 {
-        return Place::new(1, 1);
-    }
-    Place::new(domain, 1)
 }
 
 /// The ports of numbers.
@@ -181,11 +86,11 @@ fn ports_of(rt: &(impl Abort + AllocGlobal), numbers: &[u64]) -> Vec<Wwn> {
     ports
 }
 
-/// The records of ports at domains.
-fn rows_of(rt: &(impl Abort + AllocGlobal), listed: &[(u64, u8)]) -> Vec<PortRow> {
+/// The records of ports.
+fn rows_of(rt: &(impl Abort + AllocGlobal), listed: &[u64]) -> Vec<PortRow> {
     let mut rows = Vec::new(rt.alloc());
-    for (number, domain) in listed {
-        let row = PortRow::plain(port(*number), port(99), place(*domain));
+    for number in listed {
+        let row = PortRow::plain(port(*number), port(99), Place::new(1, 1));
         rows.push(row).expect(rt, "memory");
     }
     rows
@@ -198,62 +103,16 @@ fn change(
     step: Step,
 ) -> Result<(), InventoryFault> {
     match step {
-        Step::Import(fabric, listed) => inventory.import(fabric, rows_of(rt, listed).as_slice()),
+        Step::Import(listed) => inventory.import(Fabric::A, rows_of(rt, listed).as_slice()),
         Step::PutHolder(name, kind, listed) => {
             let name = named(rt, name);
             inventory.put_holder(name, kind, name, ports_of(rt, listed).as_slice())
         }
-        Step::DropHolder(name) => inventory.drop_holder(&named(rt, name)),
         Step::PutVolume(name, array, bytes) => {
             let name = named(rt, name);
             inventory.put_volume(name, named(rt, array), name, bytes)
         }
-        Step::DropVolume(name) => inventory.drop_volume(&named(rt, name)),
         _ => Ok(()),
-    }
-}
-
-fn is_at(inventory: &Inventory<Global>, number: u64, at: Option<(Fabric, u8)>) -> bool {
-    match inventory.port(&port(number)) {
-        Some(port) => match at {
-            Some((fabric, domain)) => port.at == Some((fabric, place(domain))),
-            None => port.at.is_none(),
-        },
-        None => at.is_none(),
-    }
-}
-
-fn is_held_by(inventory: &Inventory<Global>, number: u64, holder: Option<&str>) -> bool {
-    match inventory.port(&port(number)) {
-        Some(port) => match port.holder {
-            Some(name) => holder == Some(name.as_str()),
-            None => holder.is_none(),
-        },
-        None => false,
-    }
-}
-
-fn is_kind(
-    inventory: &Inventory<Global>,
-    rt: &impl Abort,
-    name: &str,
-    kind: Option<HolderKind>,
-) -> bool {
-    match inventory.holder(&named(rt, name)) {
-        Some(holder) => kind == Some(holder.kind),
-        None => kind.is_none(),
-    }
-}
-
-fn has_bytes(
-    inventory: &Inventory<Global>,
-    rt: &impl Abort,
-    name: &str,
-    bytes: Option<u64>,
-) -> bool {
-    match inventory.volume(&named(rt, name)) {
-        Some(volume) => bytes == Some(volume.bytes),
-        None => bytes.is_none(),
     }
 }
 
@@ -283,34 +142,18 @@ fn leaves(
     are_ports(found.as_slice(), numbers)
 }
 
-fn holds(inventory: &Inventory<Global>, rt: &impl Abort, name: &str, numbers: &[u64]) -> bool {
-    let found = inventory.ports_of(&named(rt, name)).expect(rt, "memory");
-    are_ports(found.as_slice(), numbers)
-}
-
 /// Whether what is asked is so, or that nothing is asked.
 fn is_so(inventory: &Inventory<Global>, rt: &(impl Abort + AllocGlobal), step: Step) -> bool {
     match step {
-        Step::At(number, at) => is_at(inventory, number, at),
-        Step::HeldBy(number, holder) => is_held_by(inventory, number, holder),
-        Step::Kind(name, kind) => is_kind(inventory, rt, name, kind),
-        Step::Bytes(name, bytes) => has_bytes(inventory, rt, name, bytes),
-        Step::PortsOf(name, numbers) => holds(inventory, rt, name, numbers),
         Step::Leaving(name, listed, numbers) => leaves(inventory, rt, name, listed, numbers),
         _ => true,
     }
 }
 
 /// What the change is to be answered.
-fn answer_of(rt: &impl Abort, answer: Answer) -> Result<(), InventoryFault> {
+fn answer_of(answer: Answer) -> Result<(), InventoryFault> {
     match answer {
         Answer::Done => Ok(()),
-        Answer::Clash(number) => Err(InventoryFault::PortClash(port(number))),
-        Answer::UnknownPort(number) => Err(InventoryFault::UnknownPort(port(number))),
-        Answer::Held(number, by) => Err(InventoryFault::PortHeld(port(number), named(rt, by))),
-        Answer::Unknown(name) => Err(InventoryFault::Unknown(named(rt, name))),
-        Answer::WrongKind(name) => Err(InventoryFault::WrongKind(named(rt, name))),
-        Answer::InUse(name, by) => Err(InventoryFault::InUse(named(rt, name), named(rt, by))),
         Answer::TooMuch(limit) => Err(InventoryFault::Limit(limit)),
     }
 }
@@ -322,7 +165,7 @@ fn take(
     step: Step,
     answer: Answer,
 ) -> bool {
-    change(inventory, rt, step) == answer_of(rt, answer) && is_so(inventory, rt, step)
+    change(inventory, rt, step) == answer_of(answer) && is_so(inventory, rt, step)
 }
 
 #[test]
@@ -516,13 +359,8 @@ fn worlds(rt: HostRuntime) {
     }
 }
 
-/// Changes of an inventory that is full.
+/// Changes of an inventory that is full: what is new is refused, and what is there is replaced.
 const AT_THE_LIMITS: &[(Step, Answer)] = &[
-    (
-        Step::Import(Fabric::A, &[(4097, 1)]),
-        Answer::TooMuch(InventoryLimit::Ports),
-    ),
-    (Step::Import(Fabric::A, &[(4096, 1)]), Answer::Done),
     (
         Step::PutHolder("m", HolderKind::Host, &[]),
         Answer::TooMuch(InventoryLimit::Holders),
@@ -536,8 +374,6 @@ const AT_THE_LIMITS: &[(Step, Answer)] = &[
         Answer::TooMuch(InventoryLimit::Volumes),
     ),
     (Step::PutVolume("n1", "n0", 2), Answer::Done),
-    (Step::Bytes("n1", Some(2)), Answer::Done),
-    (Step::HeldBy(64, Some("n2047")), Answer::Done),
 ];
 
 #[test]
@@ -548,10 +384,21 @@ fn limits(rt: HostRuntime) {
     }
 }
 
+/// Whether the port of a number is held by this holder.
+fn is_held_by(inventory: &Inventory<Global>, number: u64, holder: &str) -> bool {
+    match inventory.port(&port(number)) {
+        Some(port) => match port.holder {
+            Some(name) => name.as_str() == holder,
+            None => false,
+        },
+        None => false,
+    }
+}
+
 #[test]
 fn copy_is_equal(rt: HostRuntime) {
     let inventory = restored(&rt, SMALL).expect(&rt, "a small inventory");
     let copy = inventory.copy().expect(&rt, "memory");
     assert!(rt; is_world(&copy, SMALL));
-    assert!(rt; is_held_by(&copy, 64, Some("n0")));
+    assert!(rt; is_held_by(&copy, 64, "n0"));
 }

@@ -10,8 +10,4 @@ mod copies;
 #[cfg(test)]
 mod inventory;
 #[cfg(test)]
-mod large;
-#[cfg(test)]
-mod rows;
-#[cfg(test)]
-mod steps;
+mod parts;
