@@ -1,12 +1,13 @@
 #!/usr/bin/env python3
 """Looks whether the documents are true of the repository: each crate is under a room's heading in crates.txt,
-names each crate that its line there has below it, and has one line in docs/house.md, each contract is told in
+names each crate that its line there has below it, is reached by few enough ways, and has one line in docs/house.md, each contract is told in
 docs/CONTRACTS.md alone and is in the file that is named, what documents name is there, there are as many recorded
 requests and wrong bodies as they say, and the README is short.
 Commands that are shown with what they answer are run by examples/readme.sh and examples/session.sh.
 
 A line for each fault, and status 1 where there is one."""
 import collections
+import functools
 import pathlib
 import re
 import subprocess
@@ -16,6 +17,8 @@ TOP = pathlib.Path(__file__).resolve().parent.parent
 MOST_LINES = 150
 # So many words of a contract in a row are the contract told again.
 SAME_WORDS = 14
+# Before and after a library's proof rt sums the crates below it, along each way down anew: 3 ms a way.
+MOST_WAYS = 50_000
 # Names in it may be gone: a figure stays that of its day.
 DATED = "docs/measurements.md"
 CONTRACTS = "docs/CONTRACTS.md"
@@ -37,7 +40,7 @@ for file in files:
         used[file.split("/")[1]] |= words
         for item in re.findall(r"\b(?:fn|struct|enum|trait) (\w+)", text):
             items[item].add(file)
-crates, faults = [], []
+crates, faults, lines = [], [], {}
 
 
 def runs(text):
@@ -56,6 +59,7 @@ def check_rooms():
             known.add(found[1])
             if not heading:
                 faults.append(f"crates.txt: {found[1]} is under no room: a group begins with '# ROOM: sentence'")
+            lines[found[1]] = found[2].split(), "staticlib" in line.partition(":")[0].split()
             for below in set(found[2].split()) & set(crates) - used[found[1]]:
                 faults.append(f"crates.txt: {found[1]} uses nothing of {below}")
         else:
@@ -63,6 +67,19 @@ def check_rooms():
     for crate in crates:
         if documents["docs/house.md"].count(f"- `{crate}`: ") != 1:
             faults.append(f"docs/house.md: {crate} has not one line")
+
+
+@functools.cache
+def ways(crate):
+    """How many ways lead down from a crate, each of its line's crates being the first step of some."""
+    return 1 + sum(ways(it) for it in lines[crate][0] if it in lines)
+
+
+def check_ways():
+    for crate, (_, is_static) in lines.items():
+        is_program = f"crates/{crate}/src/main.rt" in places
+        if not is_static and not is_program and ways(crate) > MOST_WAYS:
+            faults.append(f"crates.txt: {ways(crate)} ways lead down from {crate}: name less there, and have a crate of its line hand it on by 'pub use'")
 
 
 def check_contracts():
@@ -111,6 +128,7 @@ def check_counts():
 
 
 check_rooms()
+check_ways()
 check_contracts()
 check_counts()
 for name, text in documents.items():

@@ -1,12 +1,12 @@
 -- What one request makes of a desk.
 use Rattle.std.proofs.Common.{◌≡◌, ◌≢◌, List, [], ◌∷◌, ◌++◌, Option, Some, None, inl, inr, refl, sym, ap, subst, ◌∙◌, length, arith}
-use Rattle.fab_desk_base.specs.Answers.{IsStep, Request}
-use Rattle.fab_desk_base.specs.declared.fault.DeskFault.TheVariants as fault
-use Rattle.fab_desk_base.specs.declared.reply.Reply.{Reply}
-use Rattle.fab_desk_base.specs.declared.reply.Reply.TheVariants.{Refused}
+use Rattle.fab_desk_machine.specs.fab_desk_base.Answers.{IsStep, Request}
+use Rattle.fab_desk_machine.specs.fab_desk_base.declared.fault.DeskFault.TheVariants as fault
+use Rattle.fab_desk_machine.specs.fab_desk_base.declared.reply.Reply.{Reply}
+use Rattle.fab_desk_machine.specs.fab_desk_base.declared.reply.Reply.TheVariants.{Refused}
 use Rattle.fab_policy_base.specs.Policies.{PolicyRows}
 use Rattle.fab_store_base.specs.declared.store.Store as store
-use Rattle.fab_world.specs.Worlds.{WorldRows}
+use Rattle.fab_desk_machine.specs.fab_world.Worlds.{WorldRows}
 use Rattle.fab_desk.specs.Desks.{IsHandled, IsTurnedAway, IsTied, IsServed, IsCleanDesk, IsTiedDesk, IsAnsweredByDesk}
 
 append_none : {X : Type 0} (xs : List X) → xs ++ [] ≡ xs

@@ -2,14 +2,14 @@
 use Rattle.std.proofs.Common.{◌≡◌, inl, inr, subst}
 use Rattle.fab_reach_base.specs.declared.book.Delta.{Delta}
 use Rattle.fab_policy_base.specs.Policies.{PolicyRows}
-use Rattle.fab_world.specs.Worlds.{WorldRows}
-use Rattle.fab_desk_base.specs.Answers.{IsAnswerTo, IsStep, Request}
-use Rattle.fab_desk_base.specs.declared.fault.DeskFault.{DeskFault}
-use Rattle.fab_desk_base.specs.declared.fault.DeskFault.TheVariants.{BadBody, NoCaller, NotFound}
-use Rattle.fab_desk_base.specs.declared.reply.Reply.{Reply}
-use Rattle.fab_desk_base.specs.declared.reply.Reply.TheVariants.{Refused}
-use Rattle.fab_desk_base.specs.declared.reply.Reply.TheVariants as reply
-use Rattle.fab_desk_base.specs.declared.reply.Shown.{Shown}
+use Rattle.fab_desk_machine.specs.fab_world.Worlds.{WorldRows}
+use Rattle.fab_desk_machine.specs.fab_desk_base.Answers.{IsAnswerTo, IsStep, Request}
+use Rattle.fab_desk_machine.specs.fab_desk_base.declared.fault.DeskFault.{DeskFault}
+use Rattle.fab_desk_machine.specs.fab_desk_base.declared.fault.DeskFault.TheVariants.{BadBody, NoCaller, NotFound}
+use Rattle.fab_desk_machine.specs.fab_desk_base.declared.reply.Reply.{Reply}
+use Rattle.fab_desk_machine.specs.fab_desk_base.declared.reply.Reply.TheVariants.{Refused}
+use Rattle.fab_desk_machine.specs.fab_desk_base.declared.reply.Reply.TheVariants as reply
+use Rattle.fab_desk_machine.specs.fab_desk_base.declared.reply.Shown.{Shown}
 use Rattle.fab_desk_machine.specs.Reports.{reply_of}
 use Rattle.fab_desk_machine.specs.declared.report.Report.{Report}
 use Rattle.fab_desk_machine.specs.declared.report.Report.TheVariants.{Changed, Staged, Withdrawn, Approved, Reconfigured}

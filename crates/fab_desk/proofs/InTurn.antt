@@ -1,15 +1,15 @@
 -- What requests that are handled one after the other make of a desk.
 use Rattle.std.proofs.Common.{ℕ, zero, suc, ◌≡◌, ◌≢◌, Bool, true, false, cond, List, [], ◌∷◌, ◌++◌, Option, Some, None, slice_get, inl, inr, refl, sym, ap, subst, ◌∙◌}
 use Rattle.std.proofs.lemmas.Option.{same_Some}
-use Rattle.fab_desk_base.specs.Answers.{IsRun, IsStep, Request}
-use Rattle.fab_desk_base.specs.declared.fault.DeskFault.TheVariants as fault
-use Rattle.fab_desk_base.specs.declared.reply.Reply.{Reply}
-use Rattle.fab_desk_base.specs.declared.reply.Reply.TheVariants.{Refused}
+use Rattle.fab_desk_machine.specs.fab_desk_base.Answers.{IsRun, IsStep, Request}
+use Rattle.fab_desk_machine.specs.fab_desk_base.declared.fault.DeskFault.TheVariants as fault
+use Rattle.fab_desk_machine.specs.fab_desk_base.declared.reply.Reply.{Reply}
+use Rattle.fab_desk_machine.specs.fab_desk_base.declared.reply.Reply.TheVariants.{Refused}
 use Rattle.fab_policy_base.specs.Policies.{PolicyRows}
 use Rattle.fab_store_base.specs.Worlds.{HoldsWorld}
 use Rattle.fab_store_base.specs.declared.store.Store as store
 use Rattle.fab_store_tables.specs.Tables.{Tables}
-use Rattle.fab_world.specs.Worlds.{WorldRows}
+use Rattle.fab_desk_machine.specs.fab_world.Worlds.{WorldRows}
 use Rattle.fab_desk.specs.Desks.{IsTurnedAway, IsTied, IsServed, IsInDoubt, IsCleanDesk, IsTiedDesk, IsLeftByStop, IsAnsweredByDesk, IsHaltedBy, IsRead, is_done, done_replies, done_requests}
 use Rattle.fab_desk.specs.Handled.{Handles, AreHandled, policy_of, world_of, serving_of, aside_of}
 use Rattle.fab_desk.specs.declared.desk.Desk.{Desk}

@@ -1,11 +1,11 @@
 -- What a desk over a store does with a request.
 use Rattle.std.specs.Prelude.{ℕ, ◌≡◌, ◌≢◌, ◌↔◌, ◌⊎◌, Bool, true, false, cond, List, [], ◌∷◌, filter, slice_get, None, Some, Option}
-use Rattle.fab_desk_base.specs.Answers.{IsNobodys, IsStep, Request}
-use Rattle.fab_desk_base.specs.declared.command.Command.TheVariants as command
-use Rattle.fab_desk_base.specs.declared.command.Query.{Query}
-use Rattle.fab_desk_base.specs.declared.fault.DeskFault.TheVariants as fault
-use Rattle.fab_desk_base.specs.declared.reply.Reply.{Reply}
-use Rattle.fab_desk_base.specs.declared.reply.Reply.TheVariants.{Refused}
+use Rattle.fab_desk_machine.specs.fab_desk_base.Answers.{IsNobodys, IsStep, Request}
+use Rattle.fab_desk_machine.specs.fab_desk_base.declared.command.Command.TheVariants as command
+use Rattle.fab_desk_machine.specs.fab_desk_base.declared.command.Query.{Query}
+use Rattle.fab_desk_machine.specs.fab_desk_base.declared.fault.DeskFault.TheVariants as fault
+use Rattle.fab_desk_machine.specs.fab_desk_base.declared.reply.Reply.{Reply}
+use Rattle.fab_desk_machine.specs.fab_desk_base.declared.reply.Reply.TheVariants.{Refused}
 use Rattle.fab_policy_base.specs.Callers.{HasToken}
 use Rattle.fab_policy_base.specs.Policies.{PolicyRows}
 use Rattle.fab_store_base.specs.Calls.{IsCounted, OpensNot, Rises}
@@ -13,7 +13,7 @@ use Rattle.fab_store_base.specs.Worlds.{HoldsWorld, IsWritten}
 use Rattle.fab_store_base.specs.declared.faults.OpenFault.{OpenFault}
 use Rattle.fab_store_base.specs.declared.store.Store as store
 use Rattle.fab_store_tables.specs.Tables.{Tables}
-use Rattle.fab_world.specs.Worlds.{WorldRows}
+use Rattle.fab_desk_machine.specs.fab_world.Worlds.{WorldRows}
 
 -- ---- one request
 

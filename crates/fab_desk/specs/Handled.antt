@@ -1,10 +1,10 @@
 -- What handling one request does to a desk.
 use Rattle.std.specs.Prelude.{◌≡◌, Option, None, Some, List, [], ◌∷◌}
-use Rattle.fab_desk_base.specs.Answers.{Request}
-use Rattle.fab_desk_base.specs.declared.reply.Reply.{Reply}
+use Rattle.fab_desk_machine.specs.fab_desk_base.Answers.{Request}
+use Rattle.fab_desk_machine.specs.fab_desk_base.declared.reply.Reply.{Reply}
 use Rattle.fab_policy_base.specs.Policies.{PolicyRows}
 use Rattle.fab_store_base.specs.declared.store.Store as store
-use Rattle.fab_world.specs.Worlds.{WorldRows}
+use Rattle.fab_desk_machine.specs.fab_world.Worlds.{WorldRows}
 use Rattle.fab_desk.specs.Desks.{IsServed, IsTurnedAway}
 use Rattle.fab_desk.specs.declared.desk.Desk.{Desk}
 

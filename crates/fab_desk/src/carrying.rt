@@ -1,28 +1,28 @@
 //! Changes carried out over a store.
 ghost use Rattle.std.specs.Prelude.{◌≡◌, ◌⊎◌, IfOk, OnOk, OnErr, true, false};
-ghost use Rattle.fab_desk_base.specs.Answers.{IsMove};
-ghost use Rattle.fab_desk_base.specs.declared.fault.DeskFault.TheVariants as faults;
-ghost use Rattle.fab_desk_base.specs.declared.reply.Reply.TheVariants as replies;
+ghost use Rattle.fab_desk_machine.specs.fab_desk_base.Answers.{IsMove};
+ghost use Rattle.fab_desk_machine.specs.fab_desk_base.declared.fault.DeskFault.TheVariants as faults;
+ghost use Rattle.fab_desk_machine.specs.fab_desk_base.declared.reply.Reply.TheVariants as replies;
 ghost use Rattle.fab_desk_machine.specs.Reports.{reply_of};
-ghost use Rattle.fab_desk_trials.specs.Trials.{IsStepReady};
-ghost use Rattle.fab_desk_commands.specs.Nexts.{next_world, with_room, Suits};
+ghost use Rattle.fab_desk_machine.specs.fab_desk_trials.Trials.{IsStepReady};
+ghost use Rattle.fab_desk_machine.specs.fab_desk_commands.Nexts.{next_world, with_room, Suits};
 ghost use Rattle.fab_reach_base.specs.declared.book.Delta.{Delta};
 ghost use Rattle.fab_store_base.specs.Calls.{Rises};
 ghost use Rattle.fab_store_base.specs.Moves.{AreMoves};
 ghost use Rattle.fab_store_base.specs.Worlds.{HoldsWorld};
 ghost use Rattle.fab_store_tables.specs.Tables.{Tables};
-ghost use Rattle.fab_world.specs.Soundness.{IsSound};
-ghost use Rattle.fab_world.specs.Worlds.{records_of};
+ghost use Rattle.fab_desk_machine.specs.fab_world.Soundness.{IsSound};
+ghost use Rattle.fab_desk_machine.specs.fab_world.Worlds.{records_of};
 ghost use Rattle.fab_desk.specs.Desks.{IsTied};
-ghost use Rattle.fab_desk_base.specs.Keeping.{KeepsHosts};
+ghost use Rattle.fab_desk_machine.specs.fab_desk_base.Keeping.{KeepsHosts};
 
 use crate::moves::moves;
-use fab_desk_base::{DeskFault, Reply};
+use fab_desk_machine::base::{DeskFault, Reply};
+use fab_desk_machine::world::World;
 use fab_desk_machine::{Change, lists_of, take_over};
 use fab_reach_books::PathBook;
 use fab_store_base::laws::holds_keys;
 use fab_store_base::{LineChanges, Store};
-use fab_world::World;
 use std::alloc::{AllocError, Allocator};
 
 /// What is answered to a request, and whether the store refused its change.

@@ -9,7 +9,7 @@ ghost use Rattle.fab_desk.specs.Desks.{IsOpened, IsServed, IsTurnedAway, IsUnope
 use crate::answering::serve;
 use crate::ledger::Ledger;
 use crate::opening::opened;
-use fab_desk_base::{Command, DeskFault, Reply};
+use fab_desk_machine::base::{Command, DeskFault, Reply};
 use fab_policy_base::Policy;
 use fab_policy_base::laws::policy_is_sound;
 use fab_reach_books::PathBook;

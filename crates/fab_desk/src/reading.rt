@@ -1,20 +1,20 @@
 //! The paths of a host, from the store.
 ghost use Rattle.std.specs.Prelude.{◌≡◌, ◌≢◌, ◌⊎◌};
-ghost use Rattle.fab_desk_base.specs.Answers.{IsAnswerTo};
-ghost use Rattle.fab_desk_base.specs.declared.command.Command.TheVariants as command;
-ghost use Rattle.fab_desk_base.specs.declared.command.Query.TheVariants as query;
-ghost use Rattle.fab_desk_base.specs.declared.fault.DeskFault.TheVariants as faults;
-ghost use Rattle.fab_desk_base.specs.declared.reply.Reply.TheVariants as replies;
+ghost use Rattle.fab_desk_machine.specs.fab_desk_base.Answers.{IsAnswerTo};
+ghost use Rattle.fab_desk_machine.specs.fab_desk_base.declared.command.Command.TheVariants as command;
+ghost use Rattle.fab_desk_machine.specs.fab_desk_base.declared.command.Query.TheVariants as query;
+ghost use Rattle.fab_desk_machine.specs.fab_desk_base.declared.fault.DeskFault.TheVariants as faults;
+ghost use Rattle.fab_desk_machine.specs.fab_desk_base.declared.reply.Reply.TheVariants as replies;
 ghost use Rattle.fab_store_base.specs.Calls.{Rises};
 ghost use Rattle.fab_desk.specs.Desks.{IsTied};
 
-use fab_desk_base::{Command, DeskFault, Query, Reply, Shown};
 use fab_desk_machine::Sender;
-use fab_desk_reads::is_open_to;
+use fab_desk_machine::base::{Command, DeskFault, Query, Reply, Shown};
+use fab_desk_machine::reads::is_open_to;
+use fab_desk_machine::world::World;
 use fab_names::Name;
 use fab_policy_base::Policy;
 use fab_store_base::Store;
-use fab_world::World;
 use std::alloc::Allocator;
 
 /// Shows the paths of a host as the store has them, if they are for the sender. Where the store refuses,

@@ -1,13 +1,13 @@
 //! Requests answered one after the other.
 ghost use Rattle.std.specs.Prelude.{◌≡◌, IfOk, OnErr, None, Some, map};
-ghost use Rattle.fab_desk_base.specs.Answers.{IsRun};
+ghost use Rattle.fab_desk_machine.specs.fab_desk_base.Answers.{IsRun};
 ghost use Rattle.fab_desk_machine.specs.Proposals.{asked_of};
 ghost use Rattle.fab_desk.specs.Desks.{IsCleanDesk, IsLeftByStop, IsTied, IsTiedDesk, done_replies, done_requests};
 ghost use Rattle.fab_desk.specs.Handled.{AreHandled, Handles};
 
 use crate::Desk;
-use fab_desk_base::{Reply, steps_are_done};
 use fab_desk_machine::Asked;
+use fab_desk_machine::base::{Reply, steps_are_done};
 use fab_reach_books::PathBook;
 use fab_store_base::Store;
 use std::alloc::{AllocError, Allocator};

@@ -11,6 +11,7 @@ use Rattle.fab_reach_base.specs.Records.{ConfigRows}
 use Rattle.fab_reach_base.specs.Soundness.{IsSoundBeside}
 use Rattle.fab_reach_base.proofs.Lawful.{serves}
 use Rattle.fab_store_rows.specs.Differences.{IsDifference}
+use Rattle.fab_store_rows.specs.declared.listing.RowDifference.{RowDifference}
 use Rattle.fab_store_rows.specs.declared.record_row.PlanState.TheVariants as state
 use Rattle.fab_plans.specs.Outcomes.{IsOutcome, IsRefusedOutcome}
 use Rattle.fab_plans.specs.declared.fault.Refusal.{Refusal}
@@ -28,12 +29,10 @@ use Rattle.fab_desk_base.specs.Trying.{IsMade, IsTryFault}
 use Rattle.fab_desk_base.specs.declared.command.Command.TheVariants.{Activate}
 use Rattle.fab_desk_base.specs.declared.fault.DeskFault.{DeskFault}
 use Rattle.fab_desk_base.specs.declared.fault.DeskFault.TheVariants as fault
-use Rattle.fab_desk_commands.specs.Nexts.{next_world, turned_at, with_turn, Suits, TellsRows}
-use Rattle.fab_desk_commands.specs.declared.next.Next.{Next}
-use Rattle.fab_desk_commands.specs.declared.next.Next.TheVariants.{Same, Stock, Staged, Turned, Reconfigured}
-use Rattle.fab_desk_commands.specs.declared.next.Turn.TheVariants.{Withdrawn, Approved, Activated, RolledBack}
-use Rattle.fab_desk_commands.specs.Kinds.{IsReconfiguration}
-use Rattle.fab_desk_commands.specs.Trials.{IsActivation, IsOutcomeFault, IsSoundAfter}
+use Rattle.fab_desk_commands.specs.Nexts.{next_world, with_turn}
+use Rattle.fab_desk_commands.specs.declared.next.Next.TheVariants.{Reconfigured}
+use Rattle.fab_desk_commands.specs.declared.next.Turn.TheVariants.{Activated}
+use Rattle.fab_desk_commands.specs.Trials.{IsOutcomeFault, IsSoundAfter}
 use Rattle.fab_desk_commands.proofs.PlanChecks.{activate_passes, steps_refused}
 use Rattle.fab_desk_commands.proofs.Orders.{absent_reversed, changes_beside, last_first, listing_with}
 use Rattle.fab_desk_commands.proofs.PlanTurns.{in_state, not_undone, one_plan, there}
@@ -128,44 +127,6 @@ module _ (A : Type 0) (w : WorldRows) (caller n : List ℕ) (p : PlanRecord) (is
 
 -- ---- the parts of the world after it
 
--- what the activation changed
-pub changed_by : {A : Type 0} (w : WorldRows) (n : List ℕ) (c : ConfigRows) (next : Next A) → IsActivation w n c next → (change : Change) × IsDifference w.config c change.taken change.added × ((p : PlanRecord) → IsPlan w n p → next_world w next ≡ after w n p c change)
-changed_by w n c Same h = absurd h
-changed_by w n c (Stock v d) h = absurd h
-changed_by w n c (Staged m p) h = absurd h
-changed_by w n c (Turned m t) h = absurd h
-changed_by w n c (Reconfigured config m Withdrawn) h = absurd h.2
-changed_by w n c (Reconfigured config m (Approved given)) h = absurd h.2
-changed_by w n c (Reconfigured config m (RolledBack d)) h = absurd h.2
-changed_by {A} w n c (Reconfigured config m (Activated d)) h = (change_in d, h.2, world)
-  where
-    world : (p : PlanRecord) → IsPlan w n p → placed config (w.order ++ m ∷ []) (turned_at m (Activated d) w) ≡ after w n p c (change_in d)
-    world p is = (λ i. placed (h.0 i) (w.order ++ h.1 i ∷ []) (turned_at (h.1 i) (Activated d) w)) ∙ ap (λ o. placed c (w.order ++ (n ∷ [])) (with_turn n (Activated d) o w)) is
-
-pub is_reconfiguration : {A : Type 0} (w : WorldRows) (n : List ℕ) (c : ConfigRows) (next : Next A) → IsActivation w n c next → IsReconfiguration n next
-is_reconfiguration w n c Same h = absurd h
-is_reconfiguration w n c (Stock v d) h = absurd h
-is_reconfiguration w n c (Staged m p) h = absurd h
-is_reconfiguration w n c (Turned m t) h = absurd h
-is_reconfiguration w n c (Reconfigured config m t) h = h.1
-
--- it tells what it changed
-pub activation_tells : {A : Type 0} (w : WorldRows) (n : List ℕ) (c : ConfigRows) (next : Next A) → IsActivation w n c next → TellsRows w next
-activation_tells w n c Same h = absurd h
-activation_tells w n c (Stock v d) h = absurd h
-activation_tells w n c (Staged m p) h = absurd h
-activation_tells w n c (Turned m t) h = absurd h
-activation_tells w n c (Reconfigured config m Withdrawn) h = absurd h.2
-activation_tells w n c (Reconfigured config m (Approved given)) h = absurd h.2
-activation_tells w n c (Reconfigured config m (RolledBack d)) h = absurd h.2
-activation_tells w n c (Reconfigured config m (Activated d)) h = subst (λ k. IsDifference w.config k d.taken.items d.added.items) (sym h.0) h.2
-
-pub activation_suits : {A : Type 0} (w : WorldRows) (n : List ℕ) (p : PlanRecord) → IsPlan w n p → state_of p.standing ≡ state.Staged → (c : ConfigRows) (next : Next A) → IsActivation w n c next → w.revision < MOST_CHANGES → Suits w next
-activation_suits w n p is waits c Same h few = absurd h
-activation_suits w n p is waits c (Stock v d) h few = absurd h
-activation_suits w n p is waits c (Staged m q) h few = absurd h
-activation_suits w n p is waits c (Turned m t) h few = absurd h
-activation_suits w n p is waits c (Reconfigured config m Withdrawn) h few = absurd h.2
-activation_suits w n p is waits c (Reconfigured config m (Approved given)) h few = absurd h.2
-activation_suits w n p is waits c (Reconfigured config m (RolledBack d)) h few = absurd h.2
-activation_suits w n p is waits c (Reconfigured config m (Activated d)) h few = ((p, subst (λ k. IsPlan w k p) (sym h.1) is, waits), few, activation_tells w n c (Reconfigured config m (Activated d)) h)
+-- the world is the one after the activation
+pub activated_world : {A : Type 0} (w : WorldRows) (n : List ℕ) (p : PlanRecord) → IsPlan w n p → (c : ConfigRows) (d : RowDifference A) → next_world w (Reconfigured c n (Activated d)) ≡ after w n p c (change_in d)
+activated_world w n p is c d = ap (λ o. placed c (w.order ++ (n ∷ [])) (with_turn n (Activated d) o w)) is

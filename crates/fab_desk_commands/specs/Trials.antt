@@ -17,8 +17,7 @@ use Rattle.fab_desk_base.specs.declared.fault.DeskFault.{DeskFault}
 use Rattle.fab_desk_base.specs.declared.fault.DeskFault.TheVariants.{Gone, Memory, Plan}
 use Rattle.fab_desk_commands.specs.declared.next.Next.{Next}
 use Rattle.fab_desk_commands.specs.declared.next.Next.TheVariants.{Reconfigured}
-use Rattle.fab_desk_commands.specs.declared.next.Turn.{Turn}
-use Rattle.fab_desk_commands.specs.declared.next.Turn.TheVariants.{Activated, RolledBack}
+use Rattle.fab_desk_commands.specs.declared.next.Turn.TheVariants.{RolledBack}
 
 -- ---- the world after a command
 
@@ -35,16 +34,6 @@ abbrev pub IsOutcomeFault : WorldRows → List PlanStep → DeskFault → Type 0
 IsOutcomeFault w steps (Plan number refusal) = IsRefusedOutcome w.inventory steps w.config number refusal
 IsOutcomeFault w steps Memory = Unit {0}
 IsOutcomeFault w steps _ = ⊥
-
--- the turn is an activation that changes the configuration just so
-abbrev pub Activates : {A : Type 0} → ConfigRows → ConfigRows → Turn A → Type 0
-Activates before after (Activated change) = IsDifference before after change.taken.items change.added.items
-Activates before after _ = ⊥
-
--- the parts are those of an activation that leads to the configuration
-abbrev pub IsActivation : {A : Type 0} → WorldRows → List ℕ → ConfigRows → Next A → Type 0
-IsActivation w n c (Reconfigured config m turn) = (config ≡ c) × (m ≡ n) × Activates w.config c turn
-IsActivation w n c _ = ⊥
 
 -- ---- rollback
 

@@ -1,6 +1,7 @@
 //! The activation of a staged plan.
 ghost use Rattle.std.specs.Prelude.{◌<◌, ℕ, List, IfOk, IfErr};
 ghost use Rattle.fab_reach_base.specs.Soundness.{IsSoundBeside};
+ghost use Rattle.fab_store_rows.specs.Differences.{IsDifference};
 ghost use Rattle.fab_plans.specs.Outcomes.{IsOutcome};
 ghost use Rattle.fab_world.specs.Soundness.{IsSound};
 ghost use Rattle.fab_world.specs.declared.limits.TheConstants.{MOST_CHANGES};
@@ -9,19 +10,20 @@ ghost use Rattle.fab_desk_base.specs.Trying.{IsMade, IsTryFault};
 ghost use Rattle.fab_desk_base.specs.declared.command.Command.TheVariants.{Activate};
 ghost use Rattle.fab_desk_commands.specs.Nexts.{next_world, Suits, TellsRows};
 ghost use Rattle.fab_desk_commands.specs.Kinds.{IsReconfiguration};
-ghost use Rattle.fab_desk_commands.specs.Trials.{IsOutcomeFault, IsActivation, IsSoundAfter};
+ghost use Rattle.fab_desk_commands.specs.Trials.{IsOutcomeFault, IsSoundAfter};
 
 use crate::found::staged_at;
 use crate::{Next, Turn};
 use fab_desk_base::DeskFault;
 use fab_names::Name;
 use fab_plans::{TrialFault, trial};
+use fab_plans_rows::changed_rows;
 use fab_reach_base::Config;
-use fab_store_rows::difference;
+use fab_store_rows::RowDifference;
 use fab_world::{KeptPlan, World};
-use std::alloc::{AllocError, Allocator};
+use std::alloc::Allocator;
 
-/// The configuration that the plan's steps make of the world's.
+/// The configuration that the plan's steps make of the world's, and the rows that they change.
 ///
 /// # Errors
 /// `Plan` with the number and the refusal of the first step that is refused, or 0 and the least
@@ -30,37 +32,26 @@ fn outcome<A: Allocator + Copy>(
     alloc: A,
     world: &World<A>,
     kept: &KeptPlan<A>,
-) -> Result<Config<A>, DeskFault>
-    ensures ok { IfOk result (IsOutcome world.now.inventory kept.now.steps world.now.config) }
-    ensures sound { IfOk result (λ after. IsSoundBeside world.now.inventory world.now.config → IsSoundBeside world.now.inventory after) }
+) -> Result<(Config<A>, RowDifference<A>), DeskFault>
+    ensures ok { IfOk result (λ made. IsOutcome world.now.inventory kept.now.steps world.now.config made.0) }
+    ensures differs { IfOk result (λ made. IsDifference world.now.config made.0 made.1.taken.items made.1.added.items) }
+    ensures sound { IfOk result (λ made. IsSoundBeside world.now.inventory world.now.config → IsSoundBeside world.now.inventory made.0) }
     ensures err { IfErr result (IsOutcomeFault world.now kept.now.steps) }
 {
     let plan = kept.plan();
     let Ok(steps) = plan.text.steps(alloc) else {
         return Err(DeskFault::Memory);
     };
-    match trial(&world.config, &world.inventory, steps.as_slice()) {
-        Ok(after) => Ok(after),
-        Err(TrialFault::Refused { step, refusal }) => Err(DeskFault::Plan { step, refusal }),
-        Err(TrialFault::Memory) => Err(DeskFault::Memory),
+    let steps = steps.as_slice();
+    let after = match trial(&world.config, &world.inventory, steps) {
+        Ok(after) => after,
+        Err(TrialFault::Refused { step, refusal }) => return Err(DeskFault::Plan { step, refusal }),
+        Err(TrialFault::Memory) => return Err(DeskFault::Memory),
+    };
+    match changed_rows(alloc, &world.config, &after, steps) {
+        Ok(change) => Ok((after, change)),
+        Err(_) => Err(DeskFault::Memory),
     }
-}
-
-/// The parts of the world after the activation of the plan, which makes this configuration.
-fn activation<A: Allocator + Copy>(
-    alloc: A,
-    world: &World<A>,
-    plan: &Name,
-    config: Config<A>,
-) -> Result<Next<A>, AllocError>
-    ensures { IfOk result (IsActivation world.now plan.now config) }
-{
-    let change = difference(alloc, &world.config, &config)?;
-    Ok(Next::Reconfigured {
-        config,
-        name: *plan,
-        turn: Turn::Activated(change),
-    })
 }
 
 /// What the activation of the plan would make: the configuration that its steps make, the plan,
@@ -87,12 +78,12 @@ pub fn activated<A: Allocator + Copy>(
         Ok(kept) => kept,
         Err(fault) => return Err(fault),
     };
-    let config = match outcome(alloc, world, kept) {
-        Ok(config) => config,
-        Err(fault) => return Err(fault),
-    };
-    match activation(alloc, world, plan, config) {
-        Ok(next) => Ok(next),
-        Err(_) => Err(DeskFault::Memory),
+    match outcome(alloc, world, kept) {
+        Ok((config, change)) => Ok(Next::Reconfigured {
+            config,
+            name: *plan,
+            turn: Turn::Activated(change),
+        }),
+        Err(fault) => Err(fault),
     }
 }

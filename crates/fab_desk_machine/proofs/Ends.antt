@@ -15,8 +15,8 @@ use Rattle.fab_reach_base.specs.Records.{Records}
 use Rattle.fab_reach_base.specs.declared.book.Delta.{Delta}
 use Rattle.fab_world.specs.Soundness.{IsSound}
 use Rattle.fab_world.specs.Worlds.{WorldRows, records_of}
-use Rattle.fab_desk_commands.specs.Nexts.{next_world, Suits}
-use Rattle.fab_desk_commands.specs.declared.next.Next.{Next}
+use Rattle.fab_desk_trials.specs.fab_desk_commands.Nexts.{next_world, Suits}
+use Rattle.fab_desk_trials.specs.fab_desk_commands.declared.next.Next.{Next}
 use Rattle.fab_desk_base.specs.Acts.{IsJudged}
 use Rattle.fab_desk_base.specs.Answers.{IsMove, IsReport, IsLeft, IsCarriedOut, IsOutcomeFor, IsAnswerTo, IsThere, HasPlan, IsStep}
 use Rattle.fab_desk_base.specs.Commands.{action_of, plan_of, IsGiven, IsStaging}

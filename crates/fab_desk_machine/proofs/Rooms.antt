@@ -4,9 +4,9 @@ use Rattle.fab_reach_base.specs.Books.{IsDelta}
 use Rattle.fab_reach_base.specs.Records.{Records}
 use Rattle.fab_reach_base.specs.declared.book.Delta.{Delta}
 use Rattle.fab_world.specs.Worlds.{WorldRows, records_of}
-use Rattle.fab_desk_commands.specs.Nexts.{next_world, with_room, without_room, IsReadyFor, Suits}
-use Rattle.fab_desk_commands.specs.declared.next.Next.{Next}
-use Rattle.fab_desk_commands.proofs.Placing.{records_stay, records_led, given_back}
+use Rattle.fab_desk_trials.specs.fab_desk_commands.Nexts.{next_world, with_room, without_room, IsReadyFor, Suits}
+use Rattle.fab_desk_trials.specs.fab_desk_commands.declared.next.Next.{Next}
+use Rattle.fab_desk_trials.proofs.fab_desk_commands.Placing.{records_stay, records_led, given_back}
 use Rattle.fab_desk_base.specs.Answers.{IsMove}
 use Rattle.fab_desk_trials.specs.Trials.{IsStepReady}
 

@@ -6,7 +6,7 @@ use Rattle.fab_reach_base.specs.Records.{Records}
 use Rattle.fab_reach_base.specs.declared.book.Delta.{Delta}
 use Rattle.fab_world.specs.Soundness.{IsSound}
 use Rattle.fab_world.specs.Worlds.{WorldRows, records_of}
-use Rattle.fab_desk_commands.specs.Nexts.{next_world, Suits}
+use Rattle.fab_desk_trials.specs.fab_desk_commands.Nexts.{next_world, Suits}
 use Rattle.fab_desk_base.specs.Answers.{IsMove, IsKept, IsDeniedWith, IsRefusedWith, IsCarriedOut, Request, IsStep, IsNobodys}
 use Rattle.fab_desk_base.specs.Refusals.{IsEffect}
 use Rattle.fab_desk_base.specs.declared.command.Command.{Command}

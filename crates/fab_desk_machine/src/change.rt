@@ -4,7 +4,7 @@ ghost use Rattle.fab_reach_base.specs.Books.{IsDelta};
 ghost use Rattle.fab_reach_base.specs.Records.{Records};
 ghost use Rattle.fab_reach_base.specs.declared.book.Delta.{Delta};
 ghost use Rattle.fab_world.specs.Worlds.{WorldRows, records_of};
-ghost use Rattle.fab_desk_commands.specs.Nexts.{next_world, with_room, IsReadyFor, Suits};
+ghost use Rattle.fab_desk_trials.specs.fab_desk_commands.Nexts.{next_world, with_room, IsReadyFor, Suits};
 ghost use Rattle.fab_desk_base.specs.Answers.{IsMove};
 ghost use Rattle.fab_desk_machine.specs.Proposals.{IsMemory};
 ghost use Rattle.fab_desk_machine.specs.Reports.{reply_of};
@@ -12,7 +12,7 @@ ghost use Rattle.fab_desk_trials.specs.Trials.{IsStepReady};
 
 use crate::report::{Report, reply_with};
 use fab_desk_base::{DeskFault, Reply};
-use fab_desk_commands::Next;
+use fab_desk_trials::commands::Next;
 use fab_reach_base::{Delta, Path};
 use fab_reach_books::PathBook;
 use fab_world::World;

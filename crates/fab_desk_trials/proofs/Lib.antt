@@ -1,3 +1,5 @@
 pub mod StockLists
 pub mod TriedEffects
 pub mod WithinLimits
+mod VolumeEffects
+pub use Rattle.fab_desk_commands.proofs as fab_desk_commands

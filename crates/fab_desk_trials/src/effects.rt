@@ -1,5 +1,6 @@
 //! What a command would make of the world, the limits on paths and on changes aside.
 ghost use Rattle.std.specs.Prelude.{◌≡◌, ℕ, IsSome, IfOk, IfErr};
+ghost use Rattle.fab_store_world.specs.Inventories.{AreOneButVolume};
 ghost use Rattle.fab_world.specs.Soundness.{IsSound};
 ghost use Rattle.fab_policy_base.specs.Policies.{PolicyRows};
 ghost use Rattle.fab_desk_base.specs.Answers.{IsThere};
@@ -14,7 +15,7 @@ use fab_desk_commands::{
 };
 use fab_inventory::Inventory;
 use fab_names::Name;
-use fab_store_world::inventory_difference;
+use fab_store_world::{inventory_difference, volume_difference};
 use fab_world::World;
 use std::alloc::Allocator;
 
@@ -44,6 +45,31 @@ fn of_stock<A: Allocator + Copy>(
         Err(fault) => return Err(fault),
     };
     match inventory_difference(alloc, &world.inventory, &inventory) {
+        Ok(change) => Ok(Effect::Parts(Next::Stock { inventory, change })),
+        Err(_) => Err(DeskFault::Memory),
+    }
+}
+
+/// The effect of a command on a volume: it tells the row in which the inventory differs, and looks at
+/// no other.
+///
+/// # Errors
+/// The refusal, or `Memory`.
+fn of_volume<A: Allocator + Copy>(
+    alloc: A,
+    world: &World<A>,
+    name: &Name,
+    tried: Result<Inventory<A>, DeskFault>,
+) -> Result<Effect<A>, DeskFault>
+    requires { IfOk tried (λ v. AreOneButVolume world.now.inventory v name.now) }
+    ensures ok { IfOk result (IsStockEffect world.now tried) }
+    ensures err { IfErr result (IsStockFault tried) }
+{
+    let inventory = match tried {
+        Ok(inventory) => inventory,
+        Err(fault) => return Err(fault),
+    };
+    match volume_difference(alloc, &world.inventory, &inventory, name) {
         Ok(change) => Ok(Effect::Parts(Next::Stock { inventory, change })),
         Err(_) => Err(DeskFault::Memory),
     }
@@ -96,9 +122,10 @@ pub fn effect_of<A: Allocator + Copy>(
             tenant,
             ports,
         } => of_stock(alloc, world, holder_put(world, *kind, name, tenant, ports)),
-        Command::PutVolume { name, volume } => of_stock(
+        Command::PutVolume { name, volume } => of_volume(
             alloc,
             world,
+            name,
             volume_put(world, name, volume),
         ),
         Command::DropHolder { kind, name } => of_stock(
@@ -106,7 +133,7 @@ pub fn effect_of<A: Allocator + Copy>(
             world,
             holder_dropped(world, *kind, name),
         ),
-        Command::DropVolume { name } => of_stock(alloc, world, volume_dropped(world, name)),
+        Command::DropVolume { name } => of_volume(alloc, world, name, volume_dropped(world, name)),
         Command::Stage { plan, steps } => of_staging(is_staged_already(
             alloc, world, caller, plan, steps,
         )),

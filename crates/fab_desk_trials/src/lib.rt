@@ -11,5 +11,6 @@ mod moves;
 mod steps;
 
 pub use effects::Effect;
+pub use fab_desk_commands as commands;
 pub use moves::moved_view;
 pub use steps::{Prepared, try_out};

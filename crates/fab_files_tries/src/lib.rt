@@ -9,5 +9,6 @@ mod names;
 mod plans;
 mod rows;
 
+pub use fab_looks_tries as looks_tries;
 pub use imports::{ImportJson, ImportText, is_over};
 pub use plans::{PlanJson, PlanText};

@@ -3,7 +3,7 @@ use Rattle.std.proofs.Common.{◌≡◌, ◌≢◌, ◌↔◌, ℕ, List, [], Bo
 use mathlib.Core.Bool.{true≢false}
 use Rattle.std.specs.BTreeSet.{BTreeSet}
 use Rattle.std.proofs.lemmas.Map.Views.{btree_set_contains_iff}
-use Rattle.fab_desk_base.specs.Tenants.{Has}
+use Rattle.fab_desk_machine.specs.fab_desk_base.Tenants.{Has}
 use Rattle.fab_looks_tries.specs.Hosts.{HasPathOver, IsOnOneFabric, IsWithoutPath}
 use Rattle.fab_looks_tries.specs.Inner.Gathered.{IsOver}
 use Rattle.fab_looks_tries.proofs.Losing.{Inserts, name_added}

@@ -3,7 +3,7 @@ use Rattle.std.proofs.Common.{◌≡◌, ℕ, List, [], None, cond, true, sym, a
 use Rattle.std.proofs.lemmas.Option.{none-some}
 use Rattle.std.specs.BTreeMap.{is_at}
 use Rattle.std.specs.BTreeSet.{BTreeSet, contains}
-use Rattle.fab_desk_base.specs.Tenants.{Has}
+use Rattle.fab_desk_machine.specs.fab_desk_base.Tenants.{Has}
 use Rattle.fab_inventory.specs.declared.port.Port.{Port}
 use Rattle.fab_inventory.specs.Ports.{port_at}
 use Rattle.fab_looks_tries.specs.Hosts.{LosesPath}

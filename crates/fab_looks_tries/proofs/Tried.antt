@@ -1,13 +1,13 @@
 -- What is told of imports and plans.
 use Rattle.std.proofs.Common.{◌≡◌, ℕ, List}
 use Rattle.std.specs.declared.vec.Vec.{Vec}
-use Rattle.fab_desk_base.specs.Answers.{Request}
-use Rattle.fab_desk_base.specs.declared.command.Command.{Command}
-use Rattle.fab_desk_base.specs.declared.command.Command.TheVariants as command
+use Rattle.fab_desk_machine.specs.fab_desk_base.Answers.{Request}
+use Rattle.fab_desk_machine.specs.fab_desk_base.declared.command.Command.{Command}
+use Rattle.fab_desk_machine.specs.fab_desk_base.declared.command.Command.TheVariants as command
 use Rattle.fab_desk_machine.specs.Foreseen.{IsForeseen}
 use Rattle.fab_desk_machine.specs.Proposals.{request_of}
-use Rattle.fab_desk_trials.specs.Trials.{EffectSuits, IsStepReady, effect_world}
-use Rattle.fab_desk_trials.specs.declared.steps.Prepared.{Prepared}
+use Rattle.fab_desk_machine.specs.fab_desk_trials.Trials.{EffectSuits, IsStepReady, effect_world}
+use Rattle.fab_desk_machine.specs.fab_desk_trials.declared.steps.Prepared.{Prepared}
 use Rattle.fab_inventory.specs.declared.port.PortRow.{PortRow}
 use Rattle.fab_looks_tries.specs.Hosts.{ArePathsMoved}
 use Rattle.fab_looks_tries.specs.Ports.{ArePortsMoved, IsNumberListed}
@@ -18,7 +18,7 @@ use Rattle.fab_names.specs.declared.fabric.Fabric.{Fabric}
 use Rattle.fab_policy_base.specs.Policies.{PolicyRows}
 use Rattle.fab_reach_base.specs.Records.{Records}
 use Rattle.fab_store_rows.specs.Differences.{IsDifference}
-use Rattle.fab_world.specs.Worlds.{WorldRows, records_of}
+use Rattle.fab_desk_machine.specs.fab_world.Worlds.{WorldRows, records_of}
 
 module _ {A R : Type 0} (leads : R → Records → Records → Type 0) (p : PolicyRows) (w : WorldRows) where
   -- what is foreseen is what would be made

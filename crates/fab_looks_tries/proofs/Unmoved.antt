@@ -2,9 +2,9 @@
 use Rattle.std.proofs.Common.{ℕ, ◌≡◌, ◌<◌, List, [], refl, sym, subst, arith}
 use Rattle.std.specs.declared.cmp.Ordering.{Ordering}
 use Rattle.std.specs.List.Sorted.{IsStrictlySortedBy}
-use Rattle.fab_desk_base.specs.declared.command.Command.{Command}
-use Rattle.fab_desk_base.specs.declared.command.Command.TheVariants.{Import, PutHolder, PutVolume, DropHolder, DropVolume, Stage, Withdraw, Approve, DryRun, Activate, Rollback, Show}
-use Rattle.fab_desk_trials.specs.Trials.{planned}
+use Rattle.fab_desk_machine.specs.fab_desk_base.declared.command.Command.{Command}
+use Rattle.fab_desk_machine.specs.fab_desk_base.declared.command.Command.TheVariants.{Import, PutHolder, PutVolume, DropHolder, DropVolume, Stage, Withdraw, Approve, DryRun, Activate, Rollback, Show}
+use Rattle.fab_desk_machine.specs.fab_desk_trials.Trials.{planned}
 use Rattle.fab_inventory.specs.declared.port.Port.{Port}
 use Rattle.fab_lemmas.specs.Lists.{IsListOf}
 use Rattle.fab_looks_tries.specs.Ports.{AreNewPorts}
@@ -14,7 +14,7 @@ use Rattle.fab_store_rows.specs.RowOrder.{row_order}
 use Rattle.fab_store_rows.specs.declared.config_row.ConfigRow.{ConfigRow}
 use Rattle.fab_store_rows.specs.declared.inventory_row.InventoryRow.TheVariants as row
 use Rattle.fab_store_world.specs.Inventories.{IsKnownOnlyIn, port_order}
-use Rattle.fab_world.specs.Worlds.{WorldRows, records_of}
+use Rattle.fab_desk_machine.specs.fab_world.Worlds.{WorldRows, records_of}
 
 nowhere : {k : ℕ} → ¬ (k < 0)
 nowhere h = omega (arith, h)

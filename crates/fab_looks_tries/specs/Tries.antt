@@ -1,10 +1,10 @@
 -- What an import and the activation of a plan would do.
 use Rattle.std.specs.Prelude.{ℕ, ◌≡◌, List, Some, slice_get}
 use Rattle.std.specs.declared.vec.Vec.{Vec}
-use Rattle.fab_desk_base.specs.Acts.{IsJudged}
-use Rattle.fab_desk_base.specs.Answers.{Request}
-use Rattle.fab_desk_base.specs.Refusals.{IsEffect}
-use Rattle.fab_desk_base.specs.declared.command.Command.TheVariants as command
+use Rattle.fab_desk_machine.specs.fab_desk_base.Acts.{IsJudged}
+use Rattle.fab_desk_machine.specs.fab_desk_base.Answers.{Request}
+use Rattle.fab_desk_machine.specs.fab_desk_base.Refusals.{IsEffect}
+use Rattle.fab_desk_machine.specs.fab_desk_base.declared.command.Command.TheVariants as command
 use Rattle.fab_desk_machine.specs.Proposals.{request_of}
 use Rattle.fab_inventory.specs.declared.port.PortRow.{PortRow}
 use Rattle.fab_looks_tries.specs.Hosts.{ArePathsMoved}
@@ -16,7 +16,7 @@ use Rattle.fab_policy.specs.declared.act.Verdict.TheVariants.{Allowed}
 use Rattle.fab_policy_base.specs.Callers.{IsOnlyWith}
 use Rattle.fab_policy_base.specs.Policies.{CallerRow, PolicyRows}
 use Rattle.fab_store_rows.specs.Differences.{IsDifference}
-use Rattle.fab_world.specs.Worlds.{WorldRows, records_of}
+use Rattle.fab_desk_machine.specs.fab_world.Worlds.{WorldRows, records_of}
 
 -- one caller has the token, the policy allows what is asked, nothing refuses it, and this is the world
 -- that it makes; a dry run makes what the activation does

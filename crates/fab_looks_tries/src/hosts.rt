@@ -1,6 +1,6 @@
 //! Hosts that lose paths.
 ghost use Rattle.std.specs.Prelude.{◌↔◌, ℕ, List, OnOk, IfOk};
-ghost use Rattle.fab_desk_base.specs.Tenants.{Has};
+ghost use Rattle.fab_desk_machine.specs.fab_desk_base.Tenants.{Has};
 ghost use Rattle.fab_looks_tries.specs.Hosts.{LosesPath};
 ghost use Rattle.fab_looks_tries.specs.Inner.Gathered.{IsHostOfSome};
 ghost use Rattle.fab_reach_base.specs.Adding.{Adds};

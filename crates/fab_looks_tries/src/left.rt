@@ -1,6 +1,6 @@
 //! Over which fabrics hosts have paths.
 ghost use Rattle.std.specs.Prelude.{◌≡◌, ◌≢◌, ◌↔◌, ◌⊎◌, ℕ, List, Contains, IsTrue, OnOk, IfOk};
-ghost use Rattle.fab_desk_base.specs.Tenants.{Has};
+ghost use Rattle.fab_desk_machine.specs.fab_desk_base.Tenants.{Has};
 ghost use Rattle.fab_looks_tries.specs.Hosts.{HasPathOver, IsOnOneFabric, IsWithoutPath};
 ghost use Rattle.fab_looks_tries.specs.Inner.Gathered.{IsOver};
 ghost use Rattle.fab_names.specs.declared.fabric.Fabric.TheVariants as fabrics;

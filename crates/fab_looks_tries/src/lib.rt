@@ -14,6 +14,7 @@ mod plans;
 mod ports;
 mod rows;
 
+pub use fab_desk_machine as machine;
 pub use imports::{TriedImport, try_import};
 pub use paths::{LosingHosts, PathsMoved};
 pub use plans::{TriedPlan, try_plan};

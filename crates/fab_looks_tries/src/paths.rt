@@ -1,22 +1,22 @@
 //! What a change does to paths and to the hosts that lose some.
 ghost use Rattle.std.specs.Prelude.{◌≡◌, ◌↔◌, ℕ, List, IfOk};
-ghost use Rattle.fab_desk_base.specs.Tenants.{Has};
-ghost use Rattle.fab_desk_trials.specs.Trials.{IsStepReady};
+ghost use Rattle.fab_desk_machine.specs.fab_desk_base.Tenants.{Has};
+ghost use Rattle.fab_desk_machine.specs.fab_desk_trials.Trials.{IsStepReady};
 ghost use Rattle.fab_looks_tries.specs.Hosts.{AreLosing, ArePathsMoved, IsOnOneFabric, IsWithoutPath, LosesPath};
 ghost use Rattle.fab_reach_base.specs.Books.{IsGained};
 ghost use Rattle.fab_reach_base.specs.Orders.{IsListOf};
 ghost use Rattle.fab_reach_base.specs.Records.{Records};
 ghost use Rattle.fab_reach_base.specs.Views.{seen};
-ghost use Rattle.fab_world.specs.Worlds.{records_of};
+ghost use Rattle.fab_desk_machine.specs.fab_world.Worlds.{records_of};
 
 use crate::hosts::losing_hosts;
 use crate::left::{Left, left_of};
 use crate::order::in_order;
 use fab_desk_machine::adopt;
+use fab_desk_machine::world::World;
 use fab_names::Name;
 use fab_reach_base::{Path, View};
 use fab_reach_books::PathBook;
-use fab_world::World;
 use std::alloc::{AllocError, Allocator};
 use std::collections::BTreeSet;
 

@@ -1,15 +1,15 @@
 //! The rows that an effect moves.
 ghost use Rattle.std.specs.Prelude.{◌≡◌, ℕ, List, IfOk};
-ghost use Rattle.fab_desk_base.specs.declared.command.Command.{Command};
-ghost use Rattle.fab_desk_commands.specs.Nexts.{Suits, TellsChange, next_world};
-ghost use Rattle.fab_desk_trials.specs.Trials.{EffectSuits, effect_world};
+ghost use Rattle.fab_desk_machine.specs.fab_desk_base.declared.command.Command.{Command};
+ghost use Rattle.fab_desk_machine.specs.fab_desk_commands.Nexts.{Suits, TellsChange, next_world};
+ghost use Rattle.fab_desk_machine.specs.fab_desk_trials.Trials.{EffectSuits, effect_world};
 ghost use Rattle.fab_looks_tries.specs.Ports.{AreNewPorts};
 ghost use Rattle.fab_reach_base.specs.Records.{ConfigRows};
 ghost use Rattle.fab_store_rows.specs.Differences.{IsDifference};
-ghost use Rattle.fab_world.specs.Worlds.{WorldRows};
+ghost use Rattle.fab_desk_machine.specs.fab_world.Worlds.{WorldRows};
 
-use fab_desk_commands::{Next, Turn, copied};
-use fab_desk_trials::Effect;
+use fab_desk_machine::commands::{Next, Turn, copied};
+use fab_desk_machine::trials::Effect;
 use fab_inventory::Port;
 use fab_store_rows::{ConfigRow, RowDifference};
 use std::alloc::{AllocError, Allocator};

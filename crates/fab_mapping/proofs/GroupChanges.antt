@@ -6,14 +6,14 @@ use Rattle.std.specs.BTreeMap.{BTreeMap, is_at, UpdatesBy}
 use Rattle.std.specs.FinMap as map
 use Rattle.std.specs.Map.{set_value}
 use Rattle.std.proofs.lemmas.Map.Steps.{set_value_same}
-use Rattle.fab_names.specs.Orders.{name_cmp}
-use Rattle.fab_names.proofs.OrderLaws.{name_total, name_exact}
-use Rattle.fab_lemmas.proofs.SeenMaps.{get_entries, seen_insert, seen_remove}
-use Rattle.fab_inventory.specs.declared.port.Known.{Known}
-use Rattle.fab_inventory.specs.declared.port.Port.{Port}
-use Rattle.fab_inventory.specs.Ports.{KnownPorts, port_at, port_of}
-use Rattle.fab_inventory.specs.Holders.{holder_in}
-use Rattle.fab_inventory.specs.Inventories.{InventoryRows}
+use Rattle.fab_mapping_base.specs.fab_names.Orders.{name_cmp}
+use Rattle.fab_mapping_base.proofs.fab_names.OrderLaws.{name_total, name_exact}
+use Rattle.fab_mapping_base.proofs.fab_lemmas.SeenMaps.{get_entries, seen_insert, seen_remove}
+use Rattle.fab_mapping_base.specs.fab_inventory.declared.port.Known.{Known}
+use Rattle.fab_mapping_base.specs.fab_inventory.declared.port.Port.{Port}
+use Rattle.fab_mapping_base.specs.fab_inventory.Ports.{KnownPorts, port_at, port_of}
+use Rattle.fab_mapping_base.specs.fab_inventory.Holders.{holder_in}
+use Rattle.fab_mapping_base.specs.fab_inventory.Inventories.{InventoryRows}
 use Rattle.fab_mapping_base.specs.declared.fault.MappingFault.{MappingFault}
 use Rattle.fab_mapping_base.specs.declared.fault.MappingFault.TheVariants.{UnitTaken, Limit, Memory}
 use Rattle.fab_mapping_base.specs.declared.fault.MappingLimit.TheVariants.{Parts}

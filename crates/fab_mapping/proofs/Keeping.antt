@@ -8,13 +8,13 @@ use Rattle.std.specs.BTreeMap.{BTreeMap, UpdatesBy}
 use Rattle.std.specs.FinMap as map
 use Rattle.std.specs.FinSet as set
 use Rattle.std.proofs.lemmas.List.Elements.{All-contains}
-use Rattle.fab_lemmas.proofs.Changed.{member_put, member_gone, entry_put, entry_gone, still_there, there_without}
-use Rattle.fab_lemmas.proofs.SeenMaps.{same_look_ups}
-use Rattle.fab_lemmas.proofs.SeenSets.{listed_decides}
-use Rattle.fab_lemmas.proofs.Sizes.{set_put, set_gone, map_put, map_gone, some_listed, at_most_listed}
-use Rattle.fab_names.specs.Orders.{name_cmp}
-use Rattle.fab_names.proofs.OrderLaws.{name_total, name_exact}
-use Rattle.fab_inventory.specs.Inventories.{InventoryRows, IsHost}
+use Rattle.fab_mapping_base.proofs.fab_lemmas.Changed.{member_put, member_gone, entry_put, entry_gone, still_there, there_without}
+use Rattle.fab_mapping_base.proofs.fab_lemmas.SeenMaps.{same_look_ups}
+use Rattle.fab_mapping_base.proofs.fab_lemmas.SeenSets.{listed_decides}
+use Rattle.fab_mapping_base.proofs.fab_lemmas.Sizes.{set_put, set_gone, map_put, map_gone, some_listed, at_most_listed}
+use Rattle.fab_mapping_base.specs.fab_names.Orders.{name_cmp}
+use Rattle.fab_mapping_base.proofs.fab_names.OrderLaws.{name_total, name_exact}
+use Rattle.fab_mapping_base.specs.fab_inventory.Inventories.{InventoryRows, IsHost}
 use Rattle.fab_mapping_base.specs.declared.limits.TheConstants.{LAST_UNIT}
 use Rattle.fab_mapping_base.specs.Groups.{HostGroupRows, StorageGroupRows, host_group_of, new_storage_group, with_hosts, without_hosts, with_target, without_target, with_unit, without_unit, exposed_as, HasRoomForHosts, HasRoomForTarget, HasRoomForUnit}
 use Rattle.fab_mapping_base.specs.Clashes.{HostGroups}

@@ -7,17 +7,17 @@ use Rattle.std.specs.BTreeMap as tree
 use Rattle.std.specs.BTreeMap.{BTreeMap}
 use Rattle.std.specs.FinMap as map
 use Rattle.std.proofs.lemmas.Map.Views.{btree_map_get_iff}
-use Rattle.fab_lemmas.specs.Firsts.{IsFirstOf}
-use Rattle.fab_lemmas.proofs.Adding.{Before}
-use Rattle.fab_lemmas.proofs.Leasts.{least_as}
-use Rattle.fab_lemmas.proofs.SeenSets.{tie_decides}
-use Rattle.fab_names.specs.Orders.{name_cmp}
-use Rattle.fab_names.proofs.OrderLaws.{name_total, name_exact}
-use Rattle.fab_inventory.specs.declared.holder.HolderKind.{HolderKind}
-use Rattle.fab_inventory.specs.declared.holder.HolderKind.TheVariants as kind
-use Rattle.fab_inventory.specs.declared.holder.Volume.{Volume}
-use Rattle.fab_inventory.specs.Holders.{holder_in}
-use Rattle.fab_inventory.specs.Inventories.{InventoryRows, kind_of}
+use Rattle.fab_mapping_base.specs.fab_lemmas.Firsts.{IsFirstOf}
+use Rattle.fab_mapping_base.proofs.fab_lemmas.Adding.{Before}
+use Rattle.fab_mapping_base.proofs.fab_lemmas.Leasts.{least_as}
+use Rattle.fab_mapping_base.proofs.fab_lemmas.SeenSets.{tie_decides}
+use Rattle.fab_mapping_base.specs.fab_names.Orders.{name_cmp}
+use Rattle.fab_mapping_base.proofs.fab_names.OrderLaws.{name_total, name_exact}
+use Rattle.fab_mapping_base.specs.fab_inventory.declared.holder.HolderKind.{HolderKind}
+use Rattle.fab_mapping_base.specs.fab_inventory.declared.holder.HolderKind.TheVariants as kind
+use Rattle.fab_mapping_base.specs.fab_inventory.declared.holder.Volume.{Volume}
+use Rattle.fab_mapping_base.specs.fab_inventory.Holders.{holder_in}
+use Rattle.fab_mapping_base.specs.fab_inventory.Inventories.{InventoryRows, kind_of}
 use Rattle.fab_mapping_base.specs.declared.gone.Gone.{Gone}
 use Rattle.fab_mapping_base.specs.Clashes.{HostGroups, StorageGroups}
 use Rattle.fab_mapping_base.specs.Fitting.{IsVolumeOn, HasHosts, GroupFits, LacksHost, LacksArray, LacksTarget, LacksVolume}

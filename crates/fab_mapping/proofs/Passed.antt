@@ -3,9 +3,9 @@ use Rattle.std.proofs.Common.{ℕ, ◌≡◌, List, Bool, IsTrue, Option, None, 
 use Rattle.std.specs.BTreeMap as tree
 use Rattle.std.specs.BTreeMap.{BTreeMap}
 use Rattle.std.specs.Option.{IfSome}
-use Rattle.fab_lemmas.proofs.Passing.{values_pass}
-use Rattle.fab_names.specs.Orders.{name_cmp}
-use Rattle.fab_names.proofs.OrderLaws.{name_total}
+use Rattle.fab_mapping_base.proofs.fab_lemmas.Passing.{values_pass}
+use Rattle.fab_mapping_base.specs.fab_names.Orders.{name_cmp}
+use Rattle.fab_mapping_base.proofs.fab_names.OrderLaws.{name_total}
 use Rattle.fab_mapping_base.proofs.Passed.{Answers}
 use Rattle.fab_mapping.specs.Soundness.{Each}
 

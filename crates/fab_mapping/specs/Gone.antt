@@ -2,9 +2,9 @@
 use Rattle.std.specs.Prelude.{ℕ, List, Option}
 use Rattle.std.specs.Ordering.{nat_cmp}
 use Rattle.std.specs.FinMap as map
-use Rattle.fab_inventory.specs.Inventories.{InventoryRows}
-use Rattle.fab_lemmas.specs.Firsts.{IsFirstWith, HasAt}
-use Rattle.fab_names.specs.Orders.{name_cmp}
+use Rattle.fab_mapping_base.specs.fab_inventory.Inventories.{InventoryRows}
+use Rattle.fab_mapping_base.specs.fab_lemmas.Firsts.{IsFirstWith, HasAt}
+use Rattle.fab_mapping_base.specs.fab_names.Orders.{name_cmp}
 use Rattle.fab_mapping_base.specs.declared.gone.Gone.{Gone}
 use Rattle.fab_mapping_base.specs.declared.gone.Gone.TheVariants as gone
 use Rattle.fab_mapping_base.specs.Clashes.{HostGroups, StorageGroups}

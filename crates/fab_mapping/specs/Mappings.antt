@@ -4,11 +4,11 @@ use Rattle.std.specs.Ordering.{is_gt}
 use Rattle.std.specs.Coded.{Coded, code_by, coded×}
 use Rattle.std.specs.FinMap as map
 use Rattle.std.specs.FinSet as set
-use Rattle.fab_lemmas.specs.Firsts.{IsFirstWithout}
-use Rattle.fab_lemmas.specs.Room.{IsFull, HasRoom}
-use Rattle.fab_names.specs.Orders.{name_cmp}
-use Rattle.fab_names.specs.Codes.{name_code}
-use Rattle.fab_inventory.specs.Inventories.{InventoryRows, IsHost, IsArray}
+use Rattle.fab_mapping_base.specs.fab_lemmas.Firsts.{IsFirstWithout}
+use Rattle.fab_mapping_base.specs.fab_lemmas.Room.{IsFull, HasRoom}
+use Rattle.fab_mapping_base.specs.fab_names.Orders.{name_cmp}
+use Rattle.fab_mapping_base.specs.fab_names.Codes.{name_code}
+use Rattle.fab_mapping_base.specs.fab_inventory.Inventories.{InventoryRows, IsHost, IsArray}
 use Rattle.fab_mapping_base.specs.declared.limits.TheConstants.{MOST_HOSTS, MOST_HOST_GROUPS, MOST_STORAGE_GROUPS, LAST_UNIT}
 use Rattle.fab_mapping_base.specs.declared.fault.MappingFault.{MappingFault}
 use Rattle.fab_mapping_base.specs.declared.fault.MappingFault.TheVariants.{Unknown, UnknownPort, Exists, InUse, WrongArray, UnitTaken, NotMapped, Limit, Memory}

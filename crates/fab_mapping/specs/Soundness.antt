@@ -2,7 +2,7 @@
 -- steps alone is both.
 use Rattle.std.specs.Prelude.{ℕ, ◌≡◌, ◌≤◌, List, Option, Some}
 use Rattle.std.specs.FinMap as map
-use Rattle.fab_inventory.specs.Inventories.{InventoryRows}
+use Rattle.fab_mapping_base.specs.fab_inventory.Inventories.{InventoryRows}
 use Rattle.fab_mapping_base.specs.declared.limits.TheConstants.{MOST_HOST_GROUPS, MOST_STORAGE_GROUPS}
 use Rattle.fab_mapping.specs.Mappings.{MappingRows}
 pub use Rattle.fab_mapping_base.specs.Soundness.{IsSoundHostGroup, HasFewParts, HasUnitNumbers, HasKnownHosts, IsSoundGroup}

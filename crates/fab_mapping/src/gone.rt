@@ -2,17 +2,17 @@
 ghost use Rattle.std.specs.Prelude.{MatchOption};
 ghost use Rattle.std.specs.BTreeMap.{get};
 ghost use Rattle.std.specs.Ordering.{nat_cmp};
-ghost use Rattle.fab_lemmas.specs.Firsts.{IsFirstOf};
-ghost use Rattle.fab_names.specs.Orders.{name_cmp};
+ghost use Rattle.fab_mapping_base.specs.fab_lemmas.Firsts.{IsFirstOf};
+ghost use Rattle.fab_mapping_base.specs.fab_names.Orders.{name_cmp};
 ghost use Rattle.fab_mapping_base.specs.Fitting.{HasHosts, GroupFits, LacksHost, LacksArray, LacksTarget, LacksVolume};
 ghost use Rattle.fab_mapping.specs.Soundness.{Each};
 ghost use Rattle.fab_mapping.specs.Gone.{IsLacking, IsFirstGoneOf};
 
 use crate::{Gone, HostGroup, StorageGroup};
-use fab_inventory::Inventory;
-use fab_lemmas::lesser;
+use fab_mapping_base::inventory::Inventory;
+use fab_mapping_base::lemmas::lesser;
+use fab_mapping_base::names::{Name, Wwn};
 use fab_mapping_base::{gone_array, gone_host, gone_target, gone_volume};
-use fab_names::{Name, Wwn};
 use std::alloc::Allocator;
 use std::collections::BTreeMap;
 

@@ -9,6 +9,7 @@ mod mapping;
 mod search;
 mod sound;
 
+pub use fab_mapping_base as base;
 pub use fab_mapping_base::{
     Gone, HostGroup, LAST_UNIT, MOST_GROUPS_SERVED, MOST_HOST_GROUPS, MOST_HOSTS,
     MOST_STORAGE_GROUPS, MOST_TARGETS, MOST_UNITS, MappingFault, MappingLimit, Nexus, StorageGroup,

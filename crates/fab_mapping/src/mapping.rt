@@ -3,12 +3,12 @@ ghost use Rattle.std.specs.Prelude.{◌≡◌, ◌<◌, ◌≤◌, ◌↔◌, le
 ghost use Rattle.std.specs.Option.{option_copied};
 ghost use Rattle.std.specs.FinMap as map;
 ghost use Rattle.std.specs.FinSet as set;
-ghost use Rattle.fab_lemmas.specs.Firsts.{IsFirstWith, HasAt, HasNowhere};
-ghost use Rattle.fab_names.specs.Orders.{name_cmp};
+ghost use Rattle.fab_mapping_base.specs.fab_lemmas.Firsts.{IsFirstWith, HasAt, HasNowhere};
+ghost use Rattle.fab_mapping_base.specs.fab_names.Orders.{name_cmp};
 ghost use Rattle.fab_mapping_base.specs.Groups.{HoldsHost, HasTarget, IsOfArray, MapsVolume, host_group_of, new_storage_group, with_hosts, without_hosts, with_target, without_target, with_unit, without_unit, exposed_as, HasRoomForHosts, HasRoomForTarget, HasRoomForUnit, HasFreeUnit};
 ghost use Rattle.fab_mapping_base.specs.Fitting.{IsPortOf, IsVolumeOn};
 ghost use Rattle.fab_mapping.specs.Mappings.{no_groups, IsLeastClash, HasNoClash, CanPutHostGroup, PutHostGroupFails, IsUnservedIn, DropHostGroupFails, CanMakeGroup, NewGroupFails, NamesNoGroup, ChangesGroup, GroupHas, AddHostsFails, RemoveHostsFails, AddTargetFails, RemoveTargetFails, MapFails, UnmapFails};
-ghost use Rattle.fab_inventory.specs.Inventories.{InventoryRows};
+ghost use Rattle.fab_mapping_base.specs.fab_inventory.Inventories.{InventoryRows};
 ghost use Rattle.fab_mapping.specs.Gone.{IsFirstGone};
 ghost use Rattle.fab_mapping.specs.Soundness.{IsSound, Fits, Keeps, KeepsAll};
 
@@ -21,10 +21,10 @@ use crate::{
     Gone, HostGroup, LAST_UNIT, MOST_HOST_GROUPS, MOST_HOSTS, MOST_STORAGE_GROUPS, MappingFault,
     MappingLimit, Nexus, StorageGroup,
 };
-use fab_inventory::Inventory;
-use fab_lemmas::is_full;
+use fab_mapping_base::inventory::Inventory;
+use fab_mapping_base::lemmas::is_full;
+use fab_mapping_base::names::{Name, Wwn};
 use fab_mapping_base::{first_no_host, is_array, is_held_by, is_unit, least_clash};
-use fab_names::{Name, Wwn};
 use std::alloc::{AllocError, Allocator};
 use std::collections::BTreeMap;
 use std::collections::btree_map::Iter;

@@ -1,13 +1,13 @@
 //! Searches among host groups and storage groups.
 ghost use Rattle.std.specs.Prelude.{MatchOption};
 ghost use Rattle.std.specs.BTreeMap.{get};
-ghost use Rattle.fab_names.specs.Orders.{name_cmp};
-ghost use Rattle.fab_lemmas.specs.Firsts.{IsFirstWith, HasAt, HasNowhere};
+ghost use Rattle.fab_mapping_base.specs.fab_names.Orders.{name_cmp};
+ghost use Rattle.fab_mapping_base.specs.fab_lemmas.Firsts.{IsFirstWith, HasAt, HasNowhere};
 ghost use Rattle.fab_mapping_base.specs.Groups.{HoldsHost, HasTarget, IsOfArray, MapsVolume};
 ghost use Rattle.fab_mapping.specs.Mappings.{IsUnservedIn, IsLeastServing};
 
 use crate::{HostGroup, StorageGroup};
-use fab_names::{Name, Wwn};
+use fab_mapping_base::names::{Name, Wwn};
 use std::alloc::Allocator;
 use std::collections::BTreeMap;
 

@@ -2,15 +2,15 @@
 ghost use Rattle.std.specs.Prelude.{IsTrue, ◌↔◌};
 ghost use Rattle.std.specs.BTreeMap.{get};
 ghost use Rattle.std.specs.FinMap as map;
-ghost use Rattle.fab_names.specs.Orders.{name_cmp};
+ghost use Rattle.fab_mapping_base.specs.fab_names.Orders.{name_cmp};
 ghost use Rattle.fab_mapping_base.specs.Soundness.{IsSoundHostGroup, IsSoundGroup};
 ghost use Rattle.fab_mapping_base.specs.Fitting.{HasHosts, GroupFits};
 ghost use Rattle.fab_mapping.specs.Soundness.{Each, IsSound};
 
 use crate::{HostGroup, MOST_HOST_GROUPS, MOST_STORAGE_GROUPS, StorageGroup};
-use fab_inventory::Inventory;
+use fab_mapping_base::inventory::Inventory;
+use fab_mapping_base::names::Name;
 use fab_mapping_base::{group_fits, host_group_fits, is_sound_group};
-use fab_names::Name;
 use std::alloc::Allocator;
 use std::collections::BTreeMap;
 

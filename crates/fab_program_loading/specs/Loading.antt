@@ -6,7 +6,7 @@ use Rattle.fab_program_outside.specs.declared.faults.Fault.TheVariants as fault
 use Rattle.fab_store.specs.declared.OpenFault.{OpenFault}
 use Rattle.fab_store.specs.declared.OpenFault.TheVariants as opening
 use Rattle.fab_store.specs.declared.Store as store
-use Rattle.fab_store_base.specs.Worlds.{HoldsWorld, IsWritten}
+use Rattle.fab_store.specs.fab_store_base.Worlds.{HoldsWorld, IsWritten}
 use Rattle.fab_world.specs.Soundness.{IsSound}
 use Rattle.fab_world.specs.Worlds.{WorldRows}
 

@@ -1,8 +1,13 @@
-//! Connections that are served by a desk over a database.
+//! A desk over a database, or in memory, that is asked in requests: connections that are served, and one
+//! request of standard input.
 #![tactic(auto)]
 
+mod asking;
 mod front;
 mod serving;
 
+pub use asking::once;
+pub use fab_program_desks as desks;
+pub use fab_program_desks::{outside, store, wire};
 pub use front::Front;
 pub use serving::serve;

@@ -7,22 +7,22 @@ use Rattle.fab_desk_base.specs.declared.command.Command.TheVariants as command
 use Rattle.fab_desk_base.specs.declared.fault.DeskFault.{DeskFault}
 use Rattle.fab_desk_base.specs.declared.fault.DeskFault.TheVariants as refusal
 use Rattle.fab_desk_base.specs.declared.reply.Reply.TheVariants as reply
-use Rattle.fab_desk_machine.specs.Foreseen.{IsTurnedDown}
-use Rattle.fab_desk_machine.specs.Proposals.{request_of}
+use Rattle.fab_files_tries.specs.fab_looks_tries.fab_desk_machine.Foreseen.{IsTurnedDown}
+use Rattle.fab_files_tries.specs.fab_looks_tries.fab_desk_machine.Proposals.{request_of}
 use Rattle.fab_files.specs.Printed.{json_line}
 use Rattle.fab_files.specs.declared.printing.End.{End}
 use Rattle.fab_files.specs.declared.printing.End.TheVariants.{Done, Refused}
 use Rattle.fab_files_tries.specs.Imports.{import_json, import_text, is_over}
 use Rattle.fab_files_tries.specs.Plans.{plan_json, plan_text}
 use Rattle.fab_inventory.specs.declared.port.PortRow.{PortRow}
-use Rattle.fab_looks_tries.specs.Tries.{IsTriedImport, IsTriedPlan}
-use Rattle.fab_looks_tries.specs.declared.imports.TriedImport.{TriedImport}
-use Rattle.fab_looks_tries.specs.declared.plans.TriedPlan.{TriedPlan}
+use Rattle.fab_files_tries.specs.fab_looks_tries.Tries.{IsTriedImport, IsTriedPlan}
+use Rattle.fab_files_tries.specs.fab_looks_tries.declared.imports.TriedImport.{TriedImport}
+use Rattle.fab_files_tries.specs.fab_looks_tries.declared.plans.TriedPlan.{TriedPlan}
 use Rattle.fab_names.specs.declared.fabric.Fabric.{Fabric}
 use Rattle.fab_policy_base.specs.Callers.{HasToken}
 use Rattle.fab_policy_base.specs.Policies.{PolicyRows}
-use Rattle.fab_program_outside.specs.Printing.{Prints}
-use Rattle.fab_program_outside.specs.declared.faults.Fault.{Fault}
+use Rattle.fab_program_loading.specs.fab_program_outside.Printing.{Prints}
+use Rattle.fab_program_loading.specs.fab_program_outside.declared.faults.Fault.{Fault}
 use Rattle.fab_wire_answers.specs.declared.answers.Answer.{Answer}
 use Rattle.fab_wire_answers.specs.declared.answers.Answer.TheVariants as answer
 use Rattle.fab_wire_base.specs.declared.requests.Refusal.{Refusal}

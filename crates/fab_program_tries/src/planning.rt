@@ -6,10 +6,10 @@ ghost use Rattle.fab_world.specs.Worlds.{records_of};
 
 use crate::printing::{print_plan, print_refusal};
 use fab_files::End;
-use fab_looks_tries::try_plan;
+use fab_files_tries::looks_tries::try_plan;
 use fab_names::Name;
 use fab_policy::Policy;
-use fab_program_outside::Fault;
+use fab_program_loading::outside::Fault;
 use fab_reach_books::PathBook;
 use fab_world::World;
 use std::alloc::Global;

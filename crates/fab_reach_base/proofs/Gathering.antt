@@ -18,7 +18,7 @@ use Rattle.fab_inventory.specs.declared.port.Port.{Port}
 use Rattle.fab_inventory.specs.Ports.{port_at, port_of}
 use Rattle.fab_lemmas.proofs.SeenSets.{listed_decides}
 use Rattle.fab_lemmas.specs.MapsOfSets.{in_tree}
-use Rattle.fab_mapping_base.specs.Groups.{StorageGroupRows}
+use Rattle.fab_mapping.specs.fab_mapping_base.Groups.{StorageGroupRows}
 use Rattle.fab_mapping.specs.Mappings.{MappingRows}
 use Rattle.fab_reach_base.specs.Adding.{Adds, AddsOnly}
 use Rattle.fab_reach_base.specs.Records.{Records}

@@ -4,7 +4,7 @@ use Rattle.fab_reach_base.specs.Reach.{Reaches, AreJoined, IsOffered}
 use Rattle.fab_reach_base.specs.declared.path.Path.{Path}
 use Rattle.fab_reach_base.proofs.Same.{same_fabric}
 use Rattle.std.proofs.Common.{subst}
-use Rattle.fab_zoning_rows.specs.Holding.{IsLoggedInAt}
+use Rattle.fab_zoning.specs.fab_zoning_rows.Holding.{IsLoggedInAt}
 use Rattle.fab_reach_base.specs.Records.{zoning_at}
 use Rattle.fab_reach_base.specs.Serving.{IsServing}
 use Rattle.fab_reach_base.specs.Soundness.{IsSoundBeside}

@@ -15,15 +15,15 @@ use Rattle.fab_inventory.specs.Ports.{port_at}
 use Rattle.fab_inventory.specs.declared.holder.HolderKind.{HolderKind}
 use Rattle.fab_inventory.specs.declared.holder.HolderKind.TheVariants as kind
 use Rattle.fab_inventory.specs.declared.port.Port.{Port}
-use Rattle.fab_zoning_rows.specs.Holding.{Matches, IsLoggedInAt}
+use Rattle.fab_zoning.specs.fab_zoning_rows.Holding.{Matches, IsLoggedInAt}
 use Rattle.fab_zoning.specs.Joins.{InZone, IsUnzoned, Joined}
-use Rattle.fab_zoning_rows.specs.Rows.{Row, Rows}
+use Rattle.fab_zoning.specs.fab_zoning_rows.Rows.{Row, Rows}
 use Rattle.fab_zoning.specs.Zonings.{FabricZoning, flag_code}
 use Rattle.fab_zoning.specs.declared.flag.DefaultFlag.TheVariants.{Permit}
-use Rattle.fab_zoning_rows.proofs.RowSets.{row_total, row_exact}
-use Rattle.fab_mapping_base.specs.Clashes.{HostClaims, GroupClaims}
-use Rattle.fab_mapping_base.specs.Groups.{HostGroupRows, StorageGroupRows}
-use Rattle.fab_mapping_base.specs.Nexuses.{Claim}
+use Rattle.fab_zoning.proofs.fab_zoning_rows.RowSets.{row_total, row_exact}
+use Rattle.fab_mapping.specs.fab_mapping_base.Clashes.{HostClaims, GroupClaims}
+use Rattle.fab_mapping.specs.fab_mapping_base.Groups.{HostGroupRows, StorageGroupRows}
+use Rattle.fab_mapping.specs.fab_mapping_base.Nexuses.{Claim}
 use Rattle.fab_mapping.specs.Mappings.{MappingRows, IsMapped}
 use Rattle.fab_reach_base.specs.Reach.{IsInitiator, IsInitiatorOf, IsTarget, Meets, Reaches, ReachesFrom, nexus_of}
 use Rattle.fab_reach_base.specs.Records.{Records, zoning_at}

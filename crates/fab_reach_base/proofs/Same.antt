@@ -3,7 +3,7 @@ use Rattle.std.proofs.Common.{◌≡◌, Option, Some, sym, ap, ◌∙◌}
 use Rattle.fab_names.specs.Places.{Position}
 use Rattle.fab_names.specs.declared.fabric.Fabric.{Fabric}
 use Rattle.fab_inventory.specs.declared.port.Port.{Port}
-use Rattle.fab_zoning_rows.specs.Holding.{IsLoggedInAt}
+use Rattle.fab_zoning.specs.fab_zoning_rows.Holding.{IsLoggedInAt}
 
 -- one option, one value
 pub same_some : {X : Type 0} {a b : X} {o : Option X} → o ≡ Some a → o ≡ Some b → a ≡ b

@@ -2,7 +2,7 @@
 use Rattle.std.proofs.Common.{◌≡◌, List}
 use Rattle.std.proofs.lemmas.Map.Made.{is_member-Decides}
 use Rattle.fab_lemmas.proofs.SeenSets.{tie_decides}
-pub use Rattle.fab_mapping_base.proofs.SortedLists.{same_sorted}
+pub use Rattle.fab_mapping.proofs.fab_mapping_base.SortedLists.{same_sorted}
 use Rattle.fab_reach_base.specs.Orders.{IsListOf}
 use Rattle.fab_reach_base.specs.declared.path.Path.{Path}
 use Rattle.fab_reach_base.proofs.PathOrder.{path_total, path_exact}

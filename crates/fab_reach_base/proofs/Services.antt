@@ -12,7 +12,7 @@ use Rattle.std.specs.FinSet as set
 use Rattle.fab_names.specs.Orders.{name_cmp}
 use Rattle.fab_names.proofs.OrderLaws.{name_total, name_exact}
 use Rattle.fab_lemmas.specs.MapsOfSets.{in_tree}
-use Rattle.fab_mapping_base.specs.Groups.{HostGroupRows, StorageGroupRows}
+use Rattle.fab_mapping.specs.fab_mapping_base.Groups.{HostGroupRows, StorageGroupRows}
 use Rattle.fab_mapping.specs.Mappings.{MappingRows}
 use Rattle.fab_lemmas.proofs.SeenSets.{listed_decides}
 use Rattle.fab_reach_base.specs.Adding.{Adds}

@@ -8,10 +8,10 @@ use Rattle.std.specs.FinSet as set
 use Rattle.fab_names.specs.Orders.{name_cmp}
 use Rattle.fab_names.specs.declared.fabric.Fabric.{Fabric}
 use Rattle.fab_inventory.specs.declared.port.Port.{Port}
-use Rattle.fab_zoning_rows.specs.Holding.{IsLoggedInAt}
+use Rattle.fab_zoning.specs.fab_zoning_rows.Holding.{IsLoggedInAt}
 use Rattle.fab_zoning.specs.Joins.{Joined}
 use Rattle.fab_lemmas.specs.MapsOfSets.{in_tree, tree_has}
-use Rattle.fab_mapping_base.specs.Groups.{HostGroupRows, StorageGroupRows}
+use Rattle.fab_mapping.specs.fab_mapping_base.Groups.{HostGroupRows, StorageGroupRows}
 use Rattle.fab_mapping.specs.Mappings.{MappingRows}
 use Rattle.fab_reach_base.specs.Records.{Records, zoning_at}
 use Rattle.fab_reach_base.specs.Reach.{IsTarget, PathOf}

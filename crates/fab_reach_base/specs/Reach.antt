@@ -6,10 +6,10 @@ use Rattle.fab_names.specs.declared.fabric.Fabric.{Fabric}
 use Rattle.fab_inventory.specs.declared.port.Port.{Port}
 use Rattle.fab_inventory.specs.Ports.{port_at}
 use Rattle.fab_inventory.specs.Inventories.{IsHost, IsArray}
-use Rattle.fab_zoning_rows.specs.Holding.{IsLoggedInAt}
+use Rattle.fab_zoning.specs.fab_zoning_rows.Holding.{IsLoggedInAt}
 use Rattle.fab_zoning.specs.Joins.{Joined}
-use Rattle.fab_mapping_base.specs.declared.nexus.Nexus.{Nexus}
-use Rattle.fab_mapping_base.specs.Groups.{StorageGroupRows}
+use Rattle.fab_mapping.specs.fab_mapping_base.declared.nexus.Nexus.{Nexus}
+use Rattle.fab_mapping.specs.fab_mapping_base.Groups.{StorageGroupRows}
 use Rattle.fab_mapping.specs.Mappings.{IsMapped}
 use Rattle.fab_reach_base.specs.Records.{Records, zoning_at}
 use Rattle.fab_reach_base.specs.declared.path.Path.{Path}

@@ -5,7 +5,7 @@ use Rattle.std.specs.FinSet as set
 use Rattle.fab_names.specs.declared.fabric.Fabric.{Fabric}
 use Rattle.fab_inventory.specs.Holders.{holder_in}
 use Rattle.fab_inventory.specs.Inventories.{InventoryRows, IsHost, IsArray}
-use Rattle.fab_mapping_base.specs.Groups.{HostGroupRows, StorageGroupRows}
+use Rattle.fab_mapping.specs.fab_mapping_base.Groups.{HostGroupRows, StorageGroupRows}
 use Rattle.fab_mapping.specs.Mappings.{MappingRows}
 use Rattle.fab_reach_base.specs.Records.{Records, zoning_at}
 

@@ -1,6 +1,6 @@
 //! Which exposed storage groups serve a host.
 ghost use Rattle.std.specs.Prelude.{◌≡◌, OnOk, IfOk};
-ghost use Rattle.fab_mapping_base.specs.Groups.{HostGroupRows};
+ghost use Rattle.fab_mapping.specs.fab_mapping_base.Groups.{HostGroupRows};
 ghost use Rattle.std.specs.FinSet as set;
 ghost use Rattle.std.specs.Prelude.{true, List, ℕ};
 ghost use Rattle.fab_reach_base.specs.Adding.{Adds};

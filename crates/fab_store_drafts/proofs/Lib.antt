@@ -10,3 +10,4 @@ mod Beside
 mod Gathering
 mod Counted
 mod Using
+pub use Rattle.fab_store_edits.proofs as fab_store_edits

@@ -14,3 +14,4 @@ mod users;
 mod uses;
 
 pub use draft::Draft;
+pub use fab_store_edits as edits;

@@ -36,7 +36,7 @@ use Rattle.fab_store_rows.specs.declared.config_row.ConfigRow.TheVariants as con
 use Rattle.fab_store_rows.specs.declared.inventory_row.InventoryRow.TheVariants as inventory
 use Rattle.fab_store_rows.specs.declared.inventory_row.PortEntry.{PortEntry}
 use Rattle.fab_store_rows.specs.RowOrder.{row_order}
-use Rattle.fab_store_rows.specs.Standing.{entry_of, entry_at, address_at}
+use Rattle.fab_store_rows.specs.Standing.{entry_of, address_at}
 use Rattle.fab_store_rows.specs.Telling.{HaveSameRows, KnowSameRows}
 use Rattle.fab_store_rows.proofs.OrderOfRows.{row_total, row_exact, same_order}
 use Rattle.fab_reach_base.proofs.Same.{same_some}

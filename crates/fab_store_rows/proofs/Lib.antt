@@ -6,3 +6,5 @@ pub mod TablesTold
 pub mod Determined
 pub mod RowLists
 pub mod Kept
+pub mod OrderOfKeys
+pub mod KeysTold

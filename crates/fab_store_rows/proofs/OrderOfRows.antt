@@ -113,12 +113,12 @@ same_order = λ i a b. in_order a b i
 
 -- ---- it tells rows apart
 
-both : (r s : Ordering) → ordering_then r s ≡ Equal → (r ≡ Equal) × (s ≡ Equal)
+pub both : (r s : Ordering) → ordering_then r s ≡ Equal → (r ≡ Equal) × (s ≡ Equal)
 both Less s e = absurd cc
 both Equal s e = (refl, e)
 both Greater s e = absurd cc
 
-fabric_exact : (f g : Fabric) → fabric_order f g ≡ Equal → f ≡ g
+pub fabric_exact : (f g : Fabric) → fabric_order f g ≡ Equal → f ≡ g
 fabric_exact A A e = refl
 fabric_exact A B e = absurd cc
 fabric_exact B A e = absurd cc

@@ -61,7 +61,7 @@ only_listed c d xs l = list_as (Lacking (Some d) (Stands c)) (StandsOnlyIn c d) 
 abbrev pub Decided : Type 0 → Type 0
 Decided P = P ⊎ (P → ⊥)
 
-bool_decided : (b : Bool) → Decided (b ≡ true)
+pub bool_decided : (b : Bool) → Decided (b ≡ true)
 bool_decided true = inl refl
 bool_decided false = inr (λ e. true≢false (sym e))
 

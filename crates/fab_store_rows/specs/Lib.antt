@@ -4,3 +4,5 @@ pub mod Differences
 pub mod Telling
 pub mod Gathering
 pub mod PlanEntries
+pub mod Keys
+pub mod AtKeys

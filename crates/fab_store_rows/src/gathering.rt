@@ -27,7 +27,7 @@ fn is_missing<A: Allocator + Copy>(without: Option<&Config<A>>, row: &ConfigRow)
 }
 
 /// Adds the row, unless it stands in the configuration that is given.
-fn add_row<A: Allocator + Copy>(
+pub fn add_row<A: Allocator + Copy>(
     rows: &mut BTreeSet<ConfigRow, A>,
     without: Option<&Config<A>>,
     row: ConfigRow,
@@ -73,7 +73,7 @@ fn are_kept<Q, K: Ord, M: Maker<Q, K>, A: Allocator + Copy>(
 }
 
 /// Adds the rows of a key and each item of its set, without looking for each where they are kept.
-fn add_set_lacking<Q, K: Ord, M: Maker<Q, K>, A: Allocator + Copy>(
+pub fn add_set_lacking<Q, K: Ord, M: Maker<Q, K>, A: Allocator + Copy>(
     rows: &mut BTreeSet<ConfigRow, A>,
     without: Option<&Config<A>>,
     maker: &M,
@@ -119,7 +119,7 @@ fn add_definitions<A: Allocator + Copy>(
 }
 
 /// Adds the rows of a fabric's active zone set.
-fn add_active<A: Allocator + Copy>(
+pub fn add_active<A: Allocator + Copy>(
     rows: &mut BTreeSet<ConfigRow, A>,
     without: Option<&Config<A>>,
     fabric: Fabric,
@@ -199,7 +199,7 @@ fn has_host_group<A: Allocator + Copy>(
 }
 
 /// The same, without looking for each row where the configuration has this very host group.
-fn add_host_group_lacking<A: Allocator + Copy>(
+pub fn add_host_group_lacking<A: Allocator + Copy>(
     rows: &mut BTreeSet<ConfigRow, A>,
     without: Option<&Config<A>>,
     name: &Name,
@@ -299,7 +299,7 @@ fn has_storage_group<A: Allocator + Copy>(
 }
 
 /// The same, without looking for each row where the configuration has this very storage group.
-fn add_group_lacking<A: Allocator + Copy>(
+pub fn add_group_lacking<A: Allocator + Copy>(
     rows: &mut BTreeSet<ConfigRow, A>,
     without: Option<&Config<A>>,
     name: &Name,

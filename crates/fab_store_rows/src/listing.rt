@@ -23,7 +23,7 @@ pub struct RowDifference<A: Allocator> {
 }
 
 /// The rows of a set, in order.
-fn listed<A: Allocator + Copy>(
+pub fn listed<A: Allocator + Copy>(
     alloc: A,
     rows: &BTreeSet<ConfigRow, A>,
 ) -> Result<Vec<ConfigRow, A>, AllocError>

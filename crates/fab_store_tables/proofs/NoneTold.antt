@@ -1,5 +1,5 @@
 -- Settings none of which tells a schema.
-use Rattle.std.proofs.Common.{take, length, get_or, ◌+◌, ◌<◌, ◌≤◌, ℕ, ◌≡◌, ⊎_elim, List, [], ◌∷◌, ◌++◌, sym, ap, ◌∙◌, subst, arith}
+use Rattle.std.proofs.Common.{take, length, get_or, ◌+◌, ◌<◌, ◌≤◌, ℕ, ◌≡◌, ⊎_elim, List, [], ◌∷◌, ◌++◌, sym, ap, ◌∙◌, subst}
 use Rattle.std.proofs.lemmas.List.{take_more, take_all}
 use Rattle.std.proofs.lemmas.List.Elements.{Contains-push_cases}
 use Rattle.fab_store_columns.specs.MetaLines.{MetaColumns}

@@ -120,6 +120,7 @@ pub record AreInventoryOf {A : Type 0} (lines : TableLines) (rows : InventoryIn 
   pub volumes : AllZip ShowsVolume lines.volumes.items rows.volumes.items
 
 pub record AreRecordsOf {A : Type 0} (lines : TableLines) (rows : RecordsIn A) : Type 0 where
+  pub plans : AllZip ShowsPlan lines.plans.items rows.plans.items
   pub approvals : AllZip ShowsApproval lines.approvals.items rows.approvals.items
   pub undo : AllZip ShowsUndo lines.undo.items rows.undo.items
   pub paths : AllZip ShowsPath lines.paths.items rows.paths.items

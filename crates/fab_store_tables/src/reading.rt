@@ -26,9 +26,10 @@ struct InventoryIn<A: Allocator + Copy> {
     volumes: Vec<VolumeRow, A>,
 }
 
-/// The rows of approvals, of changes to undo, and of paths.
+/// The rows of plans, of approvals, of changes to undo, and of paths.
 #[derive(Drop)]
 struct RecordsIn<A: Allocator + Copy> {
+    plans: Vec<PlanRow<A>, A>,
     approvals: Vec<ApprovalRow, A>,
     undo: Vec<UndoRow, A>,
     paths: Vec<PathRow, A>,
@@ -236,11 +237,15 @@ fn inventory_of<A: Allocator + Copy>(
     })
 }
 
-/// The rows that the lines of approvals, of changes to undo and of paths show.
+/// The rows that the lines of plans, of approvals, of changes to undo and of paths show.
 fn records_of<A: Allocator + Copy>(alloc: A, lines: &TableLines) -> Result<RecordsIn<A>, LoadFault>
     ensures ok { IfOk result (spec.AreRecordsOf lines.now) }
     ensures err { IfErr result (OfTable (spec.HasOddLine A lines.now)) }
 {
+    let plans = match plans_in(alloc, lines.plans.as_slice()) {
+        Ok(rows) => rows,
+        Err(fault) => return Err(fault),
+    };
     let approvals = match rows_in(alloc, lines.approvals.as_slice(), Table::Approvals) {
         Ok(rows) => rows,
         Err(fault) => return Err(fault),
@@ -254,6 +259,7 @@ fn records_of<A: Allocator + Copy>(alloc: A, lines: &TableLines) -> Result<Recor
         Err(fault) => return Err(fault),
     };
     Ok(RecordsIn {
+        plans,
         approvals,
         undo,
         paths,
@@ -290,11 +296,8 @@ pub fn rows_of_lines<A: Allocator + Copy>(
         Ok(rows) => rows,
         Err(fault) => return Err(fault),
     };
-    let plans = match plans_in(alloc, lines.plans.as_slice()) {
-        Ok(rows) => rows,
-        Err(fault) => return Err(fault),
-    };
     let RecordsIn {
+        plans,
         approvals,
         undo,
         paths,

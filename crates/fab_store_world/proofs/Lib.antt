@@ -12,3 +12,4 @@ pub mod PlacedNames
 pub mod KeyOrders
 pub mod OneWorld
 pub mod WorldMade
+pub mod OneVolume

@@ -26,7 +26,7 @@ each_has : {X : Type 0} (P : X → Type 0) (xs : List X) (x : X) → AllByRecurs
 each_has P [] x h c = absurd (omega (arith, c.1))
 each_has P (y ∷ ys) x h c = elim (head_or_tail y ys x c) [ inl e ↦ subst P e h.0 | inr t ↦ each_has P ys x h.1 t ]
 
-sorted_none : {X : Type 0} (N : X → X → Ordering) → IsStrictlySortedBy N []
+pub sorted_none : {X : Type 0} (N : X → X → Ordering) → IsStrictlySortedBy N []
 unfolding IsStrictlySortedBy
 sorted_none N = tt
 

@@ -1,5 +1,6 @@
 -- Rows of inventories as lists, and what one inventory has and another has not.
-use Rattle.std.specs.Prelude.{ℕ, List, Option, Some}
+use Rattle.std.specs.Prelude.{ℕ, ◌≡◌, List, Option, Some}
+use Rattle.std.specs.FinMap as map
 use Rattle.std.specs.Option.{option_map}
 use Rattle.std.specs.declared.cmp.Ordering.{Ordering}
 use Rattle.std.specs.Ordering.{nat_cmp}
@@ -72,3 +73,9 @@ pub record IsKnownOnlyIn (v w : InventoryRows) (r : InventoryRow) : Type 0 where
 pub record IsInventoryDifference {A : Type 0} (before after : InventoryRows) (change : InventoryDifference A) : Type 0 where
   pub takes : AreListsOf (IsKnownOnlyIn before after) change.taken
   pub adds : AreListsOf (IsKnownOnlyIn after before) change.added
+
+-- the inventories are one, but for what stands under this name among the volumes
+pub record AreOneButVolume (v w : InventoryRows) (n : List ℕ) : Type 0 where
+  pub ports : v.ports ≡ w.ports
+  pub holders : v.holders ≡ w.holders
+  pub others : (m : List ℕ) → ¬ (m ≡ n) → map.get v.volumes m ≡ map.get w.volumes m

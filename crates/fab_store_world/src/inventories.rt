@@ -1,14 +1,19 @@
 //! What one inventory has and another has not, as lists of rows.
-ghost use Rattle.std.specs.Prelude.{OnOk, IfOk};
+ghost use Rattle.std.specs.Prelude.{◌≡◌, ◌↔◌, [], IsTrue, OnOk, IfOk};
+ghost use Rattle.std.specs.FinMap as map;
 ghost use Rattle.std.specs.List.Sorted.{IsStrictlySortedBy};
 ghost use Rattle.std.specs.Map.{keys_of};
 ghost use Rattle.fab_lemmas.specs.Lists.{IsListOf};
-ghost use Rattle.fab_store_world.specs.Inventories.{AreListsOf, IsKnownOnlyIn, IsInventoryDifference};
+ghost use Rattle.fab_inventory.specs.Ports.{port_of};
+ghost use Rattle.fab_store_rows.specs.Standing.{IsKnown};
+ghost use Rattle.fab_store_rows.specs.declared.inventory_row.InventoryRow.TheVariants as row;
+ghost use Rattle.fab_store_world.specs.Inventories.{AreListsOf, IsKnownOnlyIn, IsInventoryDifference, port_order, port_row, entry_order, entry_row, address_order, address_row};
 ghost use Rattle.fab_store_world.specs.InventoryGathering.{IsPushed, IsRowOfEntries};
 
 use crate::row_tables::{Addresses, Entries, Holders, Ports, Table, Volumes};
-use fab_inventory::{Inventory, Port};
-use fab_store_rows::{AddressRow, HolderRow, PortEntry, VolumeRow};
+use fab_inventory::{Inventory, Known, Port};
+use fab_names::Wwn;
+use fab_store_rows::{AddressRow, HolderRow, PortEntry, VolumeRow, has_port};
 use std::alloc::{AllocError, Allocator};
 use std::collections::btree_map;
 
@@ -33,7 +38,7 @@ pub struct InventoryDifference<A: Allocator> {
 }
 
 /// Puts the row at the end, if there is one, unless it stands in the inventory.
-fn push_lacking<K: Ord, V, R: Copy + Drop, T: Table<K, V, R>, A: Allocator + Copy>(
+pub fn push_lacking<K: Ord, V, R: Copy + Drop, T: Table<K, V, R>, A: Allocator + Copy>(
     rows: &mut Vec<R, A>,
     table: &T,
     other: &Inventory<A>,
@@ -67,6 +72,64 @@ fn rows_without<K: Ord, V, R: Copy + Drop, T: Table<K, V, R>, A: Allocator + Cop
     Ok(rows)
 }
 
+/// Whether the inventory has this very port.
+fn is_whole<A: Allocator + Copy>(inventory: &Inventory<A>, name: &Wwn, known: &Known) -> bool
+    ensures { IsTrue result ↔ IsKnown inventory.now (row.Port (port_of name.now known.now)) }
+{
+    let port = Port {
+        name: *name,
+        node: known.node,
+        at: known.at,
+        address: known.address,
+        holder: known.holder,
+    };
+    has_port(inventory, &port)
+}
+
+/// Puts the port and its rows at the ends, but for those that stand in the inventory. Where that has
+/// this very port, none is looked for.
+fn push_port<A: Allocator + Copy>(
+    ports: &mut Vec<Port, A>,
+    entries: &mut Vec<PortEntry, A>,
+    addresses: &mut Vec<AddressRow, A>,
+    other: &Inventory<A>,
+    name: &Wwn,
+    known: &Known,
+) -> Result<(), AllocError>
+    ensures ports { OnOk result (IsPushed (λ r. ¬ IsKnown other.now (row.Port r)) (port_row name.now known.now) ports.old.items ports.new.items) }
+    ensures entries { OnOk result (IsPushed (λ r. ¬ IsKnown other.now (row.Entry r)) (entry_row name.now known.now) entries.old.items entries.new.items) }
+    ensures addresses { OnOk result (IsPushed (λ r. ¬ IsKnown other.now (row.Address r)) (address_row name.now known.now) addresses.old.items addresses.new.items) }
+{
+    if is_whole(other, name, known) {
+        return Ok(());
+    }
+    push_lacking(ports, &Ports, other, Ports.row(name, known))?;
+    push_lacking(entries, &Entries, other, Entries.row(name, known))?;
+    push_lacking(addresses, &Addresses, other, Addresses.row(name, known))?;
+    Ok(())
+}
+
+/// Adds the ports of an inventory and their rows, but for those that stand in the other.
+fn add_ports<A: Allocator + Copy>(
+    ports: &mut Vec<Port, A>,
+    entries: &mut Vec<PortEntry, A>,
+    addresses: &mut Vec<AddressRow, A>,
+    inventory: &Inventory<A>,
+    other: &Inventory<A>,
+) -> Result<(), AllocError>
+    requires ports { ports.old.items ≡ [] }
+    requires entries { entries.old.items ≡ [] }
+    requires addresses { addresses.old.items ≡ [] }
+    ensures ports { OnOk result (IsListOf port_order (IsRowOfEntries port_row (λ r. ¬ IsKnown other.now (row.Port r)) (map.entries inventory.now.ports)) ports.new.items) }
+    ensures entries { OnOk result (IsListOf entry_order (IsRowOfEntries entry_row (λ r. ¬ IsKnown other.now (row.Entry r)) (map.entries inventory.now.ports)) entries.new.items) }
+    ensures addresses { OnOk result (IsListOf address_order (IsRowOfEntries address_row (λ r. ¬ IsKnown other.now (row.Address r)) (map.entries inventory.now.ports)) addresses.new.items) }
+{
+    for (name, known) in inventory.ports() {
+        push_port(ports, entries, addresses, other, name, known)?;
+    }
+    Ok(())
+}
+
 /// The rows of an inventory that do not stand in the other.
 fn lists_only_in<A: Allocator + Copy>(
     alloc: A,
@@ -75,9 +138,10 @@ fn lists_only_in<A: Allocator + Copy>(
 ) -> Result<InventoryLists<A>, AllocError>
     ensures { IfOk result (AreListsOf (IsKnownOnlyIn inventory.now other.now)) }
 {
-    let ports = rows_without(alloc, &Ports, other, inventory.ports())?;
-    let entries = rows_without(alloc, &Entries, other, inventory.ports())?;
-    let addresses = rows_without(alloc, &Addresses, other, inventory.ports())?;
+    let mut ports = Vec::new(alloc);
+    let mut entries = Vec::new(alloc);
+    let mut addresses = Vec::new(alloc);
+    add_ports(&mut ports, &mut entries, &mut addresses, inventory, other)?;
     let holders = rows_without(alloc, &Holders, other, inventory.holders())?;
     let volumes = rows_without(alloc, &Volumes, other, inventory.volumes())?;
     Ok(InventoryLists {
@@ -91,9 +155,8 @@ fn lists_only_in<A: Allocator + Copy>(
 
 /// What one inventory's rows have and another's have not, both ways: those of `before` that do not
 /// stand in `after` are taken, and those of `after` that do not stand in `before` are added, each
-/// once, by name. It walks through the ports of each inventory three times and through the rest once,
-/// with a look-up in the other for each row.
-/// Besides what differs it takes no memory.
+/// once, by name. It walks through each inventory once, with a look-up in the other for each port, holder
+/// and volume. Besides what differs it takes no memory.
 ///
 /// # Errors
 /// `AllocError` where there is no memory.

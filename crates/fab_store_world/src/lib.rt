@@ -14,6 +14,7 @@ mod paths;
 mod plans;
 mod row_tables;
 mod tables;
+mod volumes;
 mod whole;
 mod world;
 
@@ -21,5 +22,6 @@ pub use inventories::{InventoryDifference, InventoryLists, inventory_difference}
 pub use order::order_of;
 pub use paths::{PathRowDifference, are_path_rows};
 pub use tables::Changes;
+pub use volumes::volume_difference;
 pub use whole::{Plans, plans_of};
 pub use world::world_of;

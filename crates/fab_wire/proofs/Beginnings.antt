@@ -1,6 +1,6 @@
 -- Serving a beginning that is whole.
 use Rattle.std.proofs.Common.{ℕ, List, ◌++◌, Some, inl, inr, arith, length-append}
-use Rattle.fab_store_base.specs.declared.store.Store as store
+use Rattle.fab_desk.specs.fab_store_base.declared.store.Store as store
 use Rattle.fab_wire_answers.specs.declared.answers.Answer.{Answer}
 use Rattle.fab_wire_base.specs.Whole.{IsWhole}
 use Rattle.fab_wire_base.proofs.WholeLemmas.{beginnings-tell}

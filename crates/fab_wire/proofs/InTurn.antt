@@ -1,6 +1,6 @@
 -- Connections served in turn, and one more.
 use Rattle.std.proofs.Common.{ℕ, List, [], ◌∷◌, ◌++◌, Option, refl, subst}
-use Rattle.fab_store_base.specs.declared.store.Store as store
+use Rattle.fab_desk.specs.fab_store_base.declared.store.Store as store
 use Rattle.fab_desk.specs.declared.desk.Desk.{Desk}
 use Rattle.fab_wire.specs.InTurn.{IsServed, AreServed}
 use Rattle.fab_wire.specs.declared.laws.Connection.{Connection}

@@ -1,17 +1,17 @@
 -- Connections that were served in turn lead to the world of the commands that they ask.
 use Rattle.std.proofs.Common.{ℕ, ◌≡◌, ◌≢◌, ◌⊎◌, inl, inr, List, [], ◌∷◌, Option, IfSome, refl, sym, ap, subst}
 use Rattle.fab_wire_streams.specs.Counting.{inner_of}
-use Rattle.fab_store_base.specs.declared.store.Store as store
-use Rattle.fab_desk_base.specs.Answers.{IsStep, Request}
-use Rattle.fab_desk_base.specs.declared.fault.DeskFault.TheVariants as fault
-use Rattle.fab_desk_base.specs.declared.reply.Reply.{Reply}
-use Rattle.fab_desk_base.specs.declared.reply.Reply.TheVariants as reply
+use Rattle.fab_desk.specs.fab_store_base.declared.store.Store as store
+use Rattle.fab_desk.specs.fab_desk_base.Answers.{IsStep, Request}
+use Rattle.fab_desk.specs.fab_desk_base.declared.fault.DeskFault.TheVariants as fault
+use Rattle.fab_desk.specs.fab_desk_base.declared.reply.Reply.{Reply}
+use Rattle.fab_desk.specs.fab_desk_base.declared.reply.Reply.TheVariants as reply
 use Rattle.fab_desk.specs.Desks.{IsCleanDesk, IsTiedDesk}
 use Rattle.fab_desk.specs.Handled.{Handles, policy_of, world_of, serving_of, aside_of}
 use Rattle.fab_desk.specs.declared.desk.Desk.{Desk}
 use Rattle.fab_desk.proofs.AnsweredByDesk.{goes}
 use Rattle.fab_policy_base.specs.Policies.{PolicyRows}
-use Rattle.fab_world.specs.Worlds.{WorldRows}
+use Rattle.fab_desk.specs.fab_world.Worlds.{WorldRows}
 use Rattle.fab_wire_base.specs.Spelling.{Spelling, nothing, refused, asked, Spells}
 use Rattle.fab_wire_base.specs.Spelling as wire
 use Rattle.fab_wire_requests.specs.Meanings.{Meaning, asks, unnamed, bad_body, Means}

@@ -1,6 +1,6 @@
 -- An answer, from what was heard and what was told.
 use Rattle.std.proofs.Common.{ℕ, ◌≡◌, ◌<◌, ◌⊎◌, Bool, List, Option, None, Some, IfSome, inl, inr, length}
-use Rattle.fab_store_base.specs.declared.store.Store as store
+use Rattle.fab_desk.specs.fab_store_base.declared.store.Store as store
 use Rattle.fab_desk.specs.Handled.{policy_of}
 use Rattle.fab_desk.specs.declared.desk.Desk.{Desk}
 use Rattle.fab_wire_base.specs.Spelling.{Request, asked, Spells}

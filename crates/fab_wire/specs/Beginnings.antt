@@ -1,6 +1,6 @@
 -- A beginning of an input that tells what all of it asks.
 use Rattle.std.specs.Prelude.{ℕ, List, ◌++◌, Some}
-use Rattle.fab_store_base.specs.declared.store.Store as store
+use Rattle.fab_desk.specs.fab_store_base.declared.store.Store as store
 use Rattle.fab_wire_base.specs.Whole.{IsWhole}
 use Rattle.fab_desk.specs.Handled.{policy_of}
 use Rattle.fab_wire.specs.Known.{is_known}

@@ -2,7 +2,7 @@
 use Rattle.std.specs.Prelude.{ℕ, ◌≡◌, List, [], ◌∷◌, Option}
 use Rattle.fab_wire_streams.specs.Counting.{inner_of, failures_of}
 use Rattle.fab_wire_streams.specs.declared.counted.Counted.{Counted}
-use Rattle.fab_store_base.specs.declared.store.Store as store
+use Rattle.fab_desk.specs.fab_store_base.declared.store.Store as store
 use Rattle.fab_desk.specs.declared.desk.Desk.{Desk}
 use Rattle.fab_wire.specs.Serving.{Side, side, Serves}
 use Rattle.fab_wire.specs.declared.laws.Connection.{Connection}

@@ -1,12 +1,12 @@
 -- The world that connections lead to, one after the other: that of the commands which they ask.
 use Rattle.std.specs.Prelude.{ℕ, ◌≡◌, ◌⊎◌, List, [], ◌∷◌, Option, IfSome}
 use Rattle.fab_wire_streams.specs.Counting.{inner_of}
-use Rattle.fab_desk_base.specs.Answers.{Request}
-use Rattle.fab_desk_base.specs.Commands.{IsGiven}
-use Rattle.fab_desk_base.specs.declared.reply.Reply.{Reply}
+use Rattle.fab_desk.specs.fab_desk_base.Answers.{Request}
+use Rattle.fab_desk.specs.fab_desk_base.Commands.{IsGiven}
+use Rattle.fab_desk.specs.fab_desk_base.declared.reply.Reply.{Reply}
 use Rattle.fab_desk.specs.Desks.{IsAnsweredByDesk}
 use Rattle.fab_policy_base.specs.Policies.{PolicyRows}
-use Rattle.fab_world.specs.Worlds.{WorldRows}
+use Rattle.fab_desk.specs.fab_world.Worlds.{WorldRows}
 use Rattle.fab_wire_base.specs.Spelling.{Spelling, nothing, refused, asked, Spells}
 use Rattle.fab_wire_base.specs.Spelling as wire
 use Rattle.fab_wire_requests.specs.Commands.{Order, order_of}

@@ -3,13 +3,13 @@ use Rattle.std.specs.Prelude.{ℕ, ◌≡◌, ◌<◌, ◌⊎◌, List, Option, 
 use Rattle.std.specs.Io.KnownBytes.{Appends, Keeps}
 use Rattle.fab_wire_streams.specs.Failures.{one_more}
 use Rattle.fab_wire_streams.specs.Sent.{AppendsBeginning}
-use Rattle.fab_store_base.specs.declared.store.Store as store
-use Rattle.fab_desk_base.specs.Commands.{IsGiven}
-use Rattle.fab_desk_base.specs.declared.command.Command.{Command}
-use Rattle.fab_desk_base.specs.declared.fault.DeskFault.{DeskFault}
-use Rattle.fab_desk_base.specs.declared.fault.DeskFault.TheVariants.{NotFound, Halted}
-use Rattle.fab_desk_base.specs.declared.reply.Reply.{Reply}
-use Rattle.fab_desk_base.specs.declared.reply.Reply.TheVariants as reply
+use Rattle.fab_desk.specs.fab_store_base.declared.store.Store as store
+use Rattle.fab_desk.specs.fab_desk_base.Commands.{IsGiven}
+use Rattle.fab_desk.specs.fab_desk_base.declared.command.Command.{Command}
+use Rattle.fab_desk.specs.fab_desk_base.declared.fault.DeskFault.{DeskFault}
+use Rattle.fab_desk.specs.fab_desk_base.declared.fault.DeskFault.TheVariants.{NotFound, Halted}
+use Rattle.fab_desk.specs.fab_desk_base.declared.reply.Reply.{Reply}
+use Rattle.fab_desk.specs.fab_desk_base.declared.reply.Reply.TheVariants as reply
 use Rattle.fab_desk.specs.Handled.{Handles, policy_of, serving_of}
 use Rattle.fab_desk.specs.declared.desk.Desk.{Desk}
 use Rattle.fab_wire_base.specs.Spelling.{Request, Spelling, nothing, refused, asked, Spells}

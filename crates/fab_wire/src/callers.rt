@@ -3,8 +3,8 @@
 ghost use Rattle.std.specs.Prelude.{◌≡◌};
 
 use fab_desk::Desk;
+use fab_desk::store_base::Store;
 use fab_reach_books::PathBook;
-use fab_store_base::Store;
 use fab_wire_base::callers::Callers;
 use std::alloc::Allocator;
 use std::str;

@@ -10,7 +10,7 @@ use Rattle.fab_store_rows.specs.RowOrder.{row_order}
 use Rattle.fab_store_rows.specs.Standing.{Stands}
 use Rattle.fab_store_rows.specs.Telling.{HaveSameRows}
 use Rattle.fab_store_rows.proofs.Determined.{one_config}
-use Rattle.fab_store_edits.proofs.Differing.{led_back, same_rows, difference_of_rows}
+use Rattle.fab_store_drafts.proofs.fab_store_edits.Differing.{led_back, same_rows, difference_of_rows}
 use Rattle.fab_store_load.specs.Configs.{AreConfigRows}
 use Rattle.fab_world.specs.History.{IsEarlier, IsOnlyEarlier, LeadsBack, changes_at, changes_of}
 use Rattle.fab_world.specs.PlanRecords.{PlanRecord}

@@ -13,7 +13,7 @@ use crate::KeptPlan;
 use fab_names::Name;
 use fab_reach_base::Config;
 use fab_store_drafts::Draft;
-use fab_store_edits::lead;
+use fab_store_drafts::edits::lead;
 use fab_store_load::{LoadFault, config_of};
 use fab_store_rows::{ConfigRow, RowDifference, config_rows};
 use std::alloc::{AllocError, Allocator};

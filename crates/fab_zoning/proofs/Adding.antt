@@ -10,9 +10,9 @@ use Rattle.std.specs.FinSet as set
 use Rattle.fab_names.specs.declared.member.Member.{Member}
 use Rattle.fab_names.specs.declared.member.Member.TheVariants as member
 use Rattle.fab_names.specs.Orders.{name_cmp, member_cmp}
-use Rattle.fab_lemmas.specs.Adding.{Adds, AddsOnly, Among}
-use Rattle.fab_lemmas.specs.MapsOfSets.{tree_has, in_tree}
-use Rattle.fab_lemmas.proofs.Adding as generic
+use Rattle.fab_zoning_rows.specs.fab_lemmas.Adding.{Adds, AddsOnly, Among}
+use Rattle.fab_zoning_rows.specs.fab_lemmas.MapsOfSets.{tree_has, in_tree}
+use Rattle.fab_zoning_rows.proofs.fab_lemmas.Adding as generic
 use Rattle.fab_zoning_rows.specs.Rows.{Row, Rows, row_cmp, IsPlain}
 use Rattle.fab_zoning.specs.declared.fault.ZoningFault.{ZoningFault}
 use Rattle.fab_zoning.specs.declared.fault.ZoningFault.TheVariants.{Unknown, InUse, Empty, Limit, Memory}

@@ -12,10 +12,10 @@ use Rattle.std.specs.FinSet as set
 use Rattle.fab_names.specs.declared.member.Member.{Member}
 use Rattle.fab_names.specs.Orders.{name_cmp, member_cmp}
 use Rattle.fab_names.proofs.OrderLaws.{name_total, name_exact, member_total, member_exact}
-use Rattle.fab_lemmas.specs.MapsOfSets.{seen_sets}
+use Rattle.fab_zoning_rows.specs.fab_lemmas.MapsOfSets.{seen_sets}
 use Rattle.fab_zoning.specs.Zonings.{FabricZoning, NamedSets}
-use Rattle.fab_lemmas.proofs.MapsOfSets.{knows_seen, seen_insert, seen_remove}
-use Rattle.fab_lemmas.proofs.SeenSets.{set_of_list}
+use Rattle.fab_zoning_rows.proofs.fab_lemmas.MapsOfSets.{knows_seen, seen_insert, seen_remove}
+use Rattle.fab_zoning_rows.proofs.fab_lemmas.SeenSets.{set_of_list}
 
 -- whether a name is there
 pub known : {K : Type 0} (R : K → K → Ordering) (t : BTreeMap (List ℕ) (BTreeSet K)) (k : List ℕ) → map.contains_key (seen_sets name_cmp R t.entries) k ≡ is_some (tree.get name_cmp t k)

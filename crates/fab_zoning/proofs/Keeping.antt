@@ -13,10 +13,10 @@ use Rattle.fab_names.specs.declared.member.Member.TheVariants as member
 use Rattle.fab_names.specs.Orders.{name_cmp, member_cmp}
 use Rattle.fab_names.proofs.OrderLaws.{name_total, name_exact, member_total, member_exact}
 use Rattle.std.specs.BTreeSet.{BTreeSet}
-use Rattle.fab_lemmas.specs.MapsOfSets.{has, in_set, seen_sets}
-use Rattle.fab_lemmas.proofs.SeenSets.{listed_decides}
-use Rattle.fab_lemmas.proofs.Sizes.{map_put, map_gone, holds_some, some_listed, at_most_listed, some_member}
-use Rattle.fab_lemmas.proofs.Changed.{entry_put, entry_gone, still_there, there_without, has_put, has_gone}
+use Rattle.fab_zoning_rows.specs.fab_lemmas.MapsOfSets.{has, in_set, seen_sets}
+use Rattle.fab_zoning_rows.proofs.fab_lemmas.SeenSets.{listed_decides}
+use Rattle.fab_zoning_rows.proofs.fab_lemmas.Sizes.{map_put, map_gone, holds_some, some_listed, at_most_listed, some_member}
+use Rattle.fab_zoning_rows.proofs.fab_lemmas.Changed.{entry_put, entry_gone, still_there, there_without, has_put, has_gone}
 use Rattle.fab_zoning_rows.specs.Limits.{most_rows}
 use Rattle.fab_zoning.specs.Limits.{most_members}
 use Rattle.fab_zoning_rows.specs.Rows.{Row, Rows, row_cmp, IsPlain}

@@ -7,3 +7,4 @@ pub mod Keeping
 pub mod Putting
 pub mod Taking
 pub mod SeenItems
+pub use Rattle.fab_zoning_rows.proofs as fab_zoning_rows

@@ -8,8 +8,8 @@ use Rattle.std.specs.BTreeSet.{BTreeSet, contains}
 use Rattle.std.specs.List.{list_any}
 use Rattle.std.specs.Cmp.{IsTotalOrder, Equal-is, tied_itself}
 use Rattle.std.specs.FinSet as set
-use Rattle.fab_lemmas.specs.MapsOfSets.{in_tree}
-use Rattle.fab_lemmas.proofs.Adding.{tree_adds_one}
+use Rattle.fab_zoning_rows.specs.fab_lemmas.MapsOfSets.{in_tree}
+use Rattle.fab_zoning_rows.proofs.fab_lemmas.Adding.{tree_adds_one}
 use Rattle.fab_zoning.specs.Edits.{Puts}
 
 module _ {Q S E : Type 0} {O : Q → Q → Ordering} (o : IsTotalOrder O) (exact : set.IsAntisymmetric O) (H : Option S → E → Type 0) where

@@ -1,7 +1,7 @@
 -- Why two ports are joined or are not.
 use Rattle.std.proofs.Common.{ℕ, ◌≡◌, ◌≢◌, List, Bool, true, false, inl, inr, refl, sym, ◌∙◌}
 use mathlib.Core.Bool.{true≢false}
-use Rattle.fab_inventory.specs.declared.port.Port.{Port}
+use Rattle.fab_zoning_rows.specs.fab_inventory.declared.port.Port.{Port}
 use Rattle.fab_zoning.specs.declared.flag.DefaultFlag.TheVariants.{Permit, Deny}
 use Rattle.fab_zoning.specs.Zonings.{FabricZoning}
 use Rattle.fab_zoning_rows.specs.PortZones.{HasNoCommon, IsLeastCommon}

@@ -11,15 +11,15 @@ use Rattle.fab_names.proofs.OrderLaws.{name_total, member_total}
 use Rattle.fab_zoning.specs.declared.fault.ZoningFault.{ZoningFault}
 use Rattle.fab_zoning.specs.declared.fault.ZoningFault.TheVariants.{Unknown, InUse, Empty, Limit, Memory}
 use Rattle.fab_zoning.specs.declared.fault.ZoningLimit.TheVariants.{Aliases, Zones, Sets, Members, Active}
-use Rattle.fab_lemmas.specs.MapsOfSets.{has, tree_has, in_tree, seen_sets}
+use Rattle.fab_zoning_rows.specs.fab_lemmas.MapsOfSets.{has, tree_has, in_tree, seen_sets}
 use Rattle.fab_zoning_rows.specs.Rows.{Row, Rows}
 use Rattle.fab_zoning.specs.Zonings.{FabricZoning}
 use Rattle.fab_zoning.specs.Resolved.{IsResolvedBy, IsResolved, AreResolved}
 use Rattle.fab_zoning.specs.Steps.{IsActivateFault}
-use Rattle.fab_lemmas.specs.Adding.{Among}
+use Rattle.fab_zoning_rows.specs.fab_lemmas.Adding.{Among}
 use Rattle.fab_zoning.specs.Inner.Adding.{PlainRow, AliasRow, ZoneRow, IsResolvedFault}
 use Rattle.fab_zoning.proofs.Adding.{AddsRows}
-use Rattle.fab_lemmas.proofs.MapsOfSets.{has_seen}
+use Rattle.fab_zoning_rows.proofs.fab_lemmas.MapsOfSets.{has_seen}
 use Rattle.fab_zoning.proofs.Adding.{none_there}
 
 -- the set s of the code's zone sets, aliases and zones

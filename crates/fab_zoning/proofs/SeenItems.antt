@@ -11,10 +11,10 @@ use Rattle.std.specs.List.{list_any}
 use Rattle.std.specs.FinSet as set
 use Rattle.fab_names.specs.Orders.{name_cmp}
 use Rattle.fab_names.proofs.OrderLaws.{name_total}
-use Rattle.fab_lemmas.specs.MapsOfSets.{seen_set, seen_sets}
-use Rattle.fab_lemmas.proofs.Tests.{or_left}
-use Rattle.fab_lemmas.proofs.MapsOfSets.{get_seen, has_seen}
-use Rattle.fab_lemmas.proofs.SeenSets.{contains_seen}
+use Rattle.fab_zoning_rows.specs.fab_lemmas.MapsOfSets.{seen_set, seen_sets}
+use Rattle.fab_zoning_rows.proofs.fab_lemmas.Tests.{or_left}
+use Rattle.fab_zoning_rows.proofs.fab_lemmas.MapsOfSets.{get_seen, has_seen}
+use Rattle.fab_zoning_rows.proofs.fab_lemmas.SeenSets.{contains_seen}
 use Rattle.fab_zoning.specs.Edits.{Puts, Takes, IsIn, HasItems, IsItem, HasSome}
 
 module _ {K : Type 0} {R : K → K → Ordering} (o : IsTotalOrder R) where

@@ -14,10 +14,10 @@ use Rattle.fab_names.specs.Orders.{name_cmp, member_cmp}
 use Rattle.fab_names.proofs.OrderLaws.{name_total, name_exact, member_total, member_exact}
 use Rattle.fab_names.specs.declared.member.Member.{Member}
 use Rattle.fab_names.specs.declared.member.Member.TheVariants as member
-use Rattle.fab_lemmas.specs.MapsOfSets.{has, seen_set, seen_sets}
-use Rattle.fab_lemmas.proofs.MapsOfSets.{get_seen, knows_seen, len_seen}
-use Rattle.fab_lemmas.proofs.Passing.{found_passes, each_passes, pair_passes, each_pair_passes, seen_some}
-use Rattle.fab_lemmas.proofs.Tests.{both, left, right, within, from_within, below, from_below}
+use Rattle.fab_zoning_rows.specs.fab_lemmas.MapsOfSets.{has, seen_set, seen_sets}
+use Rattle.fab_zoning_rows.proofs.fab_lemmas.MapsOfSets.{get_seen, knows_seen, len_seen}
+use Rattle.fab_zoning_rows.proofs.fab_lemmas.Passing.{found_passes, each_passes, pair_passes, each_pair_passes, seen_some}
+use Rattle.fab_zoning_rows.proofs.fab_lemmas.Tests.{both, left, right, within, from_within, below, from_below}
 use Rattle.fab_zoning.specs.Limits.{most_aliases, most_zones, most_sets, most_members}
 use Rattle.fab_zoning_rows.specs.Rows.{IsPlain}
 use Rattle.fab_zoning.specs.Soundness.{AreListings, AreSoundDefinitions}

@@ -6,7 +6,7 @@ use Rattle.std.specs.BTreeSet.{BTreeSet}
 use Rattle.std.specs.BTreeSet as tree
 use Rattle.std.specs.FinMap as map
 use Rattle.std.specs.FinSet as set
-use Rattle.fab_lemmas.specs.MapsOfSets.{tree_has, has}
+use Rattle.fab_zoning_rows.specs.fab_lemmas.MapsOfSets.{tree_has, has}
 use Rattle.fab_zoning.specs.Zonings.{NamedSets}
 
 -- what had P has Q, and so has this entry, and nothing else

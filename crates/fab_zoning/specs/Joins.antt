@@ -2,7 +2,7 @@
 use Rattle.std.specs.Prelude.{ℕ, ◌≡◌, ◌≢◌, List, false, ◌⊎◌}
 use Rattle.std.specs.Ordering.{is_gt}
 use Rattle.fab_names.specs.Orders.{name_cmp}
-use Rattle.fab_inventory.specs.declared.port.Port.{Port}
+use Rattle.fab_zoning_rows.specs.fab_inventory.declared.port.Port.{Port}
 use Rattle.fab_zoning.specs.declared.flag.DefaultFlag.TheVariants.{Permit}
 use Rattle.fab_zoning.specs.declared.why.Why.{Why}
 use Rattle.fab_zoning.specs.declared.why.Why.TheVariants as why

@@ -7,3 +7,4 @@ pub mod Steps
 pub mod Soundness
 pub mod Inner
 pub mod Edits
+pub use Rattle.fab_zoning_rows.specs as fab_zoning_rows

@@ -1,7 +1,7 @@
 -- The zoning that has given parts.
 use Rattle.fab_names.specs.declared.fabric.Fabric.{Fabric}
 use Rattle.fab_names.specs.Orders.{name_cmp, member_cmp}
-use Rattle.fab_lemmas.specs.MapsOfSets.{seen_sets}
+use Rattle.fab_zoning_rows.specs.fab_lemmas.MapsOfSets.{seen_sets}
 use Rattle.fab_zoning_rows.specs.Views.{seen_rows}
 use Rattle.fab_zoning.specs.Zonings.{FabricZoning}
 use Rattle.fab_zoning.specs.declared.zoning.ZoningParts.{ZoningParts}

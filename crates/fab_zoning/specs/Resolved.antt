@@ -3,7 +3,7 @@ use Rattle.std.specs.Prelude.{ℕ, ◌≡◌, ◌<◌, ◌⊎◌, ◌↔◌, Lis
 use Rattle.std.specs.FinSet as set
 use Rattle.fab_names.specs.declared.member.Member.{Member}
 use Rattle.fab_names.specs.declared.member.Member.TheVariants as member
-use Rattle.fab_lemmas.specs.MapsOfSets.{has}
+use Rattle.fab_zoning_rows.specs.fab_lemmas.MapsOfSets.{has}
 use Rattle.fab_zoning_rows.specs.Rows.{Row, Rows, IsPlain}
 use Rattle.fab_zoning.specs.Zonings.{FabricZoning}
 

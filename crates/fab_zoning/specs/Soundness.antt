@@ -6,7 +6,7 @@ use Rattle.std.specs.FinSet as set
 use Rattle.fab_names.specs.Orders.{name_cmp, member_cmp}
 use Rattle.fab_names.specs.declared.member.Member.{Member}
 use Rattle.fab_names.specs.declared.member.Member.TheVariants as member
-use Rattle.fab_lemmas.specs.MapsOfSets.{has}
+use Rattle.fab_zoning_rows.specs.fab_lemmas.MapsOfSets.{has}
 use Rattle.fab_zoning_rows.specs.Limits.{most_rows}
 use Rattle.fab_zoning.specs.Limits.{most_aliases, most_zones, most_sets, most_members}
 use Rattle.fab_zoning_rows.specs.Rows.{Row, Rows, IsPlain}

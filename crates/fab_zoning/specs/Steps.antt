@@ -6,9 +6,9 @@ use Rattle.fab_names.specs.declared.member.Member.TheVariants as member
 use Rattle.fab_zoning.specs.declared.fault.ZoningFault.{ZoningFault}
 use Rattle.fab_zoning.specs.declared.fault.ZoningFault.TheVariants.{Unknown, InUse, Empty, Limit, Memory}
 use Rattle.fab_zoning.specs.declared.fault.ZoningLimit.TheVariants.{Aliases, Zones, Sets, Members, Active}
-use Rattle.fab_lemmas.specs.MapsOfSets.{HasNoUser, IsFirstUser}
-use Rattle.fab_lemmas.specs.Room.{IsFull, HasRoom}
-use Rattle.fab_lemmas.specs.Firsts.{IsFirstWithout}
+use Rattle.fab_zoning_rows.specs.fab_lemmas.MapsOfSets.{HasNoUser, IsFirstUser}
+use Rattle.fab_zoning_rows.specs.fab_lemmas.Room.{IsFull, HasRoom}
+use Rattle.fab_zoning_rows.specs.fab_lemmas.Firsts.{IsFirstWithout}
 use Rattle.fab_zoning_rows.specs.Limits.{most_rows}
 use Rattle.fab_zoning.specs.Limits.{most_aliases, most_zones, most_sets, most_members}
 use Rattle.fab_zoning.specs.Zonings.{FabricZoning}

@@ -9,7 +9,7 @@ use Rattle.fab_names.specs.Orders.{name_cmp, member_cmp}
 use Rattle.fab_names.specs.Codes.{name_code, fabric_code, member_code}
 use Rattle.fab_zoning.specs.declared.flag.DefaultFlag.{DefaultFlag}
 use Rattle.fab_zoning.specs.declared.flag.DefaultFlag.TheVariants.{Permit, Deny}
-use Rattle.fab_lemmas.specs.MapsOfSets.{MapOfSets}
+use Rattle.fab_zoning_rows.specs.fab_lemmas.MapsOfSets.{MapOfSets}
 use Rattle.fab_zoning_rows.specs.Rows.{Rows, row_code}
 
 -- a finite set at each of finitely many names

@@ -5,7 +5,7 @@ ghost use Rattle.std.specs.Option.{option_copied};
 ghost use Rattle.std.specs.BTreeMap.{IsUnchanged, get, is_at};
 ghost use Rattle.std.specs.BTreeSet.{BTreeSet as TreeSet, contains};
 ghost use Rattle.fab_names.specs.Orders.{name_cmp};
-ghost use Rattle.fab_lemmas.specs.MapsOfSets.{in_tree, seen_sets};
+ghost use Rattle.fab_zoning_rows.specs.fab_lemmas.MapsOfSets.{in_tree, seen_sets};
 ghost use Rattle.fab_zoning.specs.Edits.{Puts, Takes, IsIn, HasItems, IsItem, HasSome};
 
 use crate::key::Key;

@@ -13,6 +13,7 @@ mod sound;
 mod why;
 mod zoning;
 
+pub use fab_zoning_rows as rows;
 pub use fault::{ZoningFault, ZoningLimit};
 pub use flag::DefaultFlag;
 pub use items::{put_in_tree, take_from};

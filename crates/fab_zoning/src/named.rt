@@ -6,14 +6,14 @@ ghost use Rattle.std.specs.FinSet as set;
 ghost use Rattle.std.specs.BTreeMap.{IsUnchanged};
 ghost use Rattle.std.specs.Bool.{OnTrue, OnFalse};
 ghost use Rattle.fab_names.specs.Orders.{name_cmp, member_cmp};
-ghost use Rattle.fab_lemmas.specs.MapsOfSets.{seen_set, seen_sets, HasNoUser, IsFirstUser};
-ghost use Rattle.fab_lemmas.specs.Room.{IsFull, HasRoom};
+ghost use Rattle.fab_zoning_rows.specs.fab_lemmas.MapsOfSets.{seen_set, seen_sets, HasNoUser, IsFirstUser};
+ghost use Rattle.fab_zoning_rows.specs.fab_lemmas.Room.{IsFull, HasRoom};
 ghost use Rattle.fab_zoning.specs.Steps.{NamesKnown};
-ghost use Rattle.fab_lemmas.specs.Firsts.{IsFirstWithout};
+ghost use Rattle.fab_zoning_rows.specs.fab_lemmas.Firsts.{IsFirstWithout};
 ghost use Rattle.fab_names.specs.declared.member.Member.TheVariants.{Alias};
 
-use fab_lemmas::set_of;
 use fab_names::{Member, Name};
+use fab_zoning_rows::lemmas::set_of;
 use std::alloc::{AllocError, Allocator};
 use std::collections::{BTreeMap, BTreeSet};
 
@@ -107,7 +107,7 @@ pub fn is_full<K: Ord, A: Allocator>(
     ensures full { OnTrue result (IsFull (seen_sets name_cmp K.cmp sets.now.entries) name.now most) }
     ensures room { OnFalse result (HasRoom (seen_sets name_cmp K.cmp sets.now.entries) name.now most) }
 {
-    fab_lemmas::is_full(sets, name, most)
+    fab_zoning_rows::lemmas::is_full(sets, name, most)
 }
 
 /// The first alias that the members name and that is not there.

@@ -2,7 +2,7 @@
 ghost use Rattle.std.specs.Prelude.{◌≡◌, ◌≤◌, OnOk, IfOk, IfErr};
 ghost use Rattle.std.specs.FinSet as set;
 ghost use Rattle.fab_names.specs.Orders.{name_cmp, member_cmp};
-ghost use Rattle.fab_lemmas.specs.Adding.{Among};
+ghost use Rattle.fab_zoning_rows.specs.fab_lemmas.Adding.{Among};
 ghost use Rattle.fab_zoning_rows.specs.Limits.{most_rows};
 ghost use Rattle.fab_zoning.specs.Inner.Adding.{AddsAll, StopsAt, IsResolvedFault, PlainRow, AliasRow, ZoneRow};
 

@@ -3,7 +3,7 @@ ghost use Rattle.std.specs.Prelude.{◌≡◌, ◌&&◌, is_some, length, nat_le
 ghost use Rattle.std.specs.List.{list_all};
 ghost use Rattle.std.specs.BTreeMap.{get, values, IsOrdered};
 ghost use Rattle.fab_names.specs.Orders.{name_cmp, member_cmp};
-ghost use Rattle.fab_lemmas.specs.MapsOfSets.{seen_sets};
+ghost use Rattle.fab_zoning_rows.specs.fab_lemmas.MapsOfSets.{seen_sets};
 ghost use Rattle.fab_zoning.specs.Inner.Tests as spec;
 ghost use Rattle.fab_zoning.specs.Soundness.{AreSoundDefinitions, IsSoundActive};
 

@@ -7,9 +7,9 @@ ghost use Rattle.std.specs.Map.{keys_of};
 ghost use Rattle.std.specs.List.Sorted.{IsStrictlySortedBy};
 ghost use Rattle.fab_names.specs.declared.member.Member.TheVariants.{Alias};
 ghost use Rattle.fab_names.specs.Orders.{name_cmp, member_cmp};
-ghost use Rattle.fab_lemmas.specs.MapsOfSets.{in_tree, seen_set, seen_sets};
+ghost use Rattle.fab_zoning_rows.specs.fab_lemmas.MapsOfSets.{in_tree, seen_set, seen_sets};
 ghost use Rattle.fab_zoning_rows.specs.Limits.{most_rows};
-ghost use Rattle.fab_lemmas.specs.Lists.{IsListOf};
+ghost use Rattle.fab_zoning_rows.specs.fab_lemmas.Lists.{IsListOf};
 ghost use Rattle.fab_zoning_rows.specs.Rows.{row_cmp, IsRowOf, IsPlain};
 ghost use Rattle.fab_zoning.specs.Soundness.{AreSoundDefinitions, IsSoundActive, IsSound};
 ghost use Rattle.fab_zoning.specs.Zonings.{new_zoning};
@@ -30,8 +30,8 @@ use crate::named::{
 use crate::resolve::resolved;
 use crate::sound::{are_sound, is_active_sound};
 use crate::{DefaultFlag, Why, ZoningFault, ZoningLimit};
-use fab_inventory::Port;
 use fab_names::{Fabric, Member, Name};
+use fab_zoning_rows::inventory::Port;
 use fab_zoning_rows::{ActiveRows, PortZones};
 use std::alloc::{AllocError, Allocator};
 use std::collections::btree_map::Iter;
@@ -106,7 +106,7 @@ pub struct ZoningParts<A: Allocator + Copy> {
 impl<A: Allocator + Copy> Model for Zoning<A> {
     ghost use Rattle.fab_names.specs.Orders.{name_cmp, member_cmp};
     ghost use Rattle.fab_zoning.specs.Zonings.{FabricZoning, zoning_code};
-    ghost use Rattle.fab_lemmas.specs.MapsOfSets.{seen_sets};
+    ghost use Rattle.fab_zoning_rows.specs.fab_lemmas.MapsOfSets.{seen_sets};
 
     ghost Value = { FabricZoning };
 

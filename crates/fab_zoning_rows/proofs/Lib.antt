@@ -3,3 +3,5 @@ pub mod Listing
 pub mod PortMembers
 pub mod PortZoneLemmas
 pub mod RowsTaken
+pub use Rattle.fab_inventory.proofs as fab_inventory
+pub use Rattle.fab_lemmas.proofs as fab_lemmas

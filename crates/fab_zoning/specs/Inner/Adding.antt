@@ -10,8 +10,8 @@ use Rattle.fab_names.specs.Orders.{name_cmp, member_cmp}
 use Rattle.fab_zoning.specs.declared.fault.ZoningFault.{ZoningFault}
 use Rattle.fab_zoning.specs.declared.fault.ZoningFault.TheVariants.{Limit, Memory}
 use Rattle.fab_zoning.specs.declared.fault.ZoningLimit.TheVariants.{Active}
-use Rattle.fab_lemmas.specs.MapsOfSets.{tree_has}
-use Rattle.fab_lemmas.specs.Adding.{Adds, AddsOnly}
+use Rattle.fab_zoning_rows.specs.fab_lemmas.MapsOfSets.{tree_has}
+use Rattle.fab_zoning_rows.specs.fab_lemmas.Adding.{Adds, AddsOnly}
 use Rattle.fab_zoning_rows.specs.Limits.{most_rows}
 use Rattle.fab_zoning.specs.Resolved.{MoreThan}
 use Rattle.fab_zoning_rows.specs.Rows.{Row, Rows, IsPlain}

@@ -9,7 +9,7 @@ use Rattle.std.specs.FinSet as set
 use Rattle.fab_names.specs.declared.member.Member.{Member}
 use Rattle.fab_names.specs.declared.member.Member.TheVariants as member
 use Rattle.fab_names.specs.Orders.{name_cmp, member_cmp}
-use Rattle.fab_lemmas.specs.MapsOfSets.{seen_set}
+use Rattle.fab_zoning_rows.specs.fab_lemmas.MapsOfSets.{seen_set}
 use Rattle.fab_zoning.specs.Limits.{most_aliases, most_zones, most_sets, most_members}
 
 -- whether a set is not empty, and not too large

@@ -1,8 +1,8 @@
 use Rattle.std.proofs.Common.{◌∙◌, inl, inr, sym, subst}
-use Rattle.fab_desk_base.specs.Answers.{IsMove, IsStep}
+use Rattle.fab_desk_machine.specs.fab_desk_base.Answers.{IsMove, IsStep}
 use Rattle.fab_desk_machine.specs.Proposals.{request_of}
 use Rattle.fab_desk_machine.specs.Reports.{reply_of}
-use Rattle.fab_desk_commands.specs.Nexts.{next_world}
+use Rattle.fab_desk_machine.specs.fab_desk_commands.Nexts.{next_world}
 use Rattle.fab_desk.proofs.Changing.{no_read}
 use Rattle.fab_desk.proofs.answering.act.Goals as goal
 

@@ -1,7 +1,7 @@
 use Rattle.std.proofs.Common.{sym, ap, subst}
-use Rattle.fab_desk_base.specs.Refusals.{IsEffect}
-use Rattle.fab_desk_base.specs.declared.command.Command.TheVariants.{Show}
-use Rattle.fab_desk_base.specs.declared.command.Query.TheVariants.{Paths}
+use Rattle.fab_desk_machine.specs.fab_desk_base.Refusals.{IsEffect}
+use Rattle.fab_desk_machine.specs.fab_desk_base.declared.command.Command.TheVariants.{Show}
+use Rattle.fab_desk_machine.specs.fab_desk_base.declared.command.Query.TheVariants.{Paths}
 use Rattle.fab_desk_machine.specs.Proposals.{CountsStep, IsEffectOf, request_of}
 use Rattle.fab_desk.specs.Desks.{IsHandled, IsInDoubt, IsTied}
 use Rattle.fab_desk.specs.Ledgers.{LedgerRows}

@@ -1,4 +1,4 @@
-use Rattle.fab_desk_commands.specs.Nexts.{next_world}
+use Rattle.fab_desk_machine.specs.fab_desk_commands.Nexts.{next_world}
 use Rattle.fab_desk.proofs.Tied.{ok_as}
 use Rattle.fab_desk.proofs.moves.moves.Goals as goal
 

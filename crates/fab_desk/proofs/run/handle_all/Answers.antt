@@ -1,8 +1,8 @@
 use Rattle.std.proofs.Common.{◌≡◌, ◌∷◌, [], ◌++◌, List, map, length, sym, ap, subst, ◌∙◌, append_assoc, arith}
 use Rattle.std.proofs.lemmas.List.{map-append}
 use Rattle.std.specs.Vec.Iter.{into_iter_items}
-use Rattle.fab_desk_base.specs.Answers.{Request}
-use Rattle.fab_desk_base.specs.declared.reply.Reply.{Reply}
+use Rattle.fab_desk_machine.specs.fab_desk_base.Answers.{Request}
+use Rattle.fab_desk_machine.specs.fab_desk_base.declared.reply.Reply.{Reply}
 use Rattle.fab_desk_machine.specs.Proposals.{asked_of}
 use Rattle.fab_desk.specs.Handled.{AreHandled}
 use Rattle.fab_desk.proofs.AnsweredByDesk.{gone_through}

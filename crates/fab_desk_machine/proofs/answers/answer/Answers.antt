@@ -1,7 +1,7 @@
 use Rattle.std.proofs.Common.{inl, inr, sym, subst}
 use Rattle.fab_world.specs.Soundness.{IsSound}
 use Rattle.fab_world.specs.Worlds.{WorldRows}
-use Rattle.fab_desk_commands.specs.Nexts.{next_world}
+use Rattle.fab_desk_trials.specs.fab_desk_commands.Nexts.{next_world}
 use Rattle.fab_desk_base.specs.Answers.{IsMove, IsStep}
 use Rattle.fab_desk_machine.specs.Proposals.{request_of}
 use Rattle.fab_desk_machine.proofs.answers.answer.Goals as goal

@@ -2,7 +2,7 @@ use Rattle.std.proofs.Common.{subst}
 use Rattle.fab_reach_base.specs.Books.{IsDelta}
 use Rattle.fab_reach_base.specs.Records.{Records}
 use Rattle.fab_world.specs.Worlds.{records_of}
-use Rattle.fab_desk_commands.specs.Nexts.{next_world}
+use Rattle.fab_desk_trials.specs.fab_desk_commands.Nexts.{next_world}
 use Rattle.fab_desk_machine.proofs.Rooms.{taken_records}
 use Rattle.fab_desk_machine.proofs.change.take_over.Goals as goal
 

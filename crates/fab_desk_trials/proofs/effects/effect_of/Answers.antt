@@ -3,6 +3,7 @@ use Rattle.fab_desk_base.specs.Commands.{tried}
 use Rattle.fab_desk_base.specs.Trying.{IsTryFault}
 use Rattle.fab_desk_base.specs.declared.command.Command.TheVariants as command
 use Rattle.fab_desk_trials.specs.Trials.{IsTried}
+use Rattle.fab_desk_trials.proofs.VolumeEffects.{put_volume, volume_dropped}
 use Rattle.fab_desk_trials.proofs.TriedEffects.{no_policy, there, staging_ok, stock_ok, stock_err, plan_ok, plan_err, turn_tells}
 use Rattle.fab_world.proofs.WholeWorld.{ok_as}
 use Rattle.fab_desk_trials.proofs.effects.effect_of.Goals as goal
@@ -41,10 +42,10 @@ pub returns-in-PutHolder-clause-err : goal.returns-in-PutHolder-clause-err
 returns-in-PutHolder-clause-err g c = stock_err c.args.world.now c.args.caller.now c.args.command.now (command.PutHolder c.in-PutHolder.kind c.in-PutHolder.name c.in-PutHolder.tenant c.in-PutHolder.ports) (ap tried (sym c.in-PutHolder.is)) c.holder_put.result c.of_stock-in-PutHolder.result (c.holder_put.ensures.err c.args.caller.now) c.of_stock-in-PutHolder.ensures.err
 
 pub returns-in-PutVolume-clause-ok : goal.returns-in-PutVolume-clause-ok
-returns-in-PutVolume-clause-ok g c = stock_ok c.args.world.now c.args.caller.now c.args.command.now (command.PutVolume c.in-PutVolume.name c.in-PutVolume.volume) (ap tried (sym c.in-PutVolume.is)) c.volume_put.result c.of_stock-in-PutVolume.result refl (c.volume_put.ensures.ok c.args.caller.now) c.volume_put.ensures.sound c.of_stock-in-PutVolume.ensures.ok
+returns-in-PutVolume-clause-ok g c = stock_ok c.args.world.now c.args.caller.now c.args.command.now (command.PutVolume c.in-PutVolume.name c.in-PutVolume.volume) (ap tried (sym c.in-PutVolume.is)) c.volume_put.result c.of_volume.result refl (c.volume_put.ensures.ok c.args.caller.now) c.volume_put.ensures.sound c.of_volume.ensures.ok
 
 pub returns-in-PutVolume-clause-err : goal.returns-in-PutVolume-clause-err
-returns-in-PutVolume-clause-err g c = stock_err c.args.world.now c.args.caller.now c.args.command.now (command.PutVolume c.in-PutVolume.name c.in-PutVolume.volume) (ap tried (sym c.in-PutVolume.is)) c.volume_put.result c.of_stock-in-PutVolume.result (c.volume_put.ensures.err c.args.caller.now) c.of_stock-in-PutVolume.ensures.err
+returns-in-PutVolume-clause-err g c = stock_err c.args.world.now c.args.caller.now c.args.command.now (command.PutVolume c.in-PutVolume.name c.in-PutVolume.volume) (ap tried (sym c.in-PutVolume.is)) c.volume_put.result c.of_volume.result (c.volume_put.ensures.err c.args.caller.now) c.of_volume.ensures.err
 
 pub returns-in-DropHolder-clause-ok : goal.returns-in-DropHolder-clause-ok
 returns-in-DropHolder-clause-ok g c = stock_ok c.args.world.now c.args.caller.now c.args.command.now (command.DropHolder c.in-DropHolder.kind c.in-DropHolder.name) (ap tried (sym c.in-DropHolder.is)) c.holder_dropped.result c.of_stock-in-DropHolder.result refl (c.holder_dropped.ensures.ok c.args.caller.now) c.holder_dropped.ensures.sound c.of_stock-in-DropHolder.ensures.ok
@@ -53,10 +54,10 @@ pub returns-in-DropHolder-clause-err : goal.returns-in-DropHolder-clause-err
 returns-in-DropHolder-clause-err g c = stock_err c.args.world.now c.args.caller.now c.args.command.now (command.DropHolder c.in-DropHolder.kind c.in-DropHolder.name) (ap tried (sym c.in-DropHolder.is)) c.holder_dropped.result c.of_stock-in-DropHolder.result (c.holder_dropped.ensures.err c.args.caller.now) c.of_stock-in-DropHolder.ensures.err
 
 pub returns-in-DropVolume-clause-ok : goal.returns-in-DropVolume-clause-ok
-returns-in-DropVolume-clause-ok g c = stock_ok c.args.world.now c.args.caller.now c.args.command.now (command.DropVolume c.in-DropVolume.name) (ap tried (sym c.in-DropVolume.is)) c.volume_dropped.result c.of_stock-in-DropVolume.result refl (c.volume_dropped.ensures.ok c.args.caller.now) c.volume_dropped.ensures.sound c.of_stock-in-DropVolume.ensures.ok
+returns-in-DropVolume-clause-ok g c = stock_ok c.args.world.now c.args.caller.now c.args.command.now (command.DropVolume c.in-DropVolume.name) (ap tried (sym c.in-DropVolume.is)) c.volume_dropped.result c.of_volume-in-DropVolume.result refl (c.volume_dropped.ensures.ok c.args.caller.now) c.volume_dropped.ensures.sound c.of_volume-in-DropVolume.ensures.ok
 
 pub returns-in-DropVolume-clause-err : goal.returns-in-DropVolume-clause-err
-returns-in-DropVolume-clause-err g c = stock_err c.args.world.now c.args.caller.now c.args.command.now (command.DropVolume c.in-DropVolume.name) (ap tried (sym c.in-DropVolume.is)) c.volume_dropped.result c.of_stock-in-DropVolume.result (c.volume_dropped.ensures.err c.args.caller.now) c.of_stock-in-DropVolume.ensures.err
+returns-in-DropVolume-clause-err g c = stock_err c.args.world.now c.args.caller.now c.args.command.now (command.DropVolume c.in-DropVolume.name) (ap tried (sym c.in-DropVolume.is)) c.volume_dropped.result c.of_volume-in-DropVolume.result (c.volume_dropped.ensures.err c.args.caller.now) c.of_volume-in-DropVolume.ensures.err
 
 pub returns-in-Stage-clause-ok : goal.returns-in-Stage-clause-ok
 returns-in-Stage-clause-ok g c = subst (λ x. IfOk x (IsTried c.args.world.now c.args.caller.now c.args.command.now)) (sym c.of_staging.ensures) (staging_ok c.args.world.now c.args.caller.now c.in-Stage.plan c.in-Stage.steps c.args.command.now c.in-Stage.is c.is_staged_already.result c.is_staged_already.ensures.same c.is_staged_already.ensures.new c.is_staged_already.ensures.sound)
@@ -90,3 +91,9 @@ returns-in-Rollback-clause-ok g c = subst (λ x. IfOk x (IsTried c.args.world.no
 
 pub returns-in-Rollback-clause-err : goal.returns-in-Rollback-clause-err
 returns-in-Rollback-clause-err g c = subst (λ x. IfErr x (IsTryFault c.args.world.now c.args.caller.now (tried c.args.command.now))) (sym c.of_plan-in-Rollback.ensures) (plan_err c.args.world.now c.args.caller.now c.args.command.now (command.Rollback c.in-Rollback.plan) (ap tried (sym c.in-Rollback.is)) c.rolled_back.result (c.rolled_back.ensures.err c.args.caller.now))
+
+pub of_volume-requires : goal.of_volume-requires
+of_volume-requires g c = ok_as c.volume_put.result (put_volume c.args.world.now c.args.caller.now c.in-PutVolume.name c.in-PutVolume.volume) (c.volume_put.ensures.ok c.args.caller.now)
+
+pub of_volume-requires-in-DropVolume : goal.of_volume-requires-in-DropVolume
+of_volume-requires-in-DropVolume g c = ok_as c.volume_dropped.result (volume_dropped c.args.world.now c.args.caller.now c.in-DropVolume.name) (c.volume_dropped.ensures.ok c.args.caller.now)

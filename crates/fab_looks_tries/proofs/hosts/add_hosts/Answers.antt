@@ -1,4 +1,4 @@
-use Rattle.fab_desk_base.specs.Tenants.{Has}
+use Rattle.fab_desk_machine.specs.fab_desk_base.Tenants.{Has}
 use Rattle.fab_reach_base.proofs.Adding.{before_next}
 use Rattle.fab_reach_base.specs.Reach.{IsInitiatorOf}
 use Rattle.fab_reach_base.specs.Views.{seen}

@@ -1,5 +1,5 @@
 use Rattle.std.proofs.Common.{take}
-use Rattle.fab_desk_base.specs.Tenants.{Has}
+use Rattle.fab_desk_machine.specs.fab_desk_base.Tenants.{Has}
 use Rattle.fab_looks_tries.specs.Inner.Gathered.{IsHostOfSome}
 use Rattle.fab_reach_base.specs.Adding.{Adds}
 use Rattle.fab_reach_base.specs.Views.{seen}

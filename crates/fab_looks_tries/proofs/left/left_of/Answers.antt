@@ -1,5 +1,5 @@
 use Rattle.std.proofs.Common.{[], ◌∷◌, ◌++◌, sym}
-use Rattle.fab_desk_base.specs.Tenants.{Has}
+use Rattle.fab_desk_machine.specs.fab_desk_base.Tenants.{Has}
 use Rattle.fab_lemmas.proofs.Walks.{walked, walk_end}
 use Rattle.fab_looks_tries.specs.Hosts.{IsOnOneFabric, IsWithoutPath}
 use Rattle.fab_looks_tries.proofs.Leaving.{By, by_added, kept_are, none_from, none_to, one_from, one_to}

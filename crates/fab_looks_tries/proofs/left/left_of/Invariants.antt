@@ -1,6 +1,6 @@
 use Rattle.std.proofs.Common.{◌≡◌, List, ℕ, [], ◌++◌}
 use Rattle.std.specs.BTreeSet.{BTreeSet}
-use Rattle.fab_desk_base.specs.Tenants.{Has}
+use Rattle.fab_desk_machine.specs.fab_desk_base.Tenants.{Has}
 use Rattle.fab_looks_tries.specs.Hosts.{IsOnOneFabric, IsWithoutPath}
 use Rattle.fab_looks_tries.proofs.Leaving.{By}
 use Rattle.fab_reach_base.specs.Adding.{Adds}

@@ -1,5 +1,5 @@
 use Rattle.std.proofs.Common.{sym, ap, subst}
-use Rattle.fab_desk_trials.specs.Trials.{effect_world}
+use Rattle.fab_desk_machine.specs.fab_desk_trials.Trials.{effect_world}
 use Rattle.fab_looks_tries.proofs.Unmoved.{planned_same}
 use Rattle.fab_reach_base.specs.Records.{ConfigRows, Records}
 use Rattle.fab_store_rows.specs.Differences.{IsDifference}

@@ -1,5 +1,5 @@
 use Rattle.std.proofs.Common.{[], refl, sym, ap, ◌∙◌, subst}
-use Rattle.fab_desk_trials.specs.Trials.{EffectSuits, effect_world}
+use Rattle.fab_desk_machine.specs.fab_desk_trials.Trials.{EffectSuits, effect_world}
 use Rattle.fab_looks_tries.specs.Ports.{AreNewPorts}
 use Rattle.fab_looks_tries.proofs.Unmoved.{planned_same, same_ports}
 use Rattle.fab_reach_base.specs.Records.{Records}

@@ -1,5 +1,5 @@
 use Rattle.std.proofs.Common.{[], refl, ap}
-use Rattle.fab_desk_commands.specs.Nexts.{next_world}
+use Rattle.fab_desk_machine.specs.fab_desk_commands.Nexts.{next_world}
 use Rattle.fab_looks_tries.proofs.Unmoved.{same_ports}
 use Rattle.fab_looks_tries.proofs.rows.ports_in.Goals as goal
 

@@ -1,5 +1,5 @@
 use Rattle.std.proofs.Common.{sym, subst}
-use Rattle.fab_desk_commands.specs.Nexts.{next_world}
+use Rattle.fab_desk_machine.specs.fab_desk_commands.Nexts.{next_world}
 use Rattle.fab_store_rows.specs.Differences.{IsDifference}
 use Rattle.fab_looks_tries.proofs.rows.rows_in.Goals as goal
 

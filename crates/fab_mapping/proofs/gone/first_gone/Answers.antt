@@ -1,5 +1,5 @@
 use Rattle.std.specs.BTreeMap.{get}
-use Rattle.fab_names.specs.Orders.{name_cmp}
+use Rattle.fab_mapping_base.specs.fab_names.Orders.{name_cmp}
 use Rattle.fab_mapping.proofs.Lacking.{hosts_there, groups_there}
 use Rattle.fab_mapping.proofs.gone.first_gone.Goals as goal
 

@@ -1,7 +1,7 @@
 use Rattle.std.proofs.Common.{◌≡◌, ℕ, List, ◌++◌}
-use Rattle.fab_lemmas.specs.Firsts.{IsFirstOf}
-use Rattle.fab_lemmas.proofs.Adding.{Before}
-use Rattle.fab_names.specs.Orders.{name_cmp}
+use Rattle.fab_mapping_base.specs.fab_lemmas.Firsts.{IsFirstOf}
+use Rattle.fab_mapping_base.proofs.fab_lemmas.Adding.{Before}
+use Rattle.fab_mapping_base.specs.fab_names.Orders.{name_cmp}
 use Rattle.fab_mapping_base.specs.Groups.{HostGroupRows}
 use Rattle.fab_mapping_base.specs.Fitting.{LacksHost}
 use Rattle.fab_mapping.proofs.gone.least_host.Given as goal

@@ -3,10 +3,10 @@ use Rattle.std.specs.Cmp.{nat_cmp_total}
 use Rattle.std.specs.Ordering.{nat_cmp}
 use Rattle.std.specs.Map.Iter.{deref_pair}
 use Rattle.std.proofs.lemmas.Map.Iter.{rest_more, rest_all}
-use Rattle.fab_lemmas.specs.Firsts.{IsFirstOf}
-use Rattle.fab_lemmas.proofs.Adding.{Before}
-use Rattle.fab_lemmas.proofs.Leasts.{least_none, least_more}
-use Rattle.fab_lemmas.proofs.Walks.{walked, walk_end}
+use Rattle.fab_mapping_base.specs.fab_lemmas.Firsts.{IsFirstOf}
+use Rattle.fab_mapping_base.proofs.fab_lemmas.Adding.{Before}
+use Rattle.fab_mapping_base.proofs.fab_lemmas.Leasts.{least_none, least_more}
+use Rattle.fab_mapping_base.proofs.fab_lemmas.Walks.{walked, walk_end}
 use Rattle.fab_mapping_base.specs.Groups.{StorageGroupRows}
 use Rattle.fab_mapping_base.specs.Fitting.{LacksTarget}
 use Rattle.fab_mapping.proofs.Lacking.{lacking_groups}

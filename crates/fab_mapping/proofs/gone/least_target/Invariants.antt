@@ -1,7 +1,7 @@
 use Rattle.std.proofs.Common.{◌≡◌, ℕ, List, ◌++◌}
 use Rattle.std.specs.Ordering.{nat_cmp}
-use Rattle.fab_lemmas.specs.Firsts.{IsFirstOf}
-use Rattle.fab_lemmas.proofs.Adding.{Before}
+use Rattle.fab_mapping_base.specs.fab_lemmas.Firsts.{IsFirstOf}
+use Rattle.fab_mapping_base.proofs.fab_lemmas.Adding.{Before}
 use Rattle.fab_mapping_base.specs.Groups.{StorageGroupRows}
 use Rattle.fab_mapping_base.specs.Fitting.{LacksTarget}
 use Rattle.fab_mapping.proofs.gone.least_target.Given as goal

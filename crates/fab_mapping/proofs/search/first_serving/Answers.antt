@@ -3,8 +3,8 @@ use mathlib.Core.Bool.{true≢false}
 use Rattle.std.specs.FinSet as set
 use Rattle.std.specs.Map.Iter.{deref_pair}
 use Rattle.std.proofs.lemmas.Map.Iter.{rest_more, rest_all}
-use Rattle.fab_names.proofs.OrderLaws.{name_total}
-use Rattle.fab_lemmas.proofs.Walks.{first_hit, no_hit, walked, walk_end, all_push}
+use Rattle.fab_mapping_base.proofs.fab_names.OrderLaws.{name_total}
+use Rattle.fab_mapping_base.proofs.fab_lemmas.Walks.{first_hit, no_hit, walked, walk_end, all_push}
 use Rattle.fab_mapping_base.specs.Groups.{StorageGroupRows}
 use Rattle.fab_mapping.proofs.search.first_serving.Goals as goal
 

@@ -2,8 +2,8 @@ use Rattle.std.proofs.Common.{ℕ, List, [], ◌∷◌, ◌++◌, sym, ◌∙◌
 use mathlib.Core.Bool.{true≢false}
 use Rattle.std.specs.Map.Iter.{deref_pair}
 use Rattle.std.proofs.lemmas.Map.Iter.{rest_more, rest_all}
-use Rattle.fab_lemmas.proofs.Walks.{all_push, walked, walk_end, first_at, nowhere}
-use Rattle.fab_names.proofs.OrderLaws.{name_total}
+use Rattle.fab_mapping_base.proofs.fab_lemmas.Walks.{all_push, walked, walk_end, first_at, nowhere}
+use Rattle.fab_mapping_base.proofs.fab_names.OrderLaws.{name_total}
 use Rattle.fab_mapping_base.specs.Groups.{StorageGroupRows, HasTarget}
 use Rattle.fab_mapping.proofs.search.first_with_target.Goals as goal
 

@@ -2,9 +2,9 @@ use Rattle.std.proofs.Common.{◌≤◌, refl, sym, ◌∙◌, subst}
 use mathlib.Core.Bool.{true≢false}
 use Rattle.std.specs.BTreeMap.{get}
 use Rattle.std.specs.FinMap as map
-use Rattle.fab_names.specs.Orders.{name_cmp}
-use Rattle.fab_names.proofs.OrderLaws.{name_total}
-use Rattle.fab_lemmas.proofs.SeenMaps.{len_entries, same_look_ups}
+use Rattle.fab_mapping_base.specs.fab_names.Orders.{name_cmp}
+use Rattle.fab_mapping_base.proofs.fab_names.OrderLaws.{name_total}
+use Rattle.fab_mapping_base.proofs.fab_lemmas.SeenMaps.{len_entries, same_look_ups}
 use Rattle.fab_mapping_base.specs.declared.limits.TheConstants.{MOST_HOST_GROUPS, MOST_STORAGE_GROUPS}
 use Rattle.fab_mapping.specs.Soundness.{Each, IsSoundHostGroup, IsSoundGroup}
 use Rattle.fab_mapping_base.proofs.Sounding.{too_many}

@@ -2,7 +2,7 @@ use Rattle.std.proofs.Common.{rules}
 use Rattle.std.specs.BTreeMap.{get, values}
 use Rattle.std.proofs.lemmas.Iterator.{cases_from_all}
 use Rattle.std.proofs.lemmas.Iterator.Consumers.{YieldsList-from_rest}
-use Rattle.fab_names.specs.Orders.{name_cmp}
+use Rattle.fab_mapping_base.specs.fab_names.Orders.{name_cmp}
 use Rattle.fab_mapping.specs.Soundness.{IsSoundGroup}
 use Rattle.fab_mapping.proofs.Passed.{values_have}
 use Rattle.fab_mapping.proofs.sound.are_sound_groups.Goals as goal

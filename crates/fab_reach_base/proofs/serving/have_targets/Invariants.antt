@@ -1,6 +1,6 @@
 use Rattle.std.proofs.Common.{◌≡◌, ℕ, List, ◌++◌}
 use Rattle.std.specs.FinMap as map
-use Rattle.fab_mapping_base.specs.Groups.{StorageGroupRows}
+use Rattle.fab_mapping.specs.fab_mapping_base.Groups.{StorageGroupRows}
 use Rattle.fab_reach_base.specs.Serving.{AreTargets}
 use Rattle.fab_reach_base.proofs.Scanning.{AllSoFar}
 use Rattle.fab_reach_base.proofs.serving.have_targets.Given as goal

@@ -1,5 +1,5 @@
 use Rattle.std.proofs.Common.{sym}
-use Rattle.fab_store_edits.proofs.Differing.{same_difference}
+use Rattle.fab_store_drafts.proofs.fab_store_edits.Differing.{same_difference}
 use Rattle.fab_world.specs.Plans.{change_in}
 use Rattle.fab_world.proofs.WaysBack.{found_as, none_led, none_alike, only_alike}
 use Rattle.fab_world.proofs.history.earlier.Goals as goal

@@ -3,8 +3,8 @@ use Rattle.std.proofs.lemmas.Result.{err_from_is_err_and}
 use Rattle.std.proofs.lemmas.Map.Steps.{set_value_same}
 use Rattle.std.specs.BTreeMap.{get, is_at}
 use Rattle.std.specs.BTreeSet.{contains}
-use Rattle.fab_lemmas.specs.MapsOfSets.{in_tree}
-use Rattle.fab_lemmas.proofs.Adding.{tree_adds_one}
+use Rattle.fab_zoning_rows.specs.fab_lemmas.MapsOfSets.{in_tree}
+use Rattle.fab_zoning_rows.proofs.fab_lemmas.Adding.{tree_adds_one}
 use Rattle.fab_zoning.specs.Edits.{Puts}
 use Rattle.fab_zoning.proofs.Putting.{puts_under, puts_first_item}
 use Rattle.fab_zoning.proofs.items.put_in_tree.Goals as goal

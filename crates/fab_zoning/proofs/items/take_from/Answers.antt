@@ -1,7 +1,7 @@
 use Rattle.std.proofs.Common.{◌≡◌, true, subst, rules}
 use Rattle.std.specs.BTreeMap.{get}
 use Rattle.std.specs.BTreeSet.{contains}
-use Rattle.fab_lemmas.specs.MapsOfSets.{in_tree}
+use Rattle.fab_zoning_rows.specs.fab_lemmas.MapsOfSets.{in_tree}
 use Rattle.fab_zoning.specs.Edits.{Takes}
 use Rattle.fab_zoning.proofs.Taking.{takes_under, tree_takes_one}
 use Rattle.fab_zoning.proofs.items.take_from.Goals as goal

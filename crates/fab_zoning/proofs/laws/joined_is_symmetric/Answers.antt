@@ -1,5 +1,5 @@
 use Rattle.std.proofs.Common.{inl, inr, sym}
-use Rattle.fab_inventory.specs.declared.port.Port.{Port}
+use Rattle.fab_zoning_rows.specs.fab_inventory.declared.port.Port.{Port}
 use Rattle.fab_zoning.specs.declared.why.Why.{Why}
 use Rattle.fab_zoning.specs.declared.why.Why.TheVariants as why
 use Rattle.fab_zoning.specs.Zonings.{FabricZoning}

@@ -3,9 +3,9 @@ use mathlib.Core.Bool.{true≢false}
 use Rattle.std.specs.FinMap as map
 use Rattle.fab_names.specs.Orders.{name_cmp}
 use Rattle.fab_names.proofs.OrderLaws.{name_total}
-use Rattle.fab_lemmas.specs.MapsOfSets.{seen_sets}
-use Rattle.fab_lemmas.proofs.MapsOfSets.{knows_seen}
-use Rattle.fab_lemmas.proofs.Scans.{scan_more, scan_end, scan_hit}
+use Rattle.fab_zoning_rows.specs.fab_lemmas.MapsOfSets.{seen_sets}
+use Rattle.fab_zoning_rows.proofs.fab_lemmas.MapsOfSets.{knows_seen}
+use Rattle.fab_zoning_rows.proofs.fab_lemmas.Scans.{scan_more, scan_end, scan_hit}
 use Rattle.fab_zoning.proofs.named.first_unknown.Goals as goal
 
 pub returns-then-not-contains_key : goal.returns-then-not-contains_key

@@ -5,11 +5,11 @@ use Rattle.fab_names.specs.declared.member.Member.{Member}
 use Rattle.fab_names.specs.declared.member.Member.TheVariants as member
 use Rattle.fab_names.specs.Orders.{name_cmp, member_cmp}
 use Rattle.fab_names.proofs.OrderLaws.{name_total}
-use Rattle.fab_lemmas.specs.MapsOfSets.{seen_sets}
+use Rattle.fab_zoning_rows.specs.fab_lemmas.MapsOfSets.{seen_sets}
 use Rattle.fab_zoning.specs.Steps.{NamesKnown}
-use Rattle.fab_lemmas.specs.Firsts.{IsFirstWithout}
-use Rattle.fab_lemmas.proofs.MapsOfSets.{knows_seen}
-use Rattle.fab_lemmas.proofs.Scans.{scan_more, scan_end, scan_hit}
+use Rattle.fab_zoning_rows.specs.fab_lemmas.Firsts.{IsFirstWithout}
+use Rattle.fab_zoning_rows.proofs.fab_lemmas.MapsOfSets.{knows_seen}
+use Rattle.fab_zoning_rows.proofs.fab_lemmas.Scans.{scan_more, scan_end, scan_hit}
 use Rattle.fab_zoning.proofs.named.first_unknown_alias.Goals as goal
 use Rattle.fab_zoning.proofs.named.first_unknown_alias.Goals.{in-Alias+else-not-contains_key, in_default}
 

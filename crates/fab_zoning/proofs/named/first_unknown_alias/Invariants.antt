@@ -1,7 +1,7 @@
 use Rattle.std.proofs.Common.{take, All}
 use Rattle.std.specs.FinMap as map
 use Rattle.fab_names.specs.Orders.{name_cmp, member_cmp}
-use Rattle.fab_lemmas.specs.MapsOfSets.{seen_sets}
+use Rattle.fab_zoning_rows.specs.fab_lemmas.MapsOfSets.{seen_sets}
 use Rattle.fab_zoning.specs.Steps.{NamesKnown}
 use Rattle.fab_zoning.proofs.named.first_unknown_alias.Given as goal
 

@@ -2,8 +2,8 @@ use Rattle.std.proofs.Common.{◌≡◌, ℕ, List, ◌∷◌, [], ◌++◌, sym
 use mathlib.Core.Bool.{true≢false}
 use Rattle.std.specs.BTreeSet.{BTreeSet, contains}
 use Rattle.fab_names.proofs.OrderLaws.{name_total, name_exact}
-use Rattle.fab_lemmas.proofs.Walks.{walked, walk_end, all_push}
-use Rattle.fab_lemmas.proofs.MapsOfSets as maps
+use Rattle.fab_zoning_rows.proofs.fab_lemmas.Walks.{walked, walk_end, all_push}
+use Rattle.fab_zoning_rows.proofs.fab_lemmas.MapsOfSets as maps
 use Rattle.fab_zoning.proofs.named.first_user.Goals as goal
 
 pub returns-then-contains : goal.returns-then-contains

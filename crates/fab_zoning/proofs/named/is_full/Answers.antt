@@ -1,7 +1,7 @@
 use Rattle.std.proofs.Common.{Bool, true, false}
 use Rattle.std.specs.Bool.{OnTrue, OnFalse}
 use Rattle.fab_names.proofs.OrderLaws.{name_total}
-use Rattle.fab_lemmas.proofs.MapsOfSets.{sets_full, sets_have_room}
+use Rattle.fab_zoning_rows.proofs.fab_lemmas.MapsOfSets.{sets_full, sets_have_room}
 use Rattle.fab_zoning.proofs.named.is_full.Goals as goal
 
 true_as : (P Q : Type 0) (b : Bool) → (P → Q) → OnTrue b P → OnTrue b Q

@@ -6,7 +6,7 @@ use Rattle.fab_names.specs.Orders.{name_cmp}
 use Rattle.fab_names.proofs.OrderLaws.{member_total, member_exact}
 use Rattle.fab_zoning.specs.Inner.Adding.{AliasRow}
 use Rattle.fab_zoning.proofs.Adding.{AddsRows, AddsRowsOnly}
-use Rattle.fab_lemmas.proofs.Walks.{walked, walk_end}
+use Rattle.fab_zoning_rows.proofs.fab_lemmas.Walks.{walked, walk_end}
 use Rattle.fab_zoning.proofs.Adding.{before_none, before_more, before_all, before_stop, adds_alias, only_alias, adds_unknown, adds_no_alias}
 use Rattle.fab_zoning.proofs.resolve.add_aliased.Goals as goal
 

@@ -4,7 +4,7 @@ use Rattle.fab_names.specs.declared.member.Member.{Member}
 use Rattle.fab_names.proofs.OrderLaws.{member_total, member_exact}
 use Rattle.fab_zoning.specs.Inner.Adding.{PlainRow}
 use Rattle.fab_zoning.proofs.Adding.{AddsRows}
-use Rattle.fab_lemmas.proofs.Walks.{walked, walk_end}
+use Rattle.fab_zoning_rows.proofs.fab_lemmas.Walks.{walked, walk_end}
 use Rattle.fab_zoning.proofs.Adding.{before_none, before_more, before_all, before_stop, adds_plain, only_plain, adds_no_plain}
 use Rattle.fab_zoning.proofs.resolve.add_plain.Goals as goal
 

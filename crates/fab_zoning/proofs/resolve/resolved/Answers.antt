@@ -5,10 +5,10 @@ use Rattle.std.proofs.lemmas.Result.{err_from_is_err_and}
 use Rattle.fab_names.specs.Orders.{name_cmp}
 use Rattle.fab_names.proofs.OrderLaws.{name_total, name_exact}
 use Rattle.fab_zoning_rows.specs.Rows.{Rows, row_cmp}
-use Rattle.fab_lemmas.specs.Adding.{Among}
+use Rattle.fab_zoning_rows.specs.fab_lemmas.Adding.{Among}
 use Rattle.fab_zoning.specs.Inner.Adding.{ZoneRow}
 use Rattle.fab_zoning.proofs.Adding.{AddsRows}
-use Rattle.fab_lemmas.proofs.Walks.{walked, walk_end}
+use Rattle.fab_zoning_rows.proofs.fab_lemmas.Walks.{walked, walk_end}
 use Rattle.fab_zoning.proofs.Adding.{Before, before_none, before_more, before_all, before_stop, adds_zone, only_zone, only_zone_plain, adds_no_zone, stopped}
 use Rattle.fab_zoning.proofs.resolve.resolved.Goals as goal
 

@@ -1,6 +1,6 @@
 use Rattle.std.proofs.Common.{◌&&◌, nat_le, nat_lt, sym, ap, ◌∙◌, arith}
 use Rattle.fab_zoning.specs.Limits.{most_members}
-use Rattle.fab_lemmas.proofs.SeenSets.{len_seen}
+use Rattle.fab_zoning_rows.proofs.fab_lemmas.SeenSets.{len_seen}
 use Rattle.fab_zoning.proofs.Sounding.{size_some, size_none}
 use Rattle.fab_zoning.proofs.sound.is_listing.Goals as goal
 

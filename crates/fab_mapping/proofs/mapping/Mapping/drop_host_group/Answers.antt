@@ -1,7 +1,7 @@
 use Rattle.std.proofs.Common.{is_some, refl, sym, ap, ◌∙◌, subst}
 use Rattle.std.specs.FinMap as map
-use Rattle.fab_names.proofs.OrderLaws.{name_total}
-use Rattle.fab_lemmas.proofs.SeenMaps.{get_entries, same_look_ups}
+use Rattle.fab_mapping_base.proofs.fab_names.OrderLaws.{name_total}
+use Rattle.fab_mapping_base.proofs.fab_lemmas.SeenMaps.{get_entries, same_look_ups}
 use Rattle.fab_mapping.specs.Mappings.{MappingRows, IsUnservedIn, IsLeastServing}
 use Rattle.fab_mapping.proofs.mapping.Mapping.drop_host_group.Goals as goal
 

@@ -1,9 +1,9 @@
 use Rattle.std.proofs.Common.{MatchOption, ap, subst}
 use Rattle.std.specs.BTreeMap.{get}
 use Rattle.std.specs.FinMap as map
-use Rattle.fab_lemmas.proofs.SeenMaps.{same_look_ups}
-use Rattle.fab_names.specs.Orders.{name_cmp}
-use Rattle.fab_names.proofs.OrderLaws.{name_total}
+use Rattle.fab_mapping_base.proofs.fab_lemmas.SeenMaps.{same_look_ups}
+use Rattle.fab_mapping_base.specs.fab_names.Orders.{name_cmp}
+use Rattle.fab_mapping_base.proofs.fab_names.OrderLaws.{name_total}
 use Rattle.fab_mapping_base.specs.Clashes.{HostGroups, StorageGroups}
 use Rattle.fab_mapping_base.specs.Fitting.{HasHosts, GroupFits}
 use Rattle.fab_mapping.specs.Mappings.{MappingRows}

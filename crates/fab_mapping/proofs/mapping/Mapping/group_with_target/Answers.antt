@@ -1,8 +1,8 @@
 use Rattle.std.proofs.Common.{MatchOption, ap, subst}
-use Rattle.fab_lemmas.specs.Firsts.{IsFirstWith, HasAt, HasNowhere}
-use Rattle.fab_names.specs.Orders.{name_cmp}
-use Rattle.fab_names.proofs.OrderLaws.{name_total}
-use Rattle.fab_lemmas.proofs.SeenMaps.{same_look_ups}
+use Rattle.fab_mapping_base.specs.fab_lemmas.Firsts.{IsFirstWith, HasAt, HasNowhere}
+use Rattle.fab_mapping_base.specs.fab_names.Orders.{name_cmp}
+use Rattle.fab_mapping_base.proofs.fab_names.OrderLaws.{name_total}
+use Rattle.fab_mapping_base.proofs.fab_lemmas.SeenMaps.{same_look_ups}
 use Rattle.fab_mapping_base.specs.Groups.{HasTarget}
 use Rattle.fab_mapping.specs.Mappings.{MappingRows}
 use Rattle.fab_mapping.proofs.mapping.Mapping.group_with_target.Goals as goal

@@ -1,7 +1,7 @@
 use Rattle.std.proofs.Common.{sym, ap, ◌∙◌}
 use Rattle.std.specs.FinMap as map
-use Rattle.fab_names.proofs.OrderLaws.{name_total, name_exact}
-use Rattle.fab_lemmas.proofs.SeenMaps.{entries_made}
+use Rattle.fab_mapping_base.proofs.fab_names.OrderLaws.{name_total, name_exact}
+use Rattle.fab_mapping_base.proofs.fab_lemmas.SeenMaps.{entries_made}
 use Rattle.fab_mapping.specs.Mappings.{MappingRows}
 use Rattle.fab_mapping.proofs.mapping.Mapping.groups.Goals as goal
 

@@ -1,6 +1,6 @@
 use Rattle.std.proofs.Common.{refl, sym, ap, ◌∙◌}
-use Rattle.fab_names.proofs.OrderLaws.{name_total}
-use Rattle.fab_lemmas.proofs.SeenMaps.{looked_up}
+use Rattle.fab_mapping_base.proofs.fab_names.OrderLaws.{name_total}
+use Rattle.fab_mapping_base.proofs.fab_lemmas.SeenMaps.{looked_up}
 use Rattle.fab_mapping.specs.Mappings.{MappingRows}
 use Rattle.fab_mapping.proofs.mapping.Mapping.host_group.Goals as goal
 

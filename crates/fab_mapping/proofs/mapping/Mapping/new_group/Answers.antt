@@ -1,8 +1,8 @@
 use Rattle.std.proofs.Common.{◌≤◌, ◌<◌, is_some, refl, sym, ap, ◌∙◌, subst, arith}
 use mathlib.Core.Bool.{true≢false}
 use Rattle.std.specs.FinMap as map
-use Rattle.fab_names.proofs.OrderLaws.{name_total, name_exact}
-use Rattle.fab_lemmas.proofs.SeenMaps.{get_entries, len_entries, seen_insert}
+use Rattle.fab_mapping_base.proofs.fab_names.OrderLaws.{name_total, name_exact}
+use Rattle.fab_mapping_base.proofs.fab_lemmas.SeenMaps.{get_entries, len_entries, seen_insert}
 use Rattle.fab_mapping_base.specs.Groups.{new_storage_group}
 use Rattle.fab_mapping.specs.Mappings.{MappingRows}
 use Rattle.fab_mapping.specs.Soundness.{Keeps}

@@ -1,8 +1,8 @@
 use Rattle.std.proofs.Common.{sym, ap, ◌∙◌, subst, arith}
 use Rattle.std.specs.FinMap as map
-use Rattle.fab_lemmas.specs.Room.{HasRoom}
-use Rattle.fab_lemmas.proofs.SeenMaps.{seen_insert}
-use Rattle.fab_names.proofs.OrderLaws.{name_total, name_exact}
+use Rattle.fab_mapping_base.specs.fab_lemmas.Room.{HasRoom}
+use Rattle.fab_mapping_base.proofs.fab_lemmas.SeenMaps.{seen_insert}
+use Rattle.fab_mapping_base.proofs.fab_names.OrderLaws.{name_total, name_exact}
 use Rattle.fab_mapping_base.specs.declared.limits.TheConstants.{MOST_HOST_GROUPS}
 use Rattle.fab_mapping_base.specs.Groups.{host_group_of}
 use Rattle.fab_mapping.specs.Mappings.{MappingRows}

@@ -5,7 +5,7 @@ use Rattle.fab_mapping.specs.Mappings.{MappingRows}
 use Rattle.fab_mapping.proofs.GroupChanges.{group_seen, changed, kept}
 use Rattle.fab_mapping.proofs.Keeping.{change_keeps, unit_gone, unit_gone_fits}
 use Rattle.fab_mapping.proofs.mapping.Mapping.unmap.Goals as goal
-use Rattle.fab_lemmas.proofs.Tests.{none_from_test as nothing}
+use Rattle.fab_mapping_base.proofs.fab_lemmas.Tests.{none_from_test as nothing}
 
 pub returns-in_default-clause-err : goal.returns-in_default-clause-err
 returns-in_default-clause-err g c = (refl, group_seen c.self.inside.groups c.args.self.now c.args.name.now None (ap (λ (v : MappingRows). v.groups) c.self.view_is) (sym c.in_default.ensures.value))

@@ -6,7 +6,7 @@ use Rattle.std.proofs.lemmas.Result.{err_from_is_err_and}
 use Rattle.fab_names.specs.Orders.{name_cmp}
 use Rattle.fab_names.proofs.OrderLaws.{name_total}
 use Rattle.fab_zoning.specs.Zonings.{FabricZoning}
-use Rattle.fab_lemmas.proofs.MapsOfSets.{knows_seen}
+use Rattle.fab_zoning_rows.proofs.fab_lemmas.MapsOfSets.{knows_seen}
 use Rattle.fab_zoning.proofs.Resolving.{are_resolved, refused}
 use Rattle.fab_zoning.specs.Soundness.{IsSound}
 use Rattle.fab_zoning.proofs.Keeping.{activate_keeps}

@@ -1,6 +1,6 @@
 use Rattle.std.proofs.Common.{OnOk, subst}
 use Rattle.fab_names.specs.Orders.{name_cmp, member_cmp}
-use Rattle.fab_lemmas.specs.MapsOfSets.{seen_sets}
+use Rattle.fab_zoning_rows.specs.fab_lemmas.MapsOfSets.{seen_sets}
 use Rattle.fab_zoning.specs.Edits.{Puts, IsItem, HasSome}
 use Rattle.fab_zoning.specs.Zonings.{FabricZoning}
 use Rattle.fab_zoning.proofs.zoning.Zoning.add_to_alias.Goals as goal

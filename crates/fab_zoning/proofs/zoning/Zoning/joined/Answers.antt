@@ -1,7 +1,7 @@
 use Rattle.std.proofs.Common.{ℕ, ◌≡◌, List, Bool, true, false, refl, sym, ap, ◌∙◌, subst}
 use Rattle.std.proofs.lemmas.Bool.{eqb-false}
 use mathlib.Core.Bool.{true≢false}
-use Rattle.fab_inventory.specs.declared.port.Port.{Port}
+use Rattle.fab_zoning_rows.specs.fab_inventory.declared.port.Port.{Port}
 use Rattle.fab_zoning_rows.specs.Rows.{Rows}
 use Rattle.fab_zoning.specs.Zonings.{FabricZoning}
 use Rattle.fab_zoning_rows.specs.PortZones.{in_zones}

@@ -1,6 +1,6 @@
 use Rattle.std.proofs.Common.{All, sym, ap, ◌∙◌, subst, rules}
 use Rattle.std.specs.FinMap as map
-use Rattle.fab_lemmas.specs.Firsts.{IsFirstWithout}
+use Rattle.fab_zoning_rows.specs.fab_lemmas.Firsts.{IsFirstWithout}
 use Rattle.fab_zoning.specs.Steps.{CanPutSet, HasZone}
 use Rattle.fab_zoning.specs.Zonings.{FabricZoning}
 use Rattle.fab_zoning.specs.Soundness.{IsSound}

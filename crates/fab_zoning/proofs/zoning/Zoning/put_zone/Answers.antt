@@ -1,7 +1,7 @@
 use Rattle.std.proofs.Common.{sym, ap, ◌∙◌, subst, rules}
 use Rattle.std.specs.FinMap as map
 use Rattle.fab_names.specs.declared.member.Member.TheVariants.{Alias}
-use Rattle.fab_lemmas.specs.Firsts.{IsFirstWithout}
+use Rattle.fab_zoning_rows.specs.fab_lemmas.Firsts.{IsFirstWithout}
 use Rattle.fab_zoning.specs.Zonings.{FabricZoning}
 use Rattle.fab_zoning.specs.Steps.{HasAlias, CanPutZone}
 use Rattle.fab_zoning.specs.Soundness.{IsSound}

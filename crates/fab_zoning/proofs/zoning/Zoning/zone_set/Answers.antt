@@ -3,8 +3,8 @@ use Rattle.std.specs.Option.{option_map}
 use Rattle.std.specs.FinMap as map
 use Rattle.fab_names.specs.Orders.{name_cmp}
 use Rattle.fab_names.proofs.OrderLaws.{name_total}
-use Rattle.fab_lemmas.specs.MapsOfSets.{seen_set}
-use Rattle.fab_lemmas.proofs.MapsOfSets.{get_seen}
+use Rattle.fab_zoning_rows.specs.fab_lemmas.MapsOfSets.{seen_set}
+use Rattle.fab_zoning_rows.proofs.fab_lemmas.MapsOfSets.{get_seen}
 use Rattle.fab_zoning.specs.Zonings.{FabricZoning}
 use Rattle.fab_zoning.proofs.zoning.Zoning.zone_set.Goals as goal
 

@@ -1,0 +1,1 @@
+pub use Rattle.fab_looks_tries.proofs as fab_looks_tries

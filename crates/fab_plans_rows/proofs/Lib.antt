@@ -1,0 +1,3 @@
+mod Elsewhere
+mod Steps
+mod KeysNamed

@@ -1,0 +1,226 @@
+//! Runs of the program, each by the words of its command line: what it reads and writes, and its exit
+//! status. The desk stands in a file, which each run opens anew.
+
+use super::answers::asking_of;
+use crate::running::run;
+use fab_policy_base::TRIAL_POLICY;
+use fab_test_wire::rows::{FIRST_PLAN, WORLD};
+use fab_test_wire::streams::{Breaking, Slow};
+use std::cell::Cell;
+use std::fs;
+use std::process::Abort;
+
+/// A run: its words; what its clock tells, which goes on by a second each time that it is asked; its
+/// standard input, and the read of it that fails; the write of its standard output that fails; what it
+/// writes to its two outputs, and its exit status.
+#[derive(Clone, Copy)]
+pub struct Run<'t> {
+    pub words: &'t str,
+    pub moment: Option<u64>,
+    pub input: &'t str,
+    pub read: u64,
+    pub write: u64,
+    pub output: &'t str,
+    pub errors: &'t str,
+    pub status: u8,
+}
+
+/// A run without standard input at moment 0, of which no read and no write fails, which writes nothing
+/// and is done.
+pub const QUIET: Run<'static> = Run {
+    words: "sandesk",
+    moment: Some(0),
+    input: "",
+    read: u64::MAX,
+    write: u64::MAX,
+    output: "",
+    errors: "",
+    status: 0,
+};
+
+/// The words of a command line, parted by spaces, of which the first is the program's name.
+pub fn words_from(rt: &(impl Abort + AllocGlobal), text: &str) -> Vec<String> {
+    let mut words = Vec::new(rt.alloc());
+    for word in text.split(' ') {
+        let word = String::from_str(rt.alloc(), word).expect(rt, "memory");
+        words.push(word).expect(rt, "room");
+    }
+    words
+}
+
+/// Ends the test where the run has written something else, or its exit status is another.
+fn has_written(rt: &impl Abort, run: &Run<'_>, output: &[u8], errors: &[u8], status: u8) {
+    let is_written = output == run.output.as_bytes() && errors == run.errors.as_bytes();
+    if !is_written || status != run.status {
+        panic!(rt;
+            "{}: {status} {}{}",
+            run.words,
+            str::from_utf8(output).unwrap_or("no text"),
+            str::from_utf8(errors).unwrap_or("no text")
+        );
+    }
+}
+
+/// What the clock tells. It goes on by a second.
+fn tick(clock: &Cell<Option<u64>>) -> Option<u64> {
+    let moment = clock.get();
+    clock.set(moment.map(|told| told.saturating_add(1)));
+    moment
+}
+
+/// Runs the program so, and compares what it writes.
+fn is_run(host: &HostRuntime, rt: &(impl Abort + AllocGlobal), wanted: &Run<'_>) {
+    let words = words_from(rt, wanted.words);
+    let clock = Cell::new(wanted.moment);
+    let mut output = Breaking::new(rt.alloc(), usize::MAX, wanted.write);
+    let mut errors = Vec::new(rt.alloc());
+    let status = run(
+        host,
+        words.as_slice(),
+        || tick(&clock),
+        Slow::new(wanted.input.as_bytes(), usize::MAX, wanted.read),
+        &mut output,
+        &mut errors,
+    );
+    has_written(rt, wanted, output.taken(), errors.as_slice(), status);
+}
+
+/// Runs the program as these tell, one after the other.
+pub fn are_run(host: &HostRuntime, rt: &(impl Abort + AllocGlobal), runs: &[Run<'_>]) {
+    for run in runs {
+        is_run(host, rt, run);
+    }
+}
+
+/// Makes a file, or empties it, and writes these bytes.
+pub fn put(host: &HostRuntime, rt: &impl Abort, name: &str, bytes: &[u8]) {
+    fs::write(host, name, bytes).expect(rt, "a file");
+}
+
+/// Has the desk in the file answer a request, as a line of a table tells both.
+fn is_answered(host: &HostRuntime, rt: &(impl Abort + AllocGlobal), line: &str) {
+    let asking = asking_of(rt, line);
+    let wanted = Run {
+        words: "sandesk once --db round.db --policy round.toml",
+        input: asking.exchange.request.as_str(),
+        output: asking.exchange.answer.as_str(),
+        ..QUIET
+    };
+    is_run(host, rt, &wanted);
+}
+
+/// Has the desk in the file answer requests, one after the other, but for so many of the first.
+fn are_answered(host: &HostRuntime, rt: &(impl Abort + AllocGlobal), lines: &[&str], but: usize) {
+    for line in lines.iter().skip(but) {
+        is_answered(host, rt, line);
+    }
+}
+
+/// The ports of the worked world in fabric A.
+const PORTS: &str = "\
+port_name,node_name,domain,port
+10:00:00:00:00:00:00:01,20:00:00:00:00:00:00:01,1,1
+10:00:00:00:00:00:00:02,20:00:00:00:00:00:00:02,12,5
+10:00:00:00:00:00:00:03,20:00:00:00:00:00:00:03,12,5
+50:00:00:00:00:00:00:01,50:00:00:00:00:00:00:00,1,2
+50:00:00:00:00:00:00:02,50:00:00:00:00:00:00:00,1,3
+";
+
+/// A desk in a new file, and its first import.
+const MADE: &[Run<'static>] = &[
+    Run {
+        words: "sandesk init --db round.db",
+        ..QUIET
+    },
+    Run {
+        words: "sandesk import --db round.db --policy round.toml --token t-ada --fabric A --file round.csv",
+        output: "{\"revision\":1}\n",
+        ..QUIET
+    },
+];
+
+/// The paths of the first host of the worked world as texts.
+const PATHS_AND_REPORT: &[Run<'static>] = &[
+    Run {
+        words: "sandesk paths --db round.db --policy round.toml --token t-ada --host db1",
+        output: "fabric,host,initiator,target,volume,lun\nA,db1,10:00:00:00:00:00:00:01,50:00:00:00:00:00:00:01,v1,0\n",
+        ..QUIET
+    },
+    Run {
+        words: "sandesk report --db round.db --policy round.toml --token t-ada --host db1",
+        output: "HOST                     VOLUME                        A      B STATE\ndb1                      v1                            1      0 ONE\n",
+        ..QUIET
+    },
+];
+
+#[test]
+fn file_round(rt: HostRuntime) {
+    put(&rt, &rt, "round.toml", TRIAL_POLICY.as_bytes());
+    put(&rt, &rt, "round.csv", PORTS.as_bytes());
+    are_run(&rt, &rt, MADE);
+    are_answered(&rt, &rt, WORLD, 1);
+    are_answered(&rt, &rt, FIRST_PLAN, 0);
+    are_run(&rt, &rt, PATHS_AND_REPORT);
+}
+
+/// What is done, what the desk refuses, words that are wrong, and what fails.
+const STATUSES: &[Run<'static>] = &[
+    Run {
+        words: "sandesk init --db status.db",
+        ..QUIET
+    },
+    Run {
+        words: "sandesk dryrun --db status.db --policy status.toml --token t-ada --plan p9",
+        output: "{\"code\":9,\"error\":\"not-found\"}\n",
+        status: 1,
+        ..QUIET
+    },
+    Run {
+        words: "sandesk paths --db status.db --policy status.toml --token t-ada --host db9",
+        output: "{\"code\":9,\"error\":\"not-found\"}\n",
+        status: 1,
+        ..QUIET
+    },
+    Run {
+        words: "sandesk report --db status.db --policy status.toml --token t-ada --host db9",
+        output: "{\"code\":9,\"error\":\"not-found\"}\n",
+        status: 1,
+        ..QUIET
+    },
+    Run {
+        words: "sandesk export --db status.db --policy status.toml --token t-zed --fabric A",
+        output: "{\"code\":1,\"error\":\"no-caller\"}\n",
+        status: 1,
+        ..QUIET
+    },
+    Run {
+        words: "sandesk once --db status.db",
+        errors: "sandesk: words\n",
+        status: 2,
+        ..QUIET
+    },
+    Run {
+        words: "sandesk export --db status.db --policy status.toml --token t-ada --fabric C",
+        errors: "sandesk: words\n",
+        status: 2,
+        ..QUIET
+    },
+    Run {
+        words: "sandesk serve --db status.db --policy status.toml --listen 127.0.0.1:1 --count many",
+        errors: "sandesk: words\n",
+        status: 2,
+        ..QUIET
+    },
+    Run {
+        words: "sandesk init --db status.db",
+        errors: "sandesk: file\n",
+        status: 3,
+        ..QUIET
+    },
+];
+
+#[test]
+fn exit_statuses(rt: HostRuntime) {
+    put(&rt, &rt, "status.toml", TRIAL_POLICY.as_bytes());
+    are_run(&rt, &rt, STATUSES);
+}

@@ -1,0 +1,85 @@
+-- The order of keys is total, and tells keys apart.
+use Rattle.std.proofs.Common.{◌≡◌, sym, ap, ◌∙◌}
+use Rattle.std.specs.declared.cmp.Ordering.{Ordering}
+use Rattle.std.specs.declared.cmp.Ordering.TheVariants.{Equal}
+use Rattle.std.specs.Cmp.{IsTotalOrder}
+use Rattle.std.specs.FinSet as set
+use Rattle.fab_names.specs.declared.fabric.Fabric.{Fabric}
+use Rattle.fab_names.specs.contracts.fabric.FabricOrd.TheImpl as fabric
+use Rattle.fab_names.specs.Orders.{name_cmp}
+use Rattle.fab_names.proofs.InOrder.{fabrics}
+use Rattle.fab_names.proofs.OrderLaws.{name_exact}
+use Rattle.fab_store_rows.specs.declared.row_key.RowKey.{RowKey}
+use Rattle.fab_store_rows.specs.declared.row_key.RowKey.TheVariants.{Alias, Zone, ZoneSet, ActiveSet, DefaultZone, HostGroup, StorageGroup}
+use Rattle.fab_store_rows.specs.contracts.row_key.RowKeyOrd.TheImpl.Laws.{total-law}
+use Rattle.fab_store_rows.specs.Keys.{key_cmp}
+use Rattle.fab_store_rows.proofs.OrderOfRows.{both, fabric_exact}
+
+pub key_total : IsTotalOrder key_cmp
+key_total = total-law
+
+abbrev fabrics_cmp : Fabric → Fabric → Ordering
+fabrics_cmp = fabric.ghosts.cmp
+
+fabric_same : (f g : Fabric) → fabrics_cmp f g ≡ Equal → f ≡ g
+fabric_same f g e = fabric_exact f g (sym (fabrics f g) ∙ e)
+
+exact : (a b : RowKey) → key_cmp a b ≡ Equal → a ≡ b
+exact (Alias f m) (Alias g n) e =
+    let w = both (fabrics_cmp f g) (name_cmp m n) e in
+    λ i. Alias (fabric_same f g w.0 i) (name_exact m n w.1 i)
+exact (Alias f m) (Zone g n) e = absurd cc
+exact (Alias f m) (ZoneSet g n) e = absurd cc
+exact (Alias f m) (ActiveSet g) e = absurd cc
+exact (Alias f m) (DefaultZone g) e = absurd cc
+exact (Alias f m) (HostGroup n) e = absurd cc
+exact (Alias f m) (StorageGroup n) e = absurd cc
+exact (Zone f m) (Alias g n) e = absurd cc
+exact (Zone f m) (Zone g n) e =
+    let w = both (fabrics_cmp f g) (name_cmp m n) e in
+    λ i. Zone (fabric_same f g w.0 i) (name_exact m n w.1 i)
+exact (Zone f m) (ZoneSet g n) e = absurd cc
+exact (Zone f m) (ActiveSet g) e = absurd cc
+exact (Zone f m) (DefaultZone g) e = absurd cc
+exact (Zone f m) (HostGroup n) e = absurd cc
+exact (Zone f m) (StorageGroup n) e = absurd cc
+exact (ZoneSet f m) (Alias g n) e = absurd cc
+exact (ZoneSet f m) (Zone g n) e = absurd cc
+exact (ZoneSet f m) (ZoneSet g n) e =
+    let w = both (fabrics_cmp f g) (name_cmp m n) e in
+    λ i. ZoneSet (fabric_same f g w.0 i) (name_exact m n w.1 i)
+exact (ZoneSet f m) (ActiveSet g) e = absurd cc
+exact (ZoneSet f m) (DefaultZone g) e = absurd cc
+exact (ZoneSet f m) (HostGroup n) e = absurd cc
+exact (ZoneSet f m) (StorageGroup n) e = absurd cc
+exact (ActiveSet f) (Alias g n) e = absurd cc
+exact (ActiveSet f) (Zone g n) e = absurd cc
+exact (ActiveSet f) (ZoneSet g n) e = absurd cc
+exact (ActiveSet f) (ActiveSet g) e = ap ActiveSet (fabric_same f g e)
+exact (ActiveSet f) (DefaultZone g) e = absurd cc
+exact (ActiveSet f) (HostGroup n) e = absurd cc
+exact (ActiveSet f) (StorageGroup n) e = absurd cc
+exact (DefaultZone f) (Alias g n) e = absurd cc
+exact (DefaultZone f) (Zone g n) e = absurd cc
+exact (DefaultZone f) (ZoneSet g n) e = absurd cc
+exact (DefaultZone f) (ActiveSet g) e = absurd cc
+exact (DefaultZone f) (DefaultZone g) e = ap DefaultZone (fabric_same f g e)
+exact (DefaultZone f) (HostGroup n) e = absurd cc
+exact (DefaultZone f) (StorageGroup n) e = absurd cc
+exact (HostGroup m) (Alias g n) e = absurd cc
+exact (HostGroup m) (Zone g n) e = absurd cc
+exact (HostGroup m) (ZoneSet g n) e = absurd cc
+exact (HostGroup m) (ActiveSet g) e = absurd cc
+exact (HostGroup m) (DefaultZone g) e = absurd cc
+exact (HostGroup m) (HostGroup n) e = ap HostGroup (name_exact m n e)
+exact (HostGroup m) (StorageGroup n) e = absurd cc
+exact (StorageGroup m) (Alias g n) e = absurd cc
+exact (StorageGroup m) (Zone g n) e = absurd cc
+exact (StorageGroup m) (ZoneSet g n) e = absurd cc
+exact (StorageGroup m) (ActiveSet g) e = absurd cc
+exact (StorageGroup m) (DefaultZone g) e = absurd cc
+exact (StorageGroup m) (HostGroup n) e = absurd cc
+exact (StorageGroup m) (StorageGroup n) e = ap StorageGroup (name_exact m n e)
+
+pub key_exact : set.IsAntisymmetric key_cmp
+key_exact = exact
