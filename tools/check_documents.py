@@ -18,7 +18,7 @@ MOST_LINES = 150
 # So many words of a contract in a row are the contract told again.
 SAME_WORDS = 14
 # Before and after a library's proof rt sums the crates below it, along each way down anew: 3 ms a way.
-MOST_WAYS = 50_000
+MOST_WAYS = 12_000
 # Names in it may be gone: a figure stays that of its day.
 DATED = "docs/measurements.md"
 CONTRACTS = "docs/CONTRACTS.md"

@@ -2,7 +2,7 @@
 use Rattle.std.proofs.Common.{◌≡◌, inl, inr, subst}
 use Rattle.fab_reach_base.specs.declared.book.Delta.{Delta}
 use Rattle.fab_policy_base.specs.Policies.{PolicyRows}
-use Rattle.fab_desk_machine.specs.fab_world.Worlds.{WorldRows}
+use Rattle.fab_world.specs.Worlds.{WorldRows}
 use Rattle.fab_desk_machine.specs.fab_desk_base.Answers.{IsAnswerTo, IsStep, Request}
 use Rattle.fab_desk_machine.specs.fab_desk_base.declared.fault.DeskFault.{DeskFault}
 use Rattle.fab_desk_machine.specs.fab_desk_base.declared.fault.DeskFault.TheVariants.{BadBody, NoCaller, NotFound}

@@ -11,7 +11,7 @@ use Rattle.fab_store_world.specs.Paths.{IsPathRow}
 use Rattle.fab_store_rows.specs.declared.record_row.PathRow.{PathRow}
 use Rattle.fab_store_base.specs.Worlds.{HoldsWorld, IsWritten, ArePathsIn, HasPathOf}
 use Rattle.fab_store_tables.specs.Tables.{Tables}
-use Rattle.fab_desk_machine.specs.fab_world.Worlds.{WorldRows, records_of}
+use Rattle.fab_world.specs.Worlds.{WorldRows, records_of}
 
 module _ (t : Tables) (w : WorldRows) (host : List ℕ) (holds : HoldsWorld t w) where
   is_reached : (x : Path) → HasPathOf t host x → ReachesFrom (records_of w) host x

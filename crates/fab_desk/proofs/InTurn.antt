@@ -9,7 +9,7 @@ use Rattle.fab_policy_base.specs.Policies.{PolicyRows}
 use Rattle.fab_store_base.specs.Worlds.{HoldsWorld}
 use Rattle.fab_store_base.specs.declared.store.Store as store
 use Rattle.fab_store_tables.specs.Tables.{Tables}
-use Rattle.fab_desk_machine.specs.fab_world.Worlds.{WorldRows}
+use Rattle.fab_world.specs.Worlds.{WorldRows}
 use Rattle.fab_desk.specs.Desks.{IsTurnedAway, IsTied, IsServed, IsInDoubt, IsCleanDesk, IsTiedDesk, IsLeftByStop, IsAnsweredByDesk, IsHaltedBy, IsRead, is_done, done_replies, done_requests}
 use Rattle.fab_desk.specs.Handled.{Handles, AreHandled, policy_of, world_of, serving_of, aside_of}
 use Rattle.fab_desk.specs.declared.desk.Desk.{Desk}

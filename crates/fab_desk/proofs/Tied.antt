@@ -5,7 +5,7 @@ use Rattle.fab_store_base.specs.Worlds.{HoldsWorld, IsWritten}
 use Rattle.fab_store_base.specs.declared.store.Store as store
 use Rattle.fab_store_tables.specs.Tables.{Tables, HaveKeys, CanChange, AreChanged}
 use Rattle.fab_store_tables.specs.declared.changes.LineChanges.{LineChanges}
-use Rattle.fab_desk_machine.specs.fab_world.Worlds.{WorldRows}
+use Rattle.fab_world.specs.Worlds.{WorldRows}
 use Rattle.fab_desk.specs.Desks.{IsTied}
 
 -- what holds anyhow holds of an answer

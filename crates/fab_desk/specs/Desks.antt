@@ -13,7 +13,7 @@ use Rattle.fab_store_base.specs.Worlds.{HoldsWorld, IsWritten}
 use Rattle.fab_store_base.specs.declared.faults.OpenFault.{OpenFault}
 use Rattle.fab_store_base.specs.declared.store.Store as store
 use Rattle.fab_store_tables.specs.Tables.{Tables}
-use Rattle.fab_desk_machine.specs.fab_world.Worlds.{WorldRows}
+use Rattle.fab_world.specs.Worlds.{WorldRows}
 
 -- ---- one request
 

@@ -4,7 +4,7 @@ use Rattle.fab_desk_machine.specs.fab_desk_base.Answers.{Request}
 use Rattle.fab_desk_machine.specs.fab_desk_base.declared.reply.Reply.{Reply}
 use Rattle.fab_policy_base.specs.Policies.{PolicyRows}
 use Rattle.fab_store_base.specs.declared.store.Store as store
-use Rattle.fab_desk_machine.specs.fab_world.Worlds.{WorldRows}
+use Rattle.fab_world.specs.Worlds.{WorldRows}
 use Rattle.fab_desk.specs.Desks.{IsServed, IsTurnedAway}
 use Rattle.fab_desk.specs.declared.desk.Desk.{Desk}
 

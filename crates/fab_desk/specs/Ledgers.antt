@@ -1,7 +1,7 @@
 -- What contracts see of a world with a book of its paths.
 use Rattle.std.specs.Prelude.{ℕ, refl}
 use Rattle.std.specs.Coded.{Coded, code_by, coded×, coded_ℕ}
-use Rattle.fab_desk_machine.specs.fab_world.Worlds.{WorldRows, world_code}
+use Rattle.fab_world.specs.Worlds.{WorldRows, world_code}
 
 -- the world, and how many questions the book has asked
 pub record LedgerRows : Type 0 where

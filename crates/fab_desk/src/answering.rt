@@ -6,20 +6,20 @@ ghost use Rattle.fab_desk_machine.specs.fab_desk_base.declared.fault.DeskFault.T
 ghost use Rattle.fab_desk_machine.specs.fab_desk_base.declared.reply.Reply.TheVariants as replies;
 ghost use Rattle.fab_desk_machine.specs.Proposals.{CountsStep, IsAccepted, IsEffectOf, request_of};
 ghost use Rattle.fab_store_base.specs.Calls.{Rises};
-ghost use Rattle.fab_desk_machine.specs.fab_world.Soundness.{IsSound};
-ghost use Rattle.fab_desk_machine.specs.fab_world.Worlds.{records_of};
+ghost use Rattle.fab_world.specs.Soundness.{IsSound};
+ghost use Rattle.fab_world.specs.Worlds.{records_of};
 ghost use Rattle.fab_desk.specs.Desks.{IsHandled, IsInDoubt, IsTied, IsRead};
 
 use crate::carrying::{Served, carry_out};
 use crate::ledger::Ledger;
 use crate::reading::show_paths;
 use fab_desk_machine::base::{Command, DeskFault, Query, Reply, holders_are_kept, steps_are_done};
-use fab_desk_machine::world::World;
 use fab_desk_machine::{Proposal, propose, sender_of};
 use fab_names::Name;
 use fab_policy_base::Policy;
 use fab_reach_books::PathBook;
 use fab_store_base::Store;
+use fab_world::World;
 use std::alloc::Allocator;
 
 /// The host whose paths a command asks for, if it asks for paths.

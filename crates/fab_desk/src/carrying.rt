@@ -11,18 +11,18 @@ ghost use Rattle.fab_store_base.specs.Calls.{Rises};
 ghost use Rattle.fab_store_base.specs.Moves.{AreMoves};
 ghost use Rattle.fab_store_base.specs.Worlds.{HoldsWorld};
 ghost use Rattle.fab_store_tables.specs.Tables.{Tables};
-ghost use Rattle.fab_desk_machine.specs.fab_world.Soundness.{IsSound};
-ghost use Rattle.fab_desk_machine.specs.fab_world.Worlds.{records_of};
+ghost use Rattle.fab_world.specs.Soundness.{IsSound};
+ghost use Rattle.fab_world.specs.Worlds.{records_of};
 ghost use Rattle.fab_desk.specs.Desks.{IsTied};
 ghost use Rattle.fab_desk_machine.specs.fab_desk_base.Keeping.{KeepsHosts};
 
 use crate::moves::moves;
 use fab_desk_machine::base::{DeskFault, Reply};
-use fab_desk_machine::world::World;
 use fab_desk_machine::{Change, lists_of, take_over};
 use fab_reach_books::PathBook;
 use fab_store_base::laws::holds_keys;
 use fab_store_base::{LineChanges, Store};
+use fab_world::World;
 use std::alloc::{AllocError, Allocator};
 
 /// What is answered to a request, and whether the store refused its change.

@@ -1,7 +1,7 @@
 //! A sound world, with a book of its paths.
 
-use fab_desk_machine::world::World;
 use fab_reach_books::PathBook;
+use fab_world::World;
 use std::alloc::Allocator;
 use std::marker::Model;
 
@@ -20,8 +20,8 @@ impl<A: Allocator + Copy, B: PathBook<A>> Drop for Ledger<A, B> {
 }
 
 impl<A: Allocator + Copy, B: PathBook<A>> Model for Ledger<A, B> {
-    ghost use Rattle.fab_desk_machine.specs.fab_world.Soundness.{IsSound};
-    ghost use Rattle.fab_desk_machine.specs.fab_world.Worlds.{records_of};
+    ghost use Rattle.fab_world.specs.Soundness.{IsSound};
+    ghost use Rattle.fab_world.specs.Worlds.{records_of};
     ghost use Rattle.fab_desk.specs.Ledgers.{LedgerRows, ledger_code};
 
     ghost Value = { LedgerRows };

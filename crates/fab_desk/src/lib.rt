@@ -15,10 +15,10 @@ mod reading;
 mod run;
 
 pub use desk::Desk;
+pub use fab_desk_machine::base;
 pub use fab_desk_machine::base::{
     Command, DeskFault, DeskLimit, Joint, Query, Reply, Shown, ShownGroup, ShownHolder, ShownPlan,
     ZoneMembers,
 };
-pub use fab_desk_machine::{base, world};
 pub use fab_store_base as store_base;
 pub use run::handle_all;

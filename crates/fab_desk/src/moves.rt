@@ -4,14 +4,14 @@ ghost use Rattle.fab_desk_machine.specs.fab_desk_base.Answers.{IsMove};
 ghost use Rattle.fab_desk_machine.specs.fab_desk_base.Keeping.{KeepsHosts};
 ghost use Rattle.fab_desk_machine.specs.fab_desk_commands.Nexts.{next_world, Suits};
 ghost use Rattle.fab_store_base.specs.Moves.{AreMoves};
-ghost use Rattle.fab_desk_machine.specs.fab_world.Soundness.{IsSound};
-ghost use Rattle.fab_desk_machine.specs.fab_world.Worlds.{records_of};
+ghost use Rattle.fab_world.specs.Soundness.{IsSound};
+ghost use Rattle.fab_world.specs.Worlds.{records_of};
 
 use fab_desk_machine::commands::Next;
-use fab_desk_machine::world::World;
 use fab_desk_rows::next_changes;
 use fab_reach_base::Delta;
 use fab_store_base::{LineChanges, change_lines};
+use fab_world::World;
 use std::alloc::{AllocError, Allocator};
 
 /// The lines in which the world and the next one differ, where the lists are the paths gained and

@@ -3,15 +3,15 @@ ghost use Rattle.std.specs.Prelude.{◌≡◌, IfOk, IfErr, OnOk};
 ghost use Rattle.fab_store_base.specs.declared.faults.OpenFault.TheVariants as faults;
 ghost use Rattle.fab_store_base.specs.Calls.{IsCounted, OpensNot};
 ghost use Rattle.fab_store_tables.specs.Tables.{Tables};
-ghost use Rattle.fab_desk_machine.specs.fab_world.Soundness.{IsSound};
-ghost use Rattle.fab_desk_machine.specs.fab_world.Worlds.{records_of};
+ghost use Rattle.fab_world.specs.Soundness.{IsSound};
+ghost use Rattle.fab_world.specs.Worlds.{records_of};
 ghost use Rattle.fab_desk.specs.Desks.{IsTied};
 
 use crate::ledger::Ledger;
-use fab_desk_machine::world::World;
 use fab_reach_base::View;
 use fab_reach_books::PathBook;
 use fab_store_base::{OpenFault, Store};
+use fab_world::World;
 use std::alloc::{AllocError, Allocator};
 
 /// A book of the paths of a sound world, which has asked nothing.

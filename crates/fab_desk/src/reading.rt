@@ -11,10 +11,10 @@ ghost use Rattle.fab_desk.specs.Desks.{IsTied};
 use fab_desk_machine::Sender;
 use fab_desk_machine::base::{Command, DeskFault, Query, Reply, Shown};
 use fab_desk_machine::reads::is_open_to;
-use fab_desk_machine::world::World;
 use fab_names::Name;
 use fab_policy_base::Policy;
 use fab_store_base::Store;
+use fab_world::World;
 use std::alloc::Allocator;
 
 /// Shows the paths of a host as the store has them, if they are for the sender. Where the store refuses,

@@ -5,10 +5,10 @@ use Rattle.std.specs.Option.{option_map_or}
 use Rattle.std.proofs.lemmas.List.Elements.{All-contains}
 use Rattle.std.proofs.lemmas.List.Sums.{AllPass-from_list_all}
 use Rattle.std.proofs.lemmas.Option.{same_Some}
-use Rattle.fab_policy_base.specs.Callers.{has_tenant, sees, HasToken}
-use Rattle.fab_policy_base.specs.Policies.{CallerRow, PolicyRows}
-use Rattle.fab_policy_base.specs.declared.policy.Action.{Action}
-use Rattle.fab_policy_base.specs.declared.policy.Scope.{Scope}
+use Rattle.fab_policy.specs.fab_policy_base.Callers.{has_tenant, sees, HasToken}
+use Rattle.fab_policy.specs.fab_policy_base.Policies.{CallerRow, PolicyRows}
+use Rattle.fab_policy.specs.fab_policy_base.declared.policy.Action.{Action}
+use Rattle.fab_policy.specs.fab_policy_base.declared.policy.Scope.{Scope}
 use Rattle.fab_policy.specs.Verdicts.{is_own, Applies, Holds}
 use Rattle.fab_policy.specs.declared.act.Need.TheVariants as need
 use Rattle.fab_policy.specs.declared.act.Verdict.TheVariants.{Allowed}
@@ -17,7 +17,7 @@ use Rattle.fab_world.specs.Worlds.{WorldRows, records_of}
 use Rattle.fab_desk_base.specs.Acts.{IsJudged}
 use Rattle.fab_desk_base.specs.Answers.{IsCarriedOut, Request, IsStep}
 use Rattle.fab_desk_base.specs.Commands.{action_of}
-use Rattle.fab_plans_base.specs.Steps.{PlanStep}
+use Rattle.fab_world.specs.fab_plans_base.Steps.{PlanStep}
 use Rattle.fab_desk_base.specs.Effects.{StageMakes}
 use Rattle.fab_desk_base.specs.Refusals.{IsEffect}
 use Rattle.fab_desk_base.specs.Touching.{MovesPathOf}

@@ -1,6 +1,6 @@
 -- A request leaves the world as it was, or its command is done.
 use Rattle.std.proofs.Common.{ℕ, ◌≡◌, ◌⊎◌, inl, inr, List}
-use Rattle.fab_policy_base.specs.Policies.{PolicyRows}
+use Rattle.fab_policy.specs.fab_policy_base.Policies.{PolicyRows}
 use Rattle.fab_world.specs.Worlds.{WorldRows}
 use Rattle.fab_desk_base.specs.Answers.{IsKept, IsDeniedWith, IsRefusedWith, IsCarriedOut, IsOutcomeFor, IsAnswerTo}
 use Rattle.fab_desk_base.specs.declared.command.Command.{Command}

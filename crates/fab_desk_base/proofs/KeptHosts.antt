@@ -3,16 +3,16 @@ use Rattle.std.proofs.Common.{ℕ, zero, suc, ◌≡◌, ◌<◌, inl, inr, List
 use Rattle.std.specs.FinMap as map
 use Rattle.std.proofs.lemmas.Bool.{cases_lt}
 use Rattle.std.proofs.lemmas.Option.{same_Some}
-use Rattle.fab_inventory.specs.declared.holder.Holder.{Holder}
-use Rattle.fab_inventory.specs.declared.holder.HolderKind.TheVariants as kind
-use Rattle.fab_inventory.specs.Holders.{PortLookUp, IsLeast, IsHeldIn, IsHeldByOther, AreFree, Holds, holder_in}
-use Rattle.fab_inventory.specs.Inventories.{InventoryRows, IsHolderPut, IsHolderDropped}
-use Rattle.fab_inventory.specs.Ports.{KnownPorts}
-use Rattle.fab_inventory.proofs.NameTests.{same_name_tells}
-use Rattle.fab_inventory.proofs.Soundness.{held_from, same_holder}
-use Rattle.fab_policy_base.specs.Policies.{PolicyRows}
-use Rattle.fab_plans.specs.declared.fault.Item.TheVariants as item
-use Rattle.fab_plans_base.specs.Steps.{PlanStep}
+use Rattle.fab_reach_base.specs.fab_inventory.declared.holder.Holder.{Holder}
+use Rattle.fab_reach_base.specs.fab_inventory.declared.holder.HolderKind.TheVariants as kind
+use Rattle.fab_reach_base.specs.fab_inventory.Holders.{PortLookUp, IsLeast, IsHeldIn, IsHeldByOther, AreFree, Holds, holder_in}
+use Rattle.fab_reach_base.specs.fab_inventory.Inventories.{InventoryRows, IsHolderPut, IsHolderDropped}
+use Rattle.fab_reach_base.specs.fab_inventory.Ports.{KnownPorts}
+use Rattle.fab_reach_base.proofs.fab_inventory.NameTests.{same_name_tells}
+use Rattle.fab_reach_base.proofs.fab_inventory.Soundness.{held_from, same_holder}
+use Rattle.fab_policy.specs.fab_policy_base.Policies.{PolicyRows}
+use Rattle.fab_world.specs.fab_plans.declared.fault.Item.TheVariants as item
+use Rattle.fab_world.specs.fab_plans_base.Steps.{PlanStep}
 use Rattle.fab_world.specs.Worlds.{WorldRows, records_of}
 use Rattle.fab_desk_base.specs.Answers.{IsCarriedOut, Request, IsStep}
 use Rattle.fab_desk_base.specs.Effects.{StageMakes}

@@ -4,7 +4,7 @@ use Rattle.std.proofs.lemmas.Option.{same_Some}
 use Rattle.fab_policy.specs.declared.act.Need.{Need}
 use Rattle.fab_policy.specs.declared.act.Verdict.{Verdict}
 use Rattle.fab_policy.specs.declared.act.Verdict.TheVariants.{Allowed, Denied}
-use Rattle.fab_policy_base.specs.Policies.{CallerRow, PolicyRows}
+use Rattle.fab_policy.specs.fab_policy_base.Policies.{CallerRow, PolicyRows}
 use Rattle.fab_world.specs.Worlds.{WorldRows}
 use Rattle.fab_desk_base.specs.Answers.{IsKept, IsReport, IsLeft, IsDeniedWith, IsRefusedWith, IsCarriedOut, IsOutcomeFor, IsAnswerTo, Request, IsStep}
 use Rattle.fab_desk_base.specs.Commands.{tried}

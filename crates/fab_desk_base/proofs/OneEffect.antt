@@ -3,16 +3,16 @@ use Rattle.std.proofs.Common.{ℕ, ◌≡◌, ◌++◌, inl, inr, List, [], ◌�
 use Rattle.std.specs.FinMap as map
 use Rattle.std.proofs.lemmas.List.{append_cancel_right}
 use Rattle.std.proofs.lemmas.Option.{same_Some, none-some}
-use Rattle.fab_inventory.specs.Inventories.{InventoryRows}
-use Rattle.fab_inventory.specs.Ports.{KnownPorts}
+use Rattle.fab_reach_base.specs.fab_inventory.Inventories.{InventoryRows}
+use Rattle.fab_reach_base.specs.fab_inventory.Ports.{KnownPorts}
 use Rattle.fab_reach_base.specs.Records.{ConfigRows}
-use Rattle.fab_store_rows.specs.Differences.{StandsOnlyIn, IsDifference}
-use Rattle.fab_store_rows.specs.Standing.{Stands}
-use Rattle.fab_store_rows.specs.declared.config_row.ConfigRow.{ConfigRow}
-use Rattle.fab_store_rows.proofs.Determined.{one_list, one_config}
-use Rattle.fab_store_rows.proofs.RowLists.{stands_decided}
-use Rattle.fab_plans.specs.Outcomes.{AllDone}
-use Rattle.fab_plans.proofs.OnePlan.{all_one}
+use Rattle.fab_world.specs.fab_store_rows.Differences.{StandsOnlyIn, IsDifference}
+use Rattle.fab_world.specs.fab_store_rows.Standing.{Stands}
+use Rattle.fab_world.specs.fab_store_rows.declared.config_row.ConfigRow.{ConfigRow}
+use Rattle.fab_world.proofs.fab_store_rows.Determined.{one_list, one_config}
+use Rattle.fab_world.proofs.fab_store_rows.RowLists.{stands_decided}
+use Rattle.fab_world.specs.fab_plans.Outcomes.{AllDone}
+use Rattle.fab_world.proofs.fab_plans.OnePlan.{all_one}
 use Rattle.fab_world.specs.History.{IsEarlier}
 use Rattle.fab_world.specs.PlanRecords.{PlanRecord, active, rolled_back, withdrawn}
 use Rattle.fab_world.specs.Plans.{Change, undo_of}

@@ -6,27 +6,27 @@ use Rattle.std.specs.FinMap as map
 use Rattle.std.specs.FinSet as set
 use Rattle.std.proofs.lemmas.List.{get_or-take, length-take, take-take}
 use Rattle.std.proofs.lemmas.Option.{same_Some, get_or_from_slice_get}
-use Rattle.fab_lemmas.specs.Firsts.{IsFirstWith}
-use Rattle.fab_names.specs.Orders.{name_cmp}
-use Rattle.fab_names.proofs.OrderLaws.{name_total, name_exact}
-use Rattle.fab_inventory.specs.Holders.{IsLeast, IsUnknownIn, IsHeldIn, IsHeldByOther, IsLeastVolume}
-use Rattle.fab_inventory.specs.Imports.{IsClash}
-use Rattle.fab_inventory.specs.Inventories.{InventoryRows}
-use Rattle.fab_inventory.specs.declared.holder.HolderKind.{HolderKind}
-use Rattle.fab_inventory.specs.declared.holder.HolderKind.TheVariants as kind
-use Rattle.fab_inventory.specs.declared.port.PortRow.{PortRow}
-use Rattle.fab_inventory.proofs.Steps.{in_take, at_index}
-use Rattle.fab_mapping_base.specs.declared.gone.Gone.{Gone}
-use Rattle.fab_mapping_base.specs.declared.gone.Gone.TheVariants as gone
-use Rattle.fab_mapping.specs.Gone.{IsFirstGone}
-use Rattle.fab_mapping.specs.Mappings.{MappingRows}
-use Rattle.fab_store_rows.specs.declared.record_row.PlanState.{PlanState}
-use Rattle.fab_store_rows.specs.declared.record_row.PlanState.TheVariants as state
-use Rattle.fab_plans.specs.Outcomes.{IsRefusedOutcome}
-use Rattle.fab_plans.specs.declared.fault.Item.TheVariants as item
-use Rattle.fab_plans.specs.declared.fault.Refusal.{Refusal}
-use Rattle.fab_plans.proofs.OneFirst.{compared, same_first}
-use Rattle.fab_plans.proofs.OnePlan.{one_refused_outcome}
+use Rattle.fab_reach_base.specs.fab_lemmas.Firsts.{IsFirstWith}
+use Rattle.fab_reach_base.specs.fab_names.Orders.{name_cmp}
+use Rattle.fab_reach_base.proofs.fab_names.OrderLaws.{name_total, name_exact}
+use Rattle.fab_reach_base.specs.fab_inventory.Holders.{IsLeast, IsUnknownIn, IsHeldIn, IsHeldByOther, IsLeastVolume}
+use Rattle.fab_reach_base.specs.fab_inventory.Imports.{IsClash}
+use Rattle.fab_reach_base.specs.fab_inventory.Inventories.{InventoryRows}
+use Rattle.fab_reach_base.specs.fab_inventory.declared.holder.HolderKind.{HolderKind}
+use Rattle.fab_reach_base.specs.fab_inventory.declared.holder.HolderKind.TheVariants as kind
+use Rattle.fab_reach_base.specs.fab_inventory.declared.port.PortRow.{PortRow}
+use Rattle.fab_reach_base.proofs.fab_inventory.Steps.{in_take, at_index}
+use Rattle.fab_reach_base.specs.fab_mapping_base.declared.gone.Gone.{Gone}
+use Rattle.fab_reach_base.specs.fab_mapping_base.declared.gone.Gone.TheVariants as gone
+use Rattle.fab_reach_base.specs.fab_mapping.Gone.{IsFirstGone}
+use Rattle.fab_reach_base.specs.fab_mapping.Mappings.{MappingRows}
+use Rattle.fab_world.specs.fab_store_rows.declared.record_row.PlanState.{PlanState}
+use Rattle.fab_world.specs.fab_store_rows.declared.record_row.PlanState.TheVariants as state
+use Rattle.fab_world.specs.fab_plans.Outcomes.{IsRefusedOutcome}
+use Rattle.fab_world.specs.fab_plans.declared.fault.Item.TheVariants as item
+use Rattle.fab_world.specs.fab_plans.declared.fault.Refusal.{Refusal}
+use Rattle.fab_world.proofs.fab_plans.OneFirst.{compared, same_first}
+use Rattle.fab_world.proofs.fab_plans.OnePlan.{one_refused_outcome}
 use Rattle.fab_world.specs.PlanRecords.{PlanRecord}
 use Rattle.fab_world.specs.Plans.{state_of}
 use Rattle.fab_world.specs.Worlds.{WorldRows}

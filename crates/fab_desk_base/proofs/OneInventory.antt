@@ -4,12 +4,12 @@ use Rattle.std.specs.Cmp.{nat_cmp_total}
 use Rattle.std.specs.FinMap as map
 use Rattle.std.specs.FinSet as set
 use Rattle.std.proofs.lemmas.Bool.Decides.{eqb_tells}
-use Rattle.fab_names.specs.declared.fabric.Fabric.{Fabric}
-use Rattle.fab_inventory.specs.declared.holder.Holder.{Holder}
-use Rattle.fab_inventory.specs.declared.port.PortRow.{PortRow}
-use Rattle.fab_inventory.specs.Imports.{IsImported, IsUnlisted}
-use Rattle.fab_inventory.specs.Inventories.{InventoryRows, IsHolderPut, IsHolderDropped}
-use Rattle.fab_inventory.specs.Ports.{KnownPorts}
+use Rattle.fab_reach_base.specs.fab_names.declared.fabric.Fabric.{Fabric}
+use Rattle.fab_reach_base.specs.fab_inventory.declared.holder.Holder.{Holder}
+use Rattle.fab_reach_base.specs.fab_inventory.declared.port.PortRow.{PortRow}
+use Rattle.fab_reach_base.specs.fab_inventory.Imports.{IsImported, IsUnlisted}
+use Rattle.fab_reach_base.specs.fab_inventory.Inventories.{InventoryRows, IsHolderPut, IsHolderDropped}
+use Rattle.fab_reach_base.specs.fab_inventory.Ports.{KnownPorts}
 
 -- some record is of the port
 abbrev IsRecorded : List PortRow → ℕ → Type 0

@@ -2,7 +2,7 @@
 use Rattle.std.proofs.Common.{ℕ, ◌≡◌, ◌⊎◌, inl, inr, List, slice_get, refl, sym, ap, ◌∙◌, subst}
 use Rattle.std.proofs.lemmas.Option.{same_Some}
 use Rattle.fab_policy.specs.declared.act.Verdict.TheVariants.{Allowed, Denied}
-use Rattle.fab_policy_base.specs.Policies.{CallerRow, PolicyRows}
+use Rattle.fab_policy.specs.fab_policy_base.Policies.{CallerRow, PolicyRows}
 use Rattle.fab_world.specs.Worlds.{WorldRows}
 use Rattle.fab_desk_base.specs.Answers.{IsKept, IsDeniedWith, IsRefusedWith, IsCarriedOut, IsOutcomeFor, IsAnswerTo, Request, IsStep}
 use Rattle.fab_desk_base.specs.Commands.{tried}

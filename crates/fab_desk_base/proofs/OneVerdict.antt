@@ -6,10 +6,10 @@ use Rattle.std.proofs.lemmas.List.Folds.{Any-from_list_any, list_any-from_Any}
 use Rattle.std.proofs.lemmas.List.Sums.{AllPass-from_list_all, list_all-from_AllPass}
 use Rattle.std.proofs.lemmas.List.{get_or_default}
 use Rattle.std.proofs.lemmas.Option.{same_Some}
-use Rattle.fab_names.specs.declared.fabric.Fabric.{Fabric}
-use Rattle.fab_policy_base.specs.Policies.{CallerRow, RuleRow, PolicyRows}
-use Rattle.fab_policy_base.specs.declared.policy.Quorum.{Quorum}
-use Rattle.fab_policy_base.specs.Callers.{is_same, has_tenant, lists_tenant}
+use Rattle.fab_reach_base.specs.fab_names.declared.fabric.Fabric.{Fabric}
+use Rattle.fab_policy.specs.fab_policy_base.Policies.{CallerRow, RuleRow, PolicyRows}
+use Rattle.fab_policy.specs.fab_policy_base.declared.policy.Quorum.{Quorum}
+use Rattle.fab_policy.specs.fab_policy_base.Callers.{is_same, has_tenant, lists_tenant}
 use Rattle.fab_policy.specs.Verdicts.{Applies, has_role, meets_role, is_own, is_approval_of, has_approved, counts, has_quorum, meets_approvals, signs_for, is_signed_for, is_each_signed_for, meets_tenants, meets_window, meets, Holds, FailsFirst, IsVerdict}
 use Rattle.fab_policy.specs.declared.act.Act.{Act}
 use Rattle.fab_policy.specs.declared.act.Need.{Need}

@@ -1,6 +1,6 @@
 -- A dry run tells what activation does.
 use Rattle.std.proofs.Common.{ℕ, ◌≡◌, List, subst}
-use Rattle.fab_policy_base.specs.Policies.{PolicyRows}
+use Rattle.fab_policy.specs.fab_policy_base.Policies.{PolicyRows}
 use Rattle.fab_reach_base.specs.Books.{IsGained}
 use Rattle.fab_reach_base.proofs.SameLists.{one_list}
 use Rattle.fab_world.specs.Worlds.{WorldRows, records_of}

@@ -1,6 +1,6 @@
 -- From what the records say of a command to its effect, and to what refuses it.
 use Rattle.std.proofs.Common.{ℕ, ◌≡◌, ◌<◌, ◌↔◌, List, refl, subst, arith}
-use Rattle.fab_inventory.specs.declared.holder.HolderKind.TheVariants as kind
+use Rattle.fab_reach_base.specs.fab_inventory.declared.holder.HolderKind.TheVariants as kind
 use Rattle.fab_world.specs.Worlds.{WorldRows}
 use Rattle.fab_desk_base.specs.Refusals.{Check, plan_state, own_name, records, others, free_ports, no_user, no_volume, not_author, last_in_force, nothing_gone, steps_done, room, few_paths, few_changes, place_of, FailsWith, HasManyPaths, MakesManyPaths, Fails, IsFirstFault, IsDone}
 use Rattle.fab_desk_base.specs.Trying.{IsOfRecords, IsMade}

@@ -1,13 +1,13 @@
 -- A command as a policy judges it.
 use Rattle.std.specs.Prelude.{ℕ, ◌≡◌, ◌↔◌, List, Contains, Option, None, Some}
 use Rattle.std.specs.FinMap as map
-use Rattle.fab_names.specs.declared.fabric.Fabric.{Fabric}
+use Rattle.fab_reach_base.specs.fab_names.declared.fabric.Fabric.{Fabric}
 use Rattle.fab_policy.specs.Verdicts.{IsVerdict}
 use Rattle.fab_policy.specs.declared.act.Act.{Act}
 use Rattle.fab_policy.specs.declared.act.Approval.{Approval}
 use Rattle.fab_policy.specs.declared.act.PlanApprovals.{PlanApprovals}
 use Rattle.fab_policy.specs.declared.act.Verdict.{Verdict}
-use Rattle.fab_policy_base.specs.Policies.{PolicyRows}
+use Rattle.fab_policy.specs.fab_policy_base.Policies.{PolicyRows}
 use Rattle.fab_world.specs.PlanRecords.{PlanRecord}
 use Rattle.fab_world.specs.Worlds.{WorldRows}
 use Rattle.fab_desk_base.specs.Commands.{action_of, plan_of, IsPlan, NamesFabric}

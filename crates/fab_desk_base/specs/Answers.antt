@@ -1,11 +1,11 @@
 -- What is answered to whom, and which world follows.
 use Rattle.std.specs.Prelude.{ℕ, ◌≡◌, ◌⊎◌, List, [], ◌∷◌, length, slice_get, Some, true}
 use Rattle.std.specs.FinMap as map
-use Rattle.fab_inventory.specs.Inventories.{kind_of}
+use Rattle.fab_reach_base.specs.fab_inventory.Inventories.{kind_of}
 use Rattle.fab_policy.specs.declared.act.Need.{Need}
 use Rattle.fab_policy.specs.declared.act.Verdict.TheVariants.{Allowed, Denied}
-use Rattle.fab_policy_base.specs.Callers.{HasToken, IsOnlyWith}
-use Rattle.fab_policy_base.specs.Policies.{CallerRow, PolicyRows}
+use Rattle.fab_policy.specs.fab_policy_base.Callers.{HasToken, IsOnlyWith}
+use Rattle.fab_policy.specs.fab_policy_base.Policies.{CallerRow, PolicyRows}
 use Rattle.fab_reach_base.specs.Books.{IsDelta}
 use Rattle.fab_reach_base.specs.declared.book.Delta.{Delta}
 use Rattle.fab_world.specs.PlanRecords.{PlanRecord}

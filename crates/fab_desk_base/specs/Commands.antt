@@ -1,14 +1,14 @@
 -- What commands are about.
 use Rattle.std.specs.Prelude.{ℕ, ◌≡◌, ◌≤◌, List, length, Contains, Option, None, Some, Bool, true, false}
 use Rattle.std.specs.FinMap as map
-use Rattle.fab_names.specs.declared.fabric.Fabric.{Fabric}
-use Rattle.fab_inventory.specs.Inventories.{IsCapacity}
-use Rattle.fab_inventory.specs.Limits.{most_ports_of_holder}
-use Rattle.fab_plans_base.specs.Plans.{IsWithinLimits}
-use Rattle.fab_plans_base.specs.Steps.{PlanStep}
-use Rattle.fab_plans.specs.Steps.{fabric_of}
-use Rattle.fab_policy_base.specs.declared.policy.Action.{Action}
-use Rattle.fab_policy_base.specs.declared.policy.Action.TheVariants as action
+use Rattle.fab_reach_base.specs.fab_names.declared.fabric.Fabric.{Fabric}
+use Rattle.fab_reach_base.specs.fab_inventory.Inventories.{IsCapacity}
+use Rattle.fab_reach_base.specs.fab_inventory.Limits.{most_ports_of_holder}
+use Rattle.fab_world.specs.fab_plans_base.Plans.{IsWithinLimits}
+use Rattle.fab_world.specs.fab_plans_base.Steps.{PlanStep}
+use Rattle.fab_world.specs.fab_plans.Steps.{fabric_of}
+use Rattle.fab_policy.specs.fab_policy_base.declared.policy.Action.{Action}
+use Rattle.fab_policy.specs.fab_policy_base.declared.policy.Action.TheVariants as action
 use Rattle.fab_world.specs.PlanRecords.{PlanRecord}
 use Rattle.fab_world.specs.Worlds.{WorldRows}
 use Rattle.fab_desk_base.specs.declared.command.Command.{Command}

@@ -1,13 +1,13 @@
 -- What each command makes of the world.
 use Rattle.std.specs.Prelude.{ℕ, ◌≡◌, ◌+◌, ◌++◌, ◌⊎◌, List, [], ◌∷◌, None, Some}
 use Rattle.std.specs.FinMap as map
-use Rattle.fab_inventory.specs.Imports.{IsImported}
-use Rattle.fab_inventory.specs.Inventories.{InventoryRows, IsHolderPut, IsHolderDropped}
-use Rattle.fab_inventory.specs.Ports.{KnownPorts}
+use Rattle.fab_reach_base.specs.fab_inventory.Imports.{IsImported}
+use Rattle.fab_reach_base.specs.fab_inventory.Inventories.{InventoryRows, IsHolderPut, IsHolderDropped}
+use Rattle.fab_reach_base.specs.fab_inventory.Ports.{KnownPorts}
 use Rattle.fab_reach_base.specs.Records.{ConfigRows}
-use Rattle.fab_store_rows.specs.Differences.{IsDifference}
-use Rattle.fab_plans_base.specs.Steps.{PlanStep}
-use Rattle.fab_plans.specs.Outcomes.{IsOutcome}
+use Rattle.fab_world.specs.fab_store_rows.Differences.{IsDifference}
+use Rattle.fab_world.specs.fab_plans_base.Steps.{PlanStep}
+use Rattle.fab_world.specs.fab_plans.Outcomes.{IsOutcome}
 use Rattle.fab_world.specs.History.{IsEarlier}
 use Rattle.fab_world.specs.PlanRecords.{PlanRecord, staged, active, rolled_back, withdrawn}
 use Rattle.fab_world.specs.Plans.{Change, undo_of}

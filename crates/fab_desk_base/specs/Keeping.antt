@@ -1,7 +1,7 @@
 -- What each step of the desk keeps.
 use Rattle.std.specs.Prelude.{ℕ, ◌≡◌, List}
 use Rattle.std.specs.FinMap as map
-use Rattle.fab_inventory.specs.Holders.{Holds}
+use Rattle.fab_reach_base.specs.fab_inventory.Holders.{Holds}
 use Rattle.fab_reach_base.specs.Records.{Records}
 
 -- no port passes straight from one holder to another: a port that is held before and after has one

@@ -1,8 +1,8 @@
 -- Words of the laws of what the desk answers.
 use Rattle.std.specs.Prelude.{ℕ, ◌≡◌, ◌≤◌, ◌↔◌, List, Contains, None, IsSome, true}
-use Rattle.fab_policy_base.specs.Policies.{RuleRow, PolicyRows}
-use Rattle.fab_policy_base.specs.declared.policy.Action.{Action}
-use Rattle.fab_policy_base.specs.declared.policy.Action.TheVariants as action
+use Rattle.fab_policy.specs.fab_policy_base.Policies.{RuleRow, PolicyRows}
+use Rattle.fab_policy.specs.fab_policy_base.declared.policy.Action.{Action}
+use Rattle.fab_policy.specs.fab_policy_base.declared.policy.Action.TheVariants as action
 use Rattle.fab_reach_base.specs.declared.book.Delta.{Delta}
 use Rattle.fab_world.specs.Worlds.{WorldRows}
 use Rattle.fab_world.specs.declared.limits.TheConstants.{MOST_CHANGES}

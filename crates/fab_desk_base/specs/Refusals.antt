@@ -1,25 +1,25 @@
 -- What refuses a command, in which order, and what its effect is.
 use Rattle.std.specs.Prelude.{ℕ, ◌≡◌, ◌≢◌, ◌<◌, ◌≤◌, List, true}
 use Rattle.std.specs.FinMap as map
-use Rattle.fab_lemmas.specs.Room.{IsFull}
-use Rattle.fab_inventory.specs.declared.holder.HolderKind.TheVariants as kind
-use Rattle.fab_inventory.specs.Holders.{IsLeast, IsUnknownIn, IsHeldIn, IsHeldByOther, IsLeastVolume}
-use Rattle.fab_inventory.specs.Imports.{IsClash, IsImported}
-use Rattle.fab_inventory.specs.Inventories.{IsArray, HasOtherKind}
-use Rattle.fab_inventory.specs.Limits.{most_ports, most_holders, most_volumes}
-use Rattle.fab_inventory.specs.Ports.{KnownPorts}
-use Rattle.fab_mapping_base.specs.declared.gone.Gone.{Gone}
-use Rattle.fab_mapping.specs.Gone.{IsFirstGone}
+use Rattle.fab_reach_base.specs.fab_lemmas.Room.{IsFull}
+use Rattle.fab_reach_base.specs.fab_inventory.declared.holder.HolderKind.TheVariants as kind
+use Rattle.fab_reach_base.specs.fab_inventory.Holders.{IsLeast, IsUnknownIn, IsHeldIn, IsHeldByOther, IsLeastVolume}
+use Rattle.fab_reach_base.specs.fab_inventory.Imports.{IsClash, IsImported}
+use Rattle.fab_reach_base.specs.fab_inventory.Inventories.{IsArray, HasOtherKind}
+use Rattle.fab_reach_base.specs.fab_inventory.Limits.{most_ports, most_holders, most_volumes}
+use Rattle.fab_reach_base.specs.fab_inventory.Ports.{KnownPorts}
+use Rattle.fab_reach_base.specs.fab_mapping_base.declared.gone.Gone.{Gone}
+use Rattle.fab_reach_base.specs.fab_mapping.Gone.{IsFirstGone}
 use Rattle.fab_reach_base.specs.Limits.{MoreThan}
 use Rattle.fab_reach_base.specs.Reach.{Reaches}
 use Rattle.fab_reach_base.specs.Records.{ConfigRows}
 use Rattle.fab_reach_base.specs.declared.listing.TheConstants.{MOST_PATHS}
-use Rattle.fab_store_rows.specs.declared.record_row.PlanState.{PlanState}
-use Rattle.fab_store_rows.specs.declared.record_row.PlanState.TheVariants as state
-use Rattle.fab_plans_base.specs.Steps.{PlanStep}
-use Rattle.fab_plans.specs.Outcomes.{IsRefusedOutcome}
-use Rattle.fab_plans.specs.declared.fault.Item.TheVariants as item
-use Rattle.fab_plans.specs.declared.fault.Refusal.{Refusal}
+use Rattle.fab_world.specs.fab_store_rows.declared.record_row.PlanState.{PlanState}
+use Rattle.fab_world.specs.fab_store_rows.declared.record_row.PlanState.TheVariants as state
+use Rattle.fab_world.specs.fab_plans_base.Steps.{PlanStep}
+use Rattle.fab_world.specs.fab_plans.Outcomes.{IsRefusedOutcome}
+use Rattle.fab_world.specs.fab_plans.declared.fault.Item.TheVariants as item
+use Rattle.fab_world.specs.fab_plans.declared.fault.Refusal.{Refusal}
 use Rattle.fab_world.specs.PlanRecords.{PlanRecord}
 use Rattle.fab_world.specs.Plans.{state_of}
 use Rattle.fab_world.specs.Worlds.{WorldRows, records_of}

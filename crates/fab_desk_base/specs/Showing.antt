@@ -4,26 +4,26 @@ use Rattle.std.specs.List.Sorted.{IsStrictlySortedBy}
 use Rattle.std.specs.Ordering.{nat_cmp}
 use Rattle.std.specs.FinMap as map
 use Rattle.std.specs.FinSet as set
-use Rattle.fab_lemmas.specs.Lists.{IsListOf}
-use Rattle.fab_lemmas.specs.MapsOfSets.{MapOfSets}
-use Rattle.fab_names.specs.Orders.{name_cmp, member_cmp}
-use Rattle.fab_names.specs.declared.fabric.Fabric.{Fabric}
-use Rattle.fab_names.specs.declared.member.Member.{Member}
-use Rattle.fab_inventory.specs.declared.holder.HolderKind.{HolderKind}
-use Rattle.fab_inventory.specs.declared.holder.HolderKind.TheVariants as kind
-use Rattle.fab_inventory.specs.declared.port.Known.{Known}
-use Rattle.fab_inventory.specs.declared.port.Port.{Port}
-use Rattle.fab_inventory.specs.Holders.{Holds}
-use Rattle.fab_zoning.specs.Joins.{Joined, IsFirstZone, InDefaultZone}
-use Rattle.fab_zoning_rows.specs.Rows.{Rows}
-use Rattle.fab_mapping_base.specs.Groups.{HostGroupRows, StorageGroupRows}
+use Rattle.fab_reach_base.specs.fab_lemmas.Lists.{IsListOf}
+use Rattle.fab_reach_base.specs.fab_lemmas.MapsOfSets.{MapOfSets}
+use Rattle.fab_reach_base.specs.fab_names.Orders.{name_cmp, member_cmp}
+use Rattle.fab_reach_base.specs.fab_names.declared.fabric.Fabric.{Fabric}
+use Rattle.fab_reach_base.specs.fab_names.declared.member.Member.{Member}
+use Rattle.fab_reach_base.specs.fab_inventory.declared.holder.HolderKind.{HolderKind}
+use Rattle.fab_reach_base.specs.fab_inventory.declared.holder.HolderKind.TheVariants as kind
+use Rattle.fab_reach_base.specs.fab_inventory.declared.port.Known.{Known}
+use Rattle.fab_reach_base.specs.fab_inventory.declared.port.Port.{Port}
+use Rattle.fab_reach_base.specs.fab_inventory.Holders.{Holds}
+use Rattle.fab_reach_base.specs.fab_zoning.Joins.{Joined, IsFirstZone, InDefaultZone}
+use Rattle.fab_reach_base.specs.fab_zoning_rows.Rows.{Rows}
+use Rattle.fab_reach_base.specs.fab_mapping_base.Groups.{HostGroupRows, StorageGroupRows}
 use Rattle.fab_reach_base.specs.Orders as paths
 use Rattle.fab_reach_base.specs.Reach.{IsPort, ReachesFrom}
 use Rattle.fab_reach_base.specs.Records.{Records, zoning_at}
-use Rattle.fab_plans_base.specs.Plans.{plan_text}
+use Rattle.fab_world.specs.fab_plans_base.Plans.{plan_text}
 use Rattle.fab_policy.specs.declared.act.Approval.{Approval}
-use Rattle.fab_policy_base.specs.Callers.{sees}
-use Rattle.fab_policy_base.specs.Policies.{PolicyRows}
+use Rattle.fab_policy.specs.fab_policy_base.Callers.{sees}
+use Rattle.fab_policy.specs.fab_policy_base.Policies.{PolicyRows}
 use Rattle.fab_world.specs.PlanRecords.{PlanRecord}
 use Rattle.fab_world.specs.Plans.{state_of}
 use Rattle.fab_world.specs.Worlds.{WorldRows, records_of}

@@ -2,13 +2,13 @@
 use Rattle.std.specs.Prelude.{ℕ, ◌≡◌, ◌⊎◌, List, Some, IsTrue}
 use Rattle.std.specs.BTreeSet.{BTreeSet, contains}
 use Rattle.std.specs.FinMap as map
-use Rattle.fab_names.specs.Orders.{name_cmp}
-use Rattle.fab_inventory.specs.declared.holder.HolderKind.{HolderKind}
-use Rattle.fab_inventory.specs.declared.holder.HolderKind.TheVariants as kind
-use Rattle.fab_inventory.specs.declared.holder.Volume.{Volume}
-use Rattle.fab_inventory.specs.Inventories.{InventoryRows}
-use Rattle.fab_mapping_base.specs.Groups.{HostGroupRows, StorageGroupRows}
-use Rattle.fab_mapping.specs.Mappings.{MappingRows}
+use Rattle.fab_reach_base.specs.fab_names.Orders.{name_cmp}
+use Rattle.fab_reach_base.specs.fab_inventory.declared.holder.HolderKind.{HolderKind}
+use Rattle.fab_reach_base.specs.fab_inventory.declared.holder.HolderKind.TheVariants as kind
+use Rattle.fab_reach_base.specs.fab_inventory.declared.holder.Volume.{Volume}
+use Rattle.fab_reach_base.specs.fab_inventory.Inventories.{InventoryRows}
+use Rattle.fab_reach_base.specs.fab_mapping_base.Groups.{HostGroupRows, StorageGroupRows}
+use Rattle.fab_reach_base.specs.fab_mapping.Mappings.{MappingRows}
 use Rattle.fab_reach_base.specs.Records.{Records}
 use Rattle.fab_reach_base.specs.Reach.{IsInitiatorOf}
 use Rattle.fab_reach_base.specs.declared.path.Path.{Path}

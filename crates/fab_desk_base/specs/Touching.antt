@@ -1,10 +1,10 @@
 -- Whose things a command touches.
 use Rattle.std.specs.Prelude.{ℕ, ◌≡◌, ◌⊎◌, List, Contains}
-use Rattle.fab_inventory.specs.declared.holder.HolderKind.TheVariants as kind
+use Rattle.fab_reach_base.specs.fab_inventory.declared.holder.HolderKind.TheVariants as kind
 use Rattle.fab_reach_base.specs.Books.{IsGained}
 use Rattle.fab_reach_base.specs.Records.{Records}
 use Rattle.fab_reach_base.specs.declared.path.Path.{Path}
-use Rattle.fab_plans_base.specs.Steps.{PlanStep, host_group_put, host_group_drop, group_new, group_drop, group_host, group_unhost, group_target, group_untarget, group_map, group_unmap, group_expose, group_hide}
+use Rattle.fab_world.specs.fab_plans_base.Steps.{PlanStep, host_group_put, host_group_drop, group_new, group_drop, group_host, group_unhost, group_target, group_untarget, group_map, group_unmap, group_expose, group_hide}
 use Rattle.fab_world.specs.Worlds.{WorldRows, records_of}
 use Rattle.fab_desk_base.specs.Commands.{HasStep}
 use Rattle.fab_desk_base.specs.Refusals.{IsEffect}

@@ -2,9 +2,9 @@
 -- names anything of this file.
 use Rattle.std.specs.Prelude.{ℕ, List, All}
 use Rattle.std.specs.FinMap as map
-use Rattle.fab_lemmas.specs.Firsts.{IsFirstWithout, HasNowhere}
-use Rattle.fab_mapping_base.specs.Groups.{HasTarget}
-use Rattle.fab_mapping.specs.Mappings.{MappingRows}
+use Rattle.fab_reach_base.specs.fab_lemmas.Firsts.{IsFirstWithout, HasNowhere}
+use Rattle.fab_reach_base.specs.fab_mapping_base.Groups.{HasTarget}
+use Rattle.fab_reach_base.specs.fab_mapping.Mappings.{MappingRows}
 use Rattle.fab_desk_base.specs.Users.{IsTargetUser}
 
 -- no storage group targets the port

@@ -1,15 +1,15 @@
 -- What the configuration uses, so that it can't go.
 use Rattle.std.specs.Prelude.{ℕ, ◌≡◌, ◌≢◌, List, Some}
 use Rattle.std.specs.FinMap as map
-use Rattle.fab_lemmas.specs.Firsts.{IsFirstWith, HasAt}
-use Rattle.fab_names.specs.Orders.{name_cmp}
-use Rattle.fab_inventory.specs.declared.holder.HolderKind.{HolderKind}
-use Rattle.fab_inventory.specs.declared.holder.HolderKind.TheVariants as kind
-use Rattle.fab_inventory.specs.declared.holder.Volume.{Volume}
-use Rattle.fab_inventory.specs.Inventories.{InventoryRows}
-use Rattle.fab_inventory.specs.Holders.{IsLeast, Leaves}
-use Rattle.fab_mapping_base.specs.Groups.{HoldsHost, HasTarget, IsOfArray, MapsVolume}
-use Rattle.fab_mapping.specs.Mappings.{MappingRows}
+use Rattle.fab_reach_base.specs.fab_lemmas.Firsts.{IsFirstWith, HasAt}
+use Rattle.fab_reach_base.specs.fab_names.Orders.{name_cmp}
+use Rattle.fab_reach_base.specs.fab_inventory.declared.holder.HolderKind.{HolderKind}
+use Rattle.fab_reach_base.specs.fab_inventory.declared.holder.HolderKind.TheVariants as kind
+use Rattle.fab_reach_base.specs.fab_inventory.declared.holder.Volume.{Volume}
+use Rattle.fab_reach_base.specs.fab_inventory.Inventories.{InventoryRows}
+use Rattle.fab_reach_base.specs.fab_inventory.Holders.{IsLeast, Leaves}
+use Rattle.fab_reach_base.specs.fab_mapping_base.Groups.{HoldsHost, HasTarget, IsOfArray, MapsVolume}
+use Rattle.fab_reach_base.specs.fab_mapping.Mappings.{MappingRows}
 
 -- the first host group by name that has the host
 abbrev pub IsHostUser : MappingRows → List ℕ → List ℕ → Type 0

@@ -1,9 +1,9 @@
 //! What a caller asks of the desk.
 ghost use Rattle.std.specs.Prelude.{◌≡◌};
 
-use fab_inventory::{HolderKind, PortRow, Volume};
-use fab_names::{Fabric, Name, Wwn};
-use fab_plans_base::Step;
+use fab_reach_base::inventory::{HolderKind, PortRow, Volume};
+use fab_reach_base::names::{Fabric, Name, Wwn};
+use fab_world::plans::base::Step;
 use std::alloc::Allocator;
 
 /// A command: a change of the world, a dry run of one, or a read.

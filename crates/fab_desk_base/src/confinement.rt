@@ -1,7 +1,7 @@
 //! Confinement to the caller's tenants.
 ghost use Rattle.std.specs.Prelude.{◌≡◌, ℕ, List, true};
-ghost use Rattle.fab_policy_base.specs.Callers.{sees, HasToken};
-ghost use Rattle.fab_policy_base.specs.Policies.{PolicyRows};
+ghost use Rattle.fab_policy.specs.fab_policy_base.Callers.{sees, HasToken};
+ghost use Rattle.fab_policy.specs.fab_policy_base.Policies.{PolicyRows};
 ghost use Rattle.fab_world.specs.Worlds.{WorldRows, records_of};
 ghost use Rattle.fab_desk_base.specs.Answers.{Request, IsStep};
 ghost use Rattle.fab_desk_base.specs.Touching.{MovesPathOf};

@@ -1,6 +1,6 @@
 //! Dry runs and activations.
 ghost use Rattle.std.specs.Prelude.{ℕ, List};
-ghost use Rattle.fab_policy_base.specs.Policies.{PolicyRows};
+ghost use Rattle.fab_policy.specs.fab_policy_base.Policies.{PolicyRows};
 ghost use Rattle.fab_world.specs.Worlds.{WorldRows};
 ghost use Rattle.fab_desk_base.specs.Answers.{IsCarriedOut};
 ghost use Rattle.fab_desk_base.specs.declared.command.Command.TheVariants.{DryRun, Activate};

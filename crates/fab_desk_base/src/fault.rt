@@ -1,10 +1,10 @@
 //! Why the desk refuses a command.
 
-use fab_mapping::Gone;
-use fab_names::{Name, Wwn};
-use fab_plans::{Item, Refusal};
 use fab_policy::Need;
-use fab_store_rows::PlanState;
+use fab_reach_base::mapping::Gone;
+use fab_reach_base::names::{Name, Wwn};
+use fab_world::load::rows::PlanState;
+use fab_world::plans::{Item, Refusal};
 
 /// Why a command is refused. All but `Store` leave the world and its tables as they were; `Store`
 /// does so at a read.

@@ -1,6 +1,6 @@
 //! What each step of the desk keeps, and what none answers.
 ghost use Rattle.std.specs.Prelude.{◌≢◌};
-ghost use Rattle.fab_policy_base.specs.Policies.{PolicyRows};
+ghost use Rattle.fab_policy.specs.fab_policy_base.Policies.{PolicyRows};
 ghost use Rattle.fab_world.specs.Worlds.{WorldRows, records_of};
 ghost use Rattle.fab_desk_base.specs.Answers.{Request, IsStep};
 ghost use Rattle.fab_desk_base.specs.declared.fault.DeskFault.TheVariants as fault;

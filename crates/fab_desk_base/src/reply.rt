@@ -1,12 +1,12 @@
 //! What the desk answers.
 
 use crate::DeskFault;
-use fab_inventory::{HolderKind, Volume};
-use fab_names::{Address, Fabric, Member, Name, Place, Wwn};
 use fab_policy::Approval;
+use fab_reach_base::inventory::{HolderKind, Volume};
+use fab_reach_base::names::{Address, Fabric, Member, Name, Place, Wwn};
+use fab_reach_base::zoning::DefaultFlag;
 use fab_reach_base::{Delta, Path};
-use fab_store_rows::PlanState;
-use fab_zoning::DefaultFlag;
+use fab_world::load::rows::PlanState;
 use std::alloc::Allocator;
 
 /// What the desk answers to a command.

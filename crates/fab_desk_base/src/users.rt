@@ -3,9 +3,9 @@ ghost use Rattle.std.specs.Prelude.{ℕ, ◌≡◌, List, IfOk, MatchOption};
 ghost use Rattle.fab_desk_base.specs.Users as users;
 ghost use Rattle.fab_desk_base.specs.UserSearch as search;
 
-use fab_inventory::{HolderKind, Inventory};
-use fab_mapping::Mapping;
-use fab_names::{Name, Wwn};
+use fab_reach_base::inventory::{HolderKind, Inventory};
+use fab_reach_base::mapping::Mapping;
+use fab_reach_base::names::{Name, Wwn};
 use std::alloc::{AllocError, Allocator};
 
 /// The user that keeps a host or an array from being dropped: the first host group by name that

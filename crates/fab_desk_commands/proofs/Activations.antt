@@ -3,19 +3,19 @@ use Rattle.std.proofs.Common.{ℕ, ◌≡◌, ◌≢◌, ◌++◌, ◌<◌, List
 use mathlib.Core.Bool.{true≢false}
 use Rattle.std.specs.FinMap as map
 use Rattle.std.specs.Option.{option_to_list}
-use Rattle.fab_lemmas.specs.Firsts.{HasAt}
-use Rattle.fab_lemmas.proofs.Changed.{entry_put}
-use Rattle.fab_lemmas.proofs.Sizes.{map_put}
-use Rattle.fab_names.proofs.OrderLaws.{name_total, name_exact}
+use Rattle.fab_reach_base.specs.fab_lemmas.Firsts.{HasAt}
+use Rattle.fab_reach_base.proofs.fab_lemmas.Changed.{entry_put}
+use Rattle.fab_reach_base.proofs.fab_lemmas.Sizes.{map_put}
+use Rattle.fab_reach_base.proofs.fab_names.OrderLaws.{name_total, name_exact}
 use Rattle.fab_reach_base.specs.Records.{ConfigRows}
 use Rattle.fab_reach_base.specs.Soundness.{IsSoundBeside}
 use Rattle.fab_reach_base.proofs.Lawful.{serves}
 use Rattle.fab_store_rows.specs.Differences.{IsDifference}
 use Rattle.fab_store_rows.specs.declared.listing.RowDifference.{RowDifference}
 use Rattle.fab_store_rows.specs.declared.record_row.PlanState.TheVariants as state
-use Rattle.fab_plans.specs.Outcomes.{IsOutcome, IsRefusedOutcome}
-use Rattle.fab_plans.specs.declared.fault.Refusal.{Refusal}
-use Rattle.fab_plans.proofs.OnePlan.{outcome_or_refused}
+use Rattle.fab_world.specs.fab_plans.Outcomes.{IsOutcome, IsRefusedOutcome}
+use Rattle.fab_world.specs.fab_plans.declared.fault.Refusal.{Refusal}
+use Rattle.fab_world.proofs.fab_plans.OnePlan.{outcome_or_refused}
 use Rattle.fab_world.specs.History.{changes_of, LeadsBack}
 use Rattle.fab_world.specs.PlanRecords.{PlanRecord, active}
 use Rattle.fab_world.specs.Plans.{Change, change_in, state_of, IsActive}

@@ -2,16 +2,16 @@
 use Rattle.std.proofs.Common.{ℕ, ◌<◌, ◌≤◌, List, arith}
 use Rattle.std.specs.declared.vec.Vec.{Vec}
 use Rattle.std.specs.FinMap as map
-use Rattle.fab_lemmas.specs.Room.{IsFull}
-use Rattle.fab_names.specs.declared.fabric.Fabric.{Fabric}
-use Rattle.fab_inventory.specs.Holders.{IsLeast, IsUnknownIn, IsHeldIn, IsLeastVolume}
-use Rattle.fab_inventory.specs.Imports.{IsClash}
-use Rattle.fab_inventory.specs.Inventories.{HasOtherKind, IsArray}
-use Rattle.fab_inventory.specs.Limits.{most_holders, most_volumes}
-use Rattle.fab_inventory.specs.declared.holder.HolderKind.{HolderKind}
-use Rattle.fab_inventory.specs.declared.holder.HolderKind.TheVariants as kind
-use Rattle.fab_inventory.specs.declared.holder.Volume.{Volume}
-use Rattle.fab_inventory.specs.declared.port.PortRow.{PortRow}
+use Rattle.fab_reach_base.specs.fab_lemmas.Room.{IsFull}
+use Rattle.fab_reach_base.specs.fab_names.declared.fabric.Fabric.{Fabric}
+use Rattle.fab_reach_base.specs.fab_inventory.Holders.{IsLeast, IsUnknownIn, IsHeldIn, IsLeastVolume}
+use Rattle.fab_reach_base.specs.fab_inventory.Imports.{IsClash}
+use Rattle.fab_reach_base.specs.fab_inventory.Inventories.{HasOtherKind, IsArray}
+use Rattle.fab_reach_base.specs.fab_inventory.Limits.{most_holders, most_volumes}
+use Rattle.fab_reach_base.specs.fab_inventory.declared.holder.HolderKind.{HolderKind}
+use Rattle.fab_reach_base.specs.fab_inventory.declared.holder.HolderKind.TheVariants as kind
+use Rattle.fab_reach_base.specs.fab_inventory.declared.holder.Volume.{Volume}
+use Rattle.fab_reach_base.specs.fab_inventory.declared.port.PortRow.{PortRow}
 use Rattle.fab_world.specs.Worlds.{WorldRows}
 use Rattle.fab_desk_base.specs.Refusals.{Check, own_name, records, others, free_ports, no_user, no_volume, room, few_paths, few_changes, place_of, Fails, ListsManyPorts}
 use Rattle.fab_desk_base.specs.Users.{IsHolderUser, IsVolumeUser, IsMovedUser}

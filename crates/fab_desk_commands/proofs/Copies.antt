@@ -6,10 +6,10 @@ use Rattle.std.specs.Cmp.{Equal-is, tied_itself}
 use Rattle.std.specs.FinMap as map
 use Rattle.std.specs.Ordering.{is_eq}
 use Rattle.std.proofs.lemmas.List.Elements.{Contains-push_cases}
-use Rattle.fab_lemmas.proofs.SeenEntries.{entry_decides}
-use Rattle.fab_lemmas.proofs.SeenMaps.{get_entries, entries_made}
-use Rattle.fab_names.specs.Orders.{name_cmp}
-use Rattle.fab_names.proofs.OrderLaws.{name_total, name_exact}
+use Rattle.fab_reach_base.proofs.fab_lemmas.SeenEntries.{entry_decides}
+use Rattle.fab_reach_base.proofs.fab_lemmas.SeenMaps.{get_entries, entries_made}
+use Rattle.fab_reach_base.specs.fab_names.Orders.{name_cmp}
+use Rattle.fab_reach_base.proofs.fab_names.OrderLaws.{name_total, name_exact}
 use Rattle.fab_reach_base.proofs.Scanning.{is_in_map}
 
 -- what the copy has is as in the source, and it has what was passed

@@ -2,9 +2,9 @@
 use Rattle.std.proofs.Common.{◌≡◌, ℕ, List, cond, Some, ap, ◌∙◌}
 use Rattle.std.specs.BTreeMap.{BTreeMap, get, is_at}
 use Rattle.std.specs.FinMap as map
-use Rattle.fab_lemmas.proofs.SeenMaps.{seen_insert}
-use Rattle.fab_names.specs.Orders.{name_cmp}
-use Rattle.fab_names.proofs.OrderLaws.{name_total, name_exact}
+use Rattle.fab_reach_base.proofs.fab_lemmas.SeenMaps.{seen_insert}
+use Rattle.fab_reach_base.specs.fab_names.Orders.{name_cmp}
+use Rattle.fab_reach_base.proofs.fab_names.OrderLaws.{name_total, name_exact}
 use Rattle.fab_world.specs.PlanRecords.{PlanRecord}
 use Rattle.fab_desk_commands.specs.Nexts.{turned, plans_turned}
 use Rattle.fab_desk_commands.specs.declared.next.Turn.{Turn}

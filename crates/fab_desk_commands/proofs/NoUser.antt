@@ -5,10 +5,10 @@ use Rattle.std.specs.Cmp.{IsTotalOrder, Equal-is, tied_itself}
 use Rattle.std.specs.FinMap as map
 use Rattle.std.specs.Ordering.{is_gt}
 use Rattle.std.proofs.lemmas.Map.Views.{Contains-from_any}
-use Rattle.fab_lemmas.specs.Firsts.{IsFirstOf, IsFirstWith, HasAt, lesser}
-use Rattle.fab_lemmas.proofs.Leasts.{least_as, least_both}
-use Rattle.fab_names.specs.Orders.{name_cmp}
-use Rattle.fab_names.proofs.OrderLaws.{name_total, name_exact}
+use Rattle.fab_reach_base.specs.fab_lemmas.Firsts.{IsFirstOf, IsFirstWith, HasAt, lesser}
+use Rattle.fab_reach_base.proofs.fab_lemmas.Leasts.{least_as, least_both}
+use Rattle.fab_reach_base.specs.fab_names.Orders.{name_cmp}
+use Rattle.fab_reach_base.proofs.fab_names.OrderLaws.{name_total, name_exact}
 
 -- ---- the least number
 

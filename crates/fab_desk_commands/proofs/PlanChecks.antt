@@ -1,12 +1,12 @@
 -- Which checks the commands on plans have, and which fault is the first.
 use Rattle.std.proofs.Common.{ℕ, ◌≡◌, ◌<◌, ◌⊎◌, inl, inr, List, refl, ap, arith}
 use Rattle.std.specs.declared.vec.Vec.{Vec}
-use Rattle.fab_lemmas.specs.Room.{IsFull}
-use Rattle.fab_mapping_base.specs.declared.gone.Gone.{Gone}
+use Rattle.fab_reach_base.specs.fab_lemmas.Room.{IsFull}
+use Rattle.fab_reach_base.specs.fab_mapping_base.declared.gone.Gone.{Gone}
 use Rattle.fab_store_rows.specs.declared.record_row.PlanState.{PlanState}
 use Rattle.fab_store_rows.specs.declared.record_row.PlanState.TheVariants as state
-use Rattle.fab_plans_base.specs.Steps.{PlanStep}
-use Rattle.fab_plans.specs.declared.fault.Refusal.{Refusal}
+use Rattle.fab_world.specs.fab_plans_base.Steps.{PlanStep}
+use Rattle.fab_world.specs.fab_plans.declared.fault.Refusal.{Refusal}
 use Rattle.fab_world.specs.Worlds.{WorldRows}
 use Rattle.fab_world.specs.declared.limits.TheConstants.{MOST_PLANS}
 use Rattle.fab_desk_base.specs.Refusals.{Check, plan_state, own_name, records, others, free_ports, no_user, no_volume, not_author, last_in_force, nothing_gone, steps_done, room, few_paths, few_changes, place_of, Fails, FailsWith, IsFirstFault, IsInOtherState, IsOtherPlan, IsAuthor, IsOtherLast, IsGoneBefore, IsPlanRefused}

@@ -1,10 +1,10 @@
 -- Worlds in which one plan is put, and nothing else changes.
 use Rattle.std.proofs.Common.{ℕ, ◌≡◌, List, sym, subst}
 use Rattle.std.specs.FinMap as map
-use Rattle.fab_lemmas.specs.Room.{HasRoom}
-use Rattle.fab_lemmas.proofs.Changed.{entry_put}
-use Rattle.fab_lemmas.proofs.Sizes.{map_put}
-use Rattle.fab_names.proofs.OrderLaws.{name_total, name_exact}
+use Rattle.fab_reach_base.specs.fab_lemmas.Room.{HasRoom}
+use Rattle.fab_reach_base.proofs.fab_lemmas.Changed.{entry_put}
+use Rattle.fab_reach_base.proofs.fab_lemmas.Sizes.{map_put}
+use Rattle.fab_reach_base.proofs.fab_names.OrderLaws.{name_total, name_exact}
 use Rattle.fab_world.specs.History.{LeadsBack}
 use Rattle.fab_world.specs.PlanRecords.{PlanRecord}
 use Rattle.fab_world.specs.Plans.{undo_of}

@@ -2,9 +2,9 @@
 use Rattle.std.proofs.Common.{ℕ, ◌≡◌, ◌≤◌, List, None, is_some, true, refl, sym, ap, ◌∙◌, subst, inl}
 use Rattle.std.specs.BTreeMap.{BTreeMap}
 use Rattle.std.specs.FinMap as map
-use Rattle.fab_lemmas.proofs.Changed.{entry_put}
-use Rattle.fab_names.specs.Orders.{name_cmp}
-use Rattle.fab_names.proofs.OrderLaws.{name_total, name_exact}
+use Rattle.fab_reach_base.proofs.fab_lemmas.Changed.{entry_put}
+use Rattle.fab_reach_base.specs.fab_names.Orders.{name_cmp}
+use Rattle.fab_reach_base.proofs.fab_names.OrderLaws.{name_total, name_exact}
 use Rattle.fab_reach_base.proofs.Same.{same_some}
 use Rattle.fab_store_rows.specs.declared.record_row.PlanState.{PlanState}
 use Rattle.fab_store_rows.specs.declared.record_row.PlanState.TheVariants as state

@@ -4,16 +4,16 @@ use mathlib.Core.Bool.{true≢false}
 use Rattle.std.specs.FinMap as map
 use Rattle.std.specs.Option.{option_to_list}
 use Rattle.std.proofs.lemmas.List.{reverse-append}
-use Rattle.fab_lemmas.specs.Firsts.{HasAt}
-use Rattle.fab_lemmas.proofs.Changed.{entry_put}
-use Rattle.fab_lemmas.proofs.Sizes.{map_put}
-use Rattle.fab_names.proofs.OrderLaws.{name_total, name_exact}
-use Rattle.fab_inventory.specs.Inventories.{InventoryRows, IsArray}
-use Rattle.fab_mapping_base.specs.declared.gone.Gone.{Gone}
-use Rattle.fab_mapping_base.specs.declared.gone.Gone.TheVariants as gone
-use Rattle.fab_mapping.specs.Gone.{IsFirstGone}
-use Rattle.fab_mapping.specs.Mappings.{MappingRows}
-use Rattle.fab_mapping.specs.Soundness.{Fits}
+use Rattle.fab_reach_base.specs.fab_lemmas.Firsts.{HasAt}
+use Rattle.fab_reach_base.proofs.fab_lemmas.Changed.{entry_put}
+use Rattle.fab_reach_base.proofs.fab_lemmas.Sizes.{map_put}
+use Rattle.fab_reach_base.proofs.fab_names.OrderLaws.{name_total, name_exact}
+use Rattle.fab_reach_base.specs.fab_inventory.Inventories.{InventoryRows, IsArray}
+use Rattle.fab_reach_base.specs.fab_mapping_base.declared.gone.Gone.{Gone}
+use Rattle.fab_reach_base.specs.fab_mapping_base.declared.gone.Gone.TheVariants as gone
+use Rattle.fab_reach_base.specs.fab_mapping.Gone.{IsFirstGone}
+use Rattle.fab_reach_base.specs.fab_mapping.Mappings.{MappingRows}
+use Rattle.fab_reach_base.specs.fab_mapping.Soundness.{Fits}
 use Rattle.fab_reach_base.specs.Records.{ConfigRows}
 use Rattle.fab_reach_base.specs.Soundness.{IsSoundBeside}
 use Rattle.fab_reach_base.proofs.Lawful.{serves}

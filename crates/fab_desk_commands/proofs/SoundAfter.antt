@@ -1,8 +1,8 @@
 -- A world with another inventory, by one change more.
 use Rattle.std.proofs.Common.{◌≡◌, ◌<◌, List, true, arith, subst}
-use Rattle.fab_inventory.specs.Inventories as inventories
-use Rattle.fab_mapping.specs.Mappings.{MappingRows}
-use Rattle.fab_mapping.specs.Soundness.{Fits}
+use Rattle.fab_reach_base.specs.fab_inventory.Inventories as inventories
+use Rattle.fab_reach_base.specs.fab_mapping.Mappings.{MappingRows}
+use Rattle.fab_reach_base.specs.fab_mapping.Soundness.{Fits}
 use Rattle.fab_reach_base.specs.Serving.{IsServing}
 use Rattle.fab_reach_base.specs.Soundness.{IsSoundBeside}
 use Rattle.fab_reach_base.proofs.Lawful.{serves}

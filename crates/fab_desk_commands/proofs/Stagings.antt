@@ -3,11 +3,11 @@ use Rattle.std.proofs.Common.{ℕ, ◌≡◌, ◌<◌, inl, inr, List, None, Som
 use mathlib.Core.Bool.{true≢false}
 use Rattle.std.specs.FinMap as map
 use Rattle.std.specs.declared.vec.Vec.{Vec}
-use Rattle.fab_lemmas.specs.Room.{HasRoom, IsFull}
-use Rattle.fab_names.specs.Orders.{name_cmp}
+use Rattle.fab_reach_base.specs.fab_lemmas.Room.{HasRoom, IsFull}
+use Rattle.fab_reach_base.specs.fab_names.Orders.{name_cmp}
 use Rattle.fab_reach_base.proofs.Same.{same_some}
-use Rattle.fab_plans_base.specs.Plans.{IsWithinLimits}
-use Rattle.fab_plans_base.specs.Steps.{PlanStep}
+use Rattle.fab_world.specs.fab_plans_base.Plans.{IsWithinLimits}
+use Rattle.fab_world.specs.fab_plans_base.Steps.{PlanStep}
 use Rattle.fab_world.specs.PlanRecords.{PlanRecord}
 use Rattle.fab_world.specs.Soundness.{IsSoundPlan}
 use Rattle.fab_world.specs.Worlds.{WorldRows}

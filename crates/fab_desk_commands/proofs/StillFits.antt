@@ -6,26 +6,26 @@ use Rattle.std.specs.Option.{option_map, option_and_then}
 use Rattle.std.specs.FinMap as map
 use Rattle.std.proofs.lemmas.Bool.Decides.{Decides-eqb}
 use Rattle.std.proofs.lemmas.Map.Made.{is_member-Decides}
-use Rattle.fab_lemmas.specs.Firsts.{HasAt}
-use Rattle.fab_names.specs.Orders.{name_cmp}
-use Rattle.fab_names.specs.declared.fabric.Fabric.{Fabric}
-use Rattle.fab_names.proofs.OrderLaws.{name_total}
-use Rattle.fab_inventory.specs.declared.port.Known.{Known}
-use Rattle.fab_inventory.specs.declared.port.PortRow.{PortRow}
-use Rattle.fab_inventory.specs.declared.holder.Holder.{Holder}
-use Rattle.fab_inventory.specs.declared.holder.HolderKind.{HolderKind}
-use Rattle.fab_inventory.specs.declared.holder.HolderKind.TheVariants as kind
-use Rattle.fab_inventory.specs.declared.holder.Volume.{Volume}
-use Rattle.fab_inventory.specs.Holders.{holder_in, held_after, other_than, AreFree}
-use Rattle.fab_inventory.specs.Imports.{IsImported}
-use Rattle.fab_inventory.specs.Inventories.{InventoryRows, IsHost, IsArray, kind_of, HasNoOtherKind, IsHolderPut, IsHolderDropped}
-use Rattle.fab_inventory.specs.Ports.{KnownPorts}
-use Rattle.fab_inventory.proofs.NameTests.{same_name_tells, tie_tells}
-use Rattle.fab_inventory.proofs.Soundness.{same_holder}
-use Rattle.fab_mapping_base.specs.Fitting.{IsPortOf, IsVolumeOn}
-use Rattle.fab_mapping_base.specs.Groups.{HoldsHost, HasTarget, IsOfArray, MapsVolume}
-use Rattle.fab_mapping.specs.Mappings.{MappingRows}
-use Rattle.fab_mapping.specs.Soundness.{Fits}
+use Rattle.fab_reach_base.specs.fab_lemmas.Firsts.{HasAt}
+use Rattle.fab_reach_base.specs.fab_names.Orders.{name_cmp}
+use Rattle.fab_reach_base.specs.fab_names.declared.fabric.Fabric.{Fabric}
+use Rattle.fab_reach_base.proofs.fab_names.OrderLaws.{name_total}
+use Rattle.fab_reach_base.specs.fab_inventory.declared.port.Known.{Known}
+use Rattle.fab_reach_base.specs.fab_inventory.declared.port.PortRow.{PortRow}
+use Rattle.fab_reach_base.specs.fab_inventory.declared.holder.Holder.{Holder}
+use Rattle.fab_reach_base.specs.fab_inventory.declared.holder.HolderKind.{HolderKind}
+use Rattle.fab_reach_base.specs.fab_inventory.declared.holder.HolderKind.TheVariants as kind
+use Rattle.fab_reach_base.specs.fab_inventory.declared.holder.Volume.{Volume}
+use Rattle.fab_reach_base.specs.fab_inventory.Holders.{holder_in, held_after, other_than, AreFree}
+use Rattle.fab_reach_base.specs.fab_inventory.Imports.{IsImported}
+use Rattle.fab_reach_base.specs.fab_inventory.Inventories.{InventoryRows, IsHost, IsArray, kind_of, HasNoOtherKind, IsHolderPut, IsHolderDropped}
+use Rattle.fab_reach_base.specs.fab_inventory.Ports.{KnownPorts}
+use Rattle.fab_reach_base.proofs.fab_inventory.NameTests.{same_name_tells, tie_tells}
+use Rattle.fab_reach_base.proofs.fab_inventory.Soundness.{same_holder}
+use Rattle.fab_reach_base.specs.fab_mapping_base.Fitting.{IsPortOf, IsVolumeOn}
+use Rattle.fab_reach_base.specs.fab_mapping_base.Groups.{HoldsHost, HasTarget, IsOfArray, MapsVolume}
+use Rattle.fab_reach_base.specs.fab_mapping.Mappings.{MappingRows}
+use Rattle.fab_reach_base.specs.fab_mapping.Soundness.{Fits}
 use Rattle.fab_desk_base.specs.Users.{LeavesGroup, IsMoved}
 
 -- some host group has the host; some storage group is of the array, or targets the port, or maps the volume

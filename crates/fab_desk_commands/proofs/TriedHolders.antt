@@ -4,20 +4,20 @@ use mathlib.Core.Bool.{true≢false}
 use Rattle.std.specs.declared.vec.Vec.{Vec}
 use Rattle.std.specs.FinMap as map
 use Rattle.std.specs.Option.{option_map}
-use Rattle.fab_inventory.specs.Holders.{HasNoVolume, AreKnown, AreFree, IsLeast, IsUnknownIn, IsHeldIn}
-use Rattle.fab_inventory.specs.Inventories as inventories
-use Rattle.fab_inventory.specs.Inventories.{InventoryRows, HolderRows, kind_of, CanPutHolder, PutHolderFails, IsHolderPut, DropHolderFails, IsHolderDropped}
-use Rattle.fab_inventory.specs.Limits.{most_ports_of_holder}
-use Rattle.fab_inventory.specs.declared.fault.InventoryFault.{InventoryFault}
-use Rattle.fab_inventory.specs.declared.fault.InventoryFault.TheVariants.{UnknownPort, PortHeld, Unknown, WrongKind, InUse, Limit, Memory}
-use Rattle.fab_inventory.specs.declared.fault.InventoryLimit.TheVariants.{Holders, PortsOfHolder}
-use Rattle.fab_inventory.specs.declared.holder.Holder.{Holder}
-use Rattle.fab_inventory.specs.declared.holder.HolderKind.{HolderKind}
-use Rattle.fab_inventory.specs.declared.holder.HolderKind.TheVariants as kind
-use Rattle.fab_mapping_base.specs.Groups.{HoldsHost, IsOfArray, HasTarget}
-use Rattle.fab_mapping.specs.Mappings.{MappingRows}
-use Rattle.fab_mapping.specs.Soundness.{Fits}
-use Rattle.fab_plans.specs.declared.fault.Item.TheVariants as item
+use Rattle.fab_reach_base.specs.fab_inventory.Holders.{HasNoVolume, AreKnown, AreFree, IsLeast, IsUnknownIn, IsHeldIn}
+use Rattle.fab_reach_base.specs.fab_inventory.Inventories as inventories
+use Rattle.fab_reach_base.specs.fab_inventory.Inventories.{InventoryRows, HolderRows, kind_of, CanPutHolder, PutHolderFails, IsHolderPut, DropHolderFails, IsHolderDropped}
+use Rattle.fab_reach_base.specs.fab_inventory.Limits.{most_ports_of_holder}
+use Rattle.fab_reach_base.specs.fab_inventory.declared.fault.InventoryFault.{InventoryFault}
+use Rattle.fab_reach_base.specs.fab_inventory.declared.fault.InventoryFault.TheVariants.{UnknownPort, PortHeld, Unknown, WrongKind, InUse, Limit, Memory}
+use Rattle.fab_reach_base.specs.fab_inventory.declared.fault.InventoryLimit.TheVariants.{Holders, PortsOfHolder}
+use Rattle.fab_reach_base.specs.fab_inventory.declared.holder.Holder.{Holder}
+use Rattle.fab_reach_base.specs.fab_inventory.declared.holder.HolderKind.{HolderKind}
+use Rattle.fab_reach_base.specs.fab_inventory.declared.holder.HolderKind.TheVariants as kind
+use Rattle.fab_reach_base.specs.fab_mapping_base.Groups.{HoldsHost, IsOfArray, HasTarget}
+use Rattle.fab_reach_base.specs.fab_mapping.Mappings.{MappingRows}
+use Rattle.fab_reach_base.specs.fab_mapping.Soundness.{Fits}
+use Rattle.fab_world.specs.fab_plans.declared.fault.Item.TheVariants as item
 use Rattle.fab_world.specs.Worlds.{WorldRows}
 use Rattle.fab_desk_base.specs.Effects.{counted, with_inventory}
 use Rattle.fab_desk_base.specs.Refusals.{own_name, others, free_ports, no_user, no_volume, room, IsFirstFault}

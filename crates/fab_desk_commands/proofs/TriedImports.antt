@@ -6,15 +6,15 @@ use Rattle.std.specs.FinMap as map
 use Rattle.std.specs.FinSet as set
 use Rattle.std.proofs.lemmas.Bool.Decides.{eqb_tells}
 use Rattle.std.proofs.lemmas.Option.{slice_get_within, get_or_from_slice_get}
-use Rattle.fab_names.specs.declared.fabric.Fabric.{Fabric}
-use Rattle.fab_inventory.specs.Imports.{Agrees, IsClash, IsUnlisted, IsImported, ImportFails}
-use Rattle.fab_inventory.specs.Inventories as inventories
-use Rattle.fab_inventory.specs.Ports.{KnownPorts}
-use Rattle.fab_inventory.specs.declared.fault.InventoryFault.{InventoryFault}
-use Rattle.fab_inventory.specs.declared.fault.InventoryFault.TheVariants.{PortClash, Limit, Memory}
-use Rattle.fab_inventory.specs.declared.fault.InventoryLimit.TheVariants.{Ports}
-use Rattle.fab_inventory.specs.declared.port.PortRow.{PortRow}
-use Rattle.fab_inventory.proofs.Steps.{in_take}
+use Rattle.fab_reach_base.specs.fab_names.declared.fabric.Fabric.{Fabric}
+use Rattle.fab_reach_base.specs.fab_inventory.Imports.{Agrees, IsClash, IsUnlisted, IsImported, ImportFails}
+use Rattle.fab_reach_base.specs.fab_inventory.Inventories as inventories
+use Rattle.fab_reach_base.specs.fab_inventory.Ports.{KnownPorts}
+use Rattle.fab_reach_base.specs.fab_inventory.declared.fault.InventoryFault.{InventoryFault}
+use Rattle.fab_reach_base.specs.fab_inventory.declared.fault.InventoryFault.TheVariants.{PortClash, Limit, Memory}
+use Rattle.fab_reach_base.specs.fab_inventory.declared.fault.InventoryLimit.TheVariants.{Ports}
+use Rattle.fab_reach_base.specs.fab_inventory.declared.port.PortRow.{PortRow}
+use Rattle.fab_reach_base.proofs.fab_inventory.Steps.{in_take}
 use Rattle.fab_world.specs.Worlds.{WorldRows}
 use Rattle.fab_desk_base.specs.Effects.{counted, with_inventory}
 use Rattle.fab_desk_base.specs.Refusals.{records, room, ListsManyPorts}

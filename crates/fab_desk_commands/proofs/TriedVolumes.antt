@@ -2,15 +2,15 @@
 use Rattle.std.proofs.Common.{ℕ, ◌≡◌, List, is_some, refl, sym, ap, ◌∙◌, subst, arith}
 use mathlib.Core.Bool.{true≢false}
 use Rattle.std.specs.FinMap as map
-use Rattle.fab_inventory.specs.Inventories as inventories
-use Rattle.fab_inventory.specs.Inventories.{IsCapacity, CanPutVolume, PutVolumeFails}
-use Rattle.fab_inventory.specs.declared.fault.InventoryFault.{InventoryFault}
-use Rattle.fab_inventory.specs.declared.fault.InventoryFault.TheVariants.{Unknown, Limit, Memory}
-use Rattle.fab_inventory.specs.declared.fault.InventoryLimit.TheVariants.{Volumes, Bytes}
-use Rattle.fab_inventory.specs.declared.holder.Volume.{Volume}
-use Rattle.fab_mapping_base.specs.Groups.{MapsVolume}
-use Rattle.fab_mapping.specs.Soundness.{Fits}
-use Rattle.fab_plans.specs.declared.fault.Item.TheVariants as item
+use Rattle.fab_reach_base.specs.fab_inventory.Inventories as inventories
+use Rattle.fab_reach_base.specs.fab_inventory.Inventories.{IsCapacity, CanPutVolume, PutVolumeFails}
+use Rattle.fab_reach_base.specs.fab_inventory.declared.fault.InventoryFault.{InventoryFault}
+use Rattle.fab_reach_base.specs.fab_inventory.declared.fault.InventoryFault.TheVariants.{Unknown, Limit, Memory}
+use Rattle.fab_reach_base.specs.fab_inventory.declared.fault.InventoryLimit.TheVariants.{Volumes, Bytes}
+use Rattle.fab_reach_base.specs.fab_inventory.declared.holder.Volume.{Volume}
+use Rattle.fab_reach_base.specs.fab_mapping_base.Groups.{MapsVolume}
+use Rattle.fab_reach_base.specs.fab_mapping.Soundness.{Fits}
+use Rattle.fab_world.specs.fab_plans.declared.fault.Item.TheVariants as item
 use Rattle.fab_world.specs.Worlds.{WorldRows}
 use Rattle.fab_desk_base.specs.Effects.{counted, with_inventory}
 use Rattle.fab_desk_base.specs.Refusals.{others, no_user, room, IsFirstFault}

@@ -1,9 +1,9 @@
 -- What the desk answers where the inventory refuses.
-use Rattle.fab_inventory.specs.declared.fault.InventoryFault.{InventoryFault}
-use Rattle.fab_inventory.specs.declared.fault.InventoryFault.TheVariants.{PortClash, UnknownPort, PortHeld, Unknown, WrongKind, InUse, Limit, Memory}
-use Rattle.fab_inventory.specs.declared.fault.InventoryLimit.{InventoryLimit}
-use Rattle.fab_inventory.specs.declared.fault.InventoryLimit.TheVariants.{Ports, Holders, PortsOfHolder, Volumes, Bytes}
-use Rattle.fab_plans.specs.declared.fault.Item.TheVariants as item
+use Rattle.fab_reach_base.specs.fab_inventory.declared.fault.InventoryFault.{InventoryFault}
+use Rattle.fab_reach_base.specs.fab_inventory.declared.fault.InventoryFault.TheVariants.{PortClash, UnknownPort, PortHeld, Unknown, WrongKind, InUse, Limit, Memory}
+use Rattle.fab_reach_base.specs.fab_inventory.declared.fault.InventoryLimit.{InventoryLimit}
+use Rattle.fab_reach_base.specs.fab_inventory.declared.fault.InventoryLimit.TheVariants.{Ports, Holders, PortsOfHolder, Volumes, Bytes}
+use Rattle.fab_world.specs.fab_plans.declared.fault.Item.TheVariants as item
 use Rattle.fab_desk_base.specs.declared.fault.DeskFault.{DeskFault}
 use Rattle.fab_desk_base.specs.declared.fault.DeskFault.TheVariants as fault
 use Rattle.fab_desk_base.specs.declared.fault.DeskLimit.TheVariants as limit

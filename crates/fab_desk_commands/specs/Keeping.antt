@@ -1,10 +1,10 @@
 -- What keeps ports with their holder, and holders and volumes in the inventory.
 use Rattle.std.specs.Prelude.{ℕ, ◌≡◌, List}
-use Rattle.fab_inventory.specs.Inventories.{InventoryRows}
-use Rattle.fab_inventory.specs.declared.holder.HolderKind.{HolderKind}
-use Rattle.fab_inventory.specs.declared.holder.HolderKind.TheVariants as kind
-use Rattle.fab_mapping.specs.Mappings.{MappingRows}
-use Rattle.fab_plans.specs.declared.fault.Item.TheVariants as item
+use Rattle.fab_reach_base.specs.fab_inventory.Inventories.{InventoryRows}
+use Rattle.fab_reach_base.specs.fab_inventory.declared.holder.HolderKind.{HolderKind}
+use Rattle.fab_reach_base.specs.fab_inventory.declared.holder.HolderKind.TheVariants as kind
+use Rattle.fab_reach_base.specs.fab_mapping.Mappings.{MappingRows}
+use Rattle.fab_world.specs.fab_plans.declared.fault.Item.TheVariants as item
 use Rattle.fab_desk_base.specs.Users.{IsLeavingTarget, IsHolderUser, IsVolumeUser}
 use Rattle.fab_desk_base.specs.declared.fault.DeskFault.{DeskFault}
 use Rattle.fab_desk_base.specs.declared.fault.DeskFault.TheVariants as fault

@@ -1,7 +1,7 @@
 -- Which world the parts of a change make, and when they suit a world.
 use Rattle.std.specs.Prelude.{ℕ, ◌≡◌, ◌<◌, ◌-◌, List, [], ◌∷◌, ◌++◌, length, take, Option, None, Some, false}
 use Rattle.std.specs.FinMap as map
-use Rattle.fab_names.specs.Orders.{name_cmp}
+use Rattle.fab_reach_base.specs.fab_names.Orders.{name_cmp}
 use Rattle.fab_reach_base.specs.Records.{ConfigRows}
 use Rattle.fab_store_rows.specs.Differences.{IsDifference}
 use Rattle.fab_store_rows.specs.declared.record_row.PlanState.TheVariants as state

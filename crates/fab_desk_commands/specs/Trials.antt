@@ -1,11 +1,11 @@
 -- What the calls that try a command give one another.
 use Rattle.std.specs.Prelude.{ℕ, ◌≡◌, List, Some}
-use Rattle.fab_mapping.specs.Gone.{IsFirstGone}
+use Rattle.fab_reach_base.specs.fab_mapping.Gone.{IsFirstGone}
 use Rattle.fab_reach_base.specs.Records.{ConfigRows}
 use Rattle.fab_reach_base.specs.Serving.{IsServing}
 use Rattle.fab_store_rows.specs.Differences.{IsDifference}
-use Rattle.fab_plans_base.specs.Steps.{PlanStep}
-use Rattle.fab_plans.specs.Outcomes.{IsRefusedOutcome}
+use Rattle.fab_world.specs.fab_plans_base.Steps.{PlanStep}
+use Rattle.fab_world.specs.fab_plans.Outcomes.{IsRefusedOutcome}
 use Rattle.fab_world.specs.History.{IsEarlier, IsOnlyEarlier}
 use Rattle.fab_world.specs.PlanRecords.{PlanRecord}
 use Rattle.fab_world.specs.Plans.{Change, undo_of}

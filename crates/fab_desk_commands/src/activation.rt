@@ -2,7 +2,7 @@
 ghost use Rattle.std.specs.Prelude.{◌<◌, ℕ, List, IfOk, IfErr};
 ghost use Rattle.fab_reach_base.specs.Soundness.{IsSoundBeside};
 ghost use Rattle.fab_store_rows.specs.Differences.{IsDifference};
-ghost use Rattle.fab_plans.specs.Outcomes.{IsOutcome};
+ghost use Rattle.fab_world.specs.fab_plans.Outcomes.{IsOutcome};
 ghost use Rattle.fab_world.specs.Soundness.{IsSound};
 ghost use Rattle.fab_world.specs.declared.limits.TheConstants.{MOST_CHANGES};
 ghost use Rattle.fab_desk_base.specs.Answers.{HasPlan};
@@ -15,11 +15,11 @@ ghost use Rattle.fab_desk_commands.specs.Trials.{IsOutcomeFault, IsSoundAfter};
 use crate::found::staged_at;
 use crate::{Next, Turn};
 use fab_desk_base::DeskFault;
-use fab_names::Name;
-use fab_plans::{TrialFault, trial};
 use fab_plans_rows::changed_rows;
 use fab_reach_base::Config;
+use fab_reach_base::names::Name;
 use fab_store_rows::RowDifference;
+use fab_world::plans::{TrialFault, trial};
 use fab_world::{KeptPlan, World};
 use std::alloc::Allocator;
 

@@ -9,7 +9,7 @@ ghost use Rattle.fab_desk_base.specs.Refusals.{FailsWith, IsInOtherState};
 ghost use Rattle.fab_desk_base.specs.declared.fault.DeskFault.TheVariants as fault;
 
 use fab_desk_base::DeskFault;
-use fab_names::Name;
+use fab_reach_base::names::Name;
 use fab_store_rows::PlanState;
 use fab_world::{KeptPlan, World};
 use std::alloc::Allocator;

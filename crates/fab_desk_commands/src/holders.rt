@@ -1,6 +1,6 @@
 //! Hosts and arrays that are put and dropped.
 ghost use Rattle.std.specs.Prelude.{ℕ, ◌≡◌, List, Some, IfOk, IfErr, OnOk, MatchOption};
-ghost use Rattle.fab_inventory.specs.Inventories.{kind_of};
+ghost use Rattle.fab_reach_base.specs.fab_inventory.Inventories.{kind_of};
 ghost use Rattle.fab_world.specs.Soundness.{IsSound};
 ghost use Rattle.fab_desk_base.specs.Commands.{IsGiven};
 ghost use Rattle.fab_desk_base.specs.declared.command.Command.TheVariants.{PutHolder, DropHolder};
@@ -12,11 +12,11 @@ ghost use Rattle.fab_desk_commands.specs.Trials.{IsSoundAfter};
 
 use crate::refusal::refusal;
 use fab_desk_base::{DeskFault, holder_user, leaving_target};
-use fab_inventory::{HolderKind, Inventory};
-use fab_mapping::Mapping;
-use fab_names::{Name, Wwn};
-use fab_plans::Item;
+use fab_reach_base::inventory::{HolderKind, Inventory};
+use fab_reach_base::mapping::Mapping;
+use fab_reach_base::names::{Name, Wwn};
 use fab_world::World;
+use fab_world::plans::Item;
 use std::alloc::{AllocError, Allocator};
 
 /// What keeps a host or an array from having just these ports: of an array the least port that

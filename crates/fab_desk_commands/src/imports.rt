@@ -8,8 +8,8 @@ ghost use Rattle.fab_desk_commands.specs.Trials.{IsSoundAfter};
 
 use crate::refusal::refusal;
 use fab_desk_base::DeskFault;
-use fab_inventory::{Inventory, PortRow};
-use fab_names::Fabric;
+use fab_reach_base::inventory::{Inventory, PortRow};
+use fab_reach_base::names::Fabric;
 use fab_world::World;
 use std::alloc::Allocator;
 

@@ -8,9 +8,9 @@ ghost use Rattle.fab_desk_commands.specs.Nexts.{blank_plan, next_world, order_fr
 
 use crate::rooms::{make_place, pop_last, push_last, put_in_place, remove_place};
 use crate::turns::turn_at;
-use fab_inventory::Inventory;
-use fab_names::Name;
 use fab_reach_base::Config;
+use fab_reach_base::inventory::Inventory;
+use fab_reach_base::names::Name;
 use fab_store_rows::RowDifference;
 use fab_store_world::InventoryDifference;
 use fab_world::{KeptPlan, World};

@@ -3,8 +3,8 @@ ghost use Rattle.std.specs.Prelude.{◌≡◌};
 ghost use Rattle.fab_desk_commands.specs.Answered.{answered_limit, answered};
 
 use fab_desk_base::{DeskFault, DeskLimit};
-use fab_inventory::{InventoryFault, InventoryLimit};
-use fab_plans::Item;
+use fab_reach_base::inventory::{InventoryFault, InventoryLimit};
+use fab_world::plans::Item;
 
 /// What the desk answers to a limit of the inventory. Two of them are passed by values that no
 /// body gives.

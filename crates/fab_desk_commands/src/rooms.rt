@@ -3,11 +3,11 @@
 ghost use Rattle.std.specs.Prelude.{◌≡◌, ◌++◌, [], ◌∷◌, OnOk, OnErr, IsSome};
 ghost use Rattle.std.specs.BTreeMap.{get};
 ghost use Rattle.std.specs.FinMap as map;
-ghost use Rattle.fab_names.specs.Orders.{name_cmp};
+ghost use Rattle.fab_reach_base.specs.fab_names.Orders.{name_cmp};
 ghost use Rattle.fab_desk_commands.specs.Nexts.{all_but_last, blank_plan};
 
-use fab_names::Name;
-use fab_plans::{PlanText, Staged};
+use fab_reach_base::names::Name;
+use fab_world::plans::{PlanText, Staged};
 use fab_world::{AnyPlan, KeptPlan};
 use std::alloc::{AllocError, Allocator};
 use std::collections::BTreeMap;

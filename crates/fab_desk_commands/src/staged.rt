@@ -2,9 +2,9 @@
 ghost use Rattle.std.specs.Prelude.{◌≡◌, ◌↔◌, IsTrue, IfOk, IfErr, false};
 ghost use Rattle.std.specs.Bool.{OnTrue, OnFalse};
 ghost use Rattle.std.specs.FinMap as map;
-ghost use Rattle.fab_lemmas.specs.Room.{IsFull, HasRoom};
+ghost use Rattle.fab_reach_base.specs.fab_lemmas.Room.{IsFull, HasRoom};
 ghost use Rattle.fab_world.specs.declared.limits.TheConstants.{MOST_PLANS};
-ghost use Rattle.fab_plans_base.specs.Plans.{IsWithinLimits};
+ghost use Rattle.fab_world.specs.fab_plans_base.Plans.{IsWithinLimits};
 ghost use Rattle.fab_desk_base.specs.Commands.{IsGiven};
 ghost use Rattle.fab_desk_base.specs.Effects.{with_plan, staged_plan};
 ghost use Rattle.fab_desk_base.specs.Trying.{IsMade, IsTryFault};
@@ -13,10 +13,10 @@ ghost use Rattle.fab_desk_commands.specs.Trials.{IsSoundAfter};
 
 use crate::found::is_author;
 use fab_desk_base::{DeskFault, DeskLimit};
-use fab_lemmas::is_full;
-use fab_names::Name;
-use fab_plans::PlanText;
-use fab_plans_base::Step;
+use fab_reach_base::lemmas::is_full;
+use fab_reach_base::names::Name;
+use fab_world::plans::PlanText;
+use fab_world::plans::base::Step;
 use fab_world::{KeptPlan, MOST_PLANS, World};
 use std::alloc::{AllocError, Allocator};
 

@@ -5,8 +5,8 @@ ghost use Rattle.fab_desk_base.specs.Effects.{staged_plan, with_plan};
 ghost use Rattle.fab_desk_commands.specs.Nexts.{next_world, Suits};
 
 use crate::Next;
-use fab_names::Name;
-use fab_plans::{PlanText, Staged};
+use fab_reach_base::names::Name;
+use fab_world::plans::{PlanText, Staged};
 use fab_world::{AnyPlan, KeptPlan, World};
 use std::alloc::Allocator;
 

@@ -1,7 +1,7 @@
 //! The withdrawal and the approval of a staged plan.
 ghost use Rattle.std.specs.Prelude.{◌≡◌, ℕ, List, IfOk, IfErr};
 ghost use Rattle.std.specs.FinMap as map;
-ghost use Rattle.fab_names.specs.Orders.{name_cmp};
+ghost use Rattle.fab_reach_base.specs.fab_names.Orders.{name_cmp};
 ghost use Rattle.fab_desk_base.specs.Answers.{HasPlan};
 ghost use Rattle.fab_desk_base.specs.Trying.{IsMade, IsTryFault};
 ghost use Rattle.fab_desk_base.specs.declared.command.Command.TheVariants.{Withdraw, Approve};
@@ -12,7 +12,7 @@ ghost use Rattle.fab_desk_commands.specs.Trials.{IsSoundAfter};
 use crate::found::{is_author, staged_at};
 use crate::{Next, Turn};
 use fab_desk_base::DeskFault;
-use fab_names::Name;
+use fab_reach_base::names::Name;
 use fab_world::{KeptPlan, World};
 use std::alloc::{AllocError, Allocator};
 use std::collections::BTreeMap;

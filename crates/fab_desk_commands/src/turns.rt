@@ -2,7 +2,7 @@
 ghost use Rattle.std.specs.Prelude.{◌≡◌, Some};
 ghost use Rattle.std.specs.FinMap as map;
 ghost use Rattle.std.specs.BTreeMap.{get};
-ghost use Rattle.fab_names.specs.Orders.{name_cmp};
+ghost use Rattle.fab_reach_base.specs.fab_names.Orders.{name_cmp};
 ghost use Rattle.fab_store_rows.specs.declared.record_row.PlanState.TheVariants as state;
 ghost use Rattle.fab_world.specs.PlanRecords.{PlanRecord, active, rolled_back, withdrawn};
 ghost use Rattle.fab_world.specs.Plans.{plan_record, state_of};
@@ -10,7 +10,7 @@ ghost use Rattle.fab_desk_commands.specs.Nexts.{turned, plans_turned, Leads};
 
 use crate::Turn;
 use crate::rooms::blank;
-use fab_names::Name;
+use fab_reach_base::names::Name;
 use fab_store_rows::RowDifference;
 use fab_world::{AnyPlan, KeptPlan};
 use std::alloc::Allocator;

@@ -12,11 +12,11 @@ ghost use Rattle.fab_desk_commands.specs.Trials.{IsSoundAfter};
 
 use crate::refusal::refusal;
 use fab_desk_base::{DeskFault, moved_volume_user, volume_user};
-use fab_inventory::{Inventory, Volume};
-use fab_mapping::Mapping;
-use fab_names::Name;
-use fab_plans::Item;
+use fab_reach_base::inventory::{Inventory, Volume};
+use fab_reach_base::mapping::Mapping;
+use fab_reach_base::names::Name;
 use fab_world::World;
+use fab_world::plans::Item;
 use std::alloc::Allocator;
 
 /// What putting the volume would make of the inventory: the volume is there, and all else is as it

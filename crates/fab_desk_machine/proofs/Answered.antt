@@ -1,6 +1,6 @@
 -- One more request of a list is answered.
 use Rattle.std.proofs.Common.{List, [], ◌∷◌, ◌++◌, refl, subst}
-use Rattle.fab_policy_base.specs.Policies.{PolicyRows}
+use Rattle.fab_policy.specs.fab_policy_base.Policies.{PolicyRows}
 use Rattle.fab_world.specs.Worlds.{WorldRows}
 use Rattle.fab_desk_base.specs.Answers.{Request}
 use Rattle.fab_desk_base.specs.declared.reply.Reply.{Reply}

@@ -1,7 +1,7 @@
 -- What a request would change, and why it would not be done.
 use Rattle.std.proofs.Common.{ℕ, ◌≡◌, ◌⊎◌, inl, inr, List, IsSome, Some, Result, Ok, Err, IfOk, refl, subst}
 use Rattle.fab_policy.specs.declared.act.Verdict.TheVariants.{Allowed}
-use Rattle.fab_policy_base.specs.Policies.{PolicyRows}
+use Rattle.fab_policy.specs.fab_policy_base.Policies.{PolicyRows}
 use Rattle.fab_reach_base.specs.Records.{Records}
 use Rattle.fab_world.specs.Worlds.{WorldRows}
 use Rattle.fab_desk_base.specs.Acts.{IsJudged}

@@ -5,7 +5,4 @@ pub mod Ends
 pub mod Answered
 pub mod Rooms
 pub mod Foreseen
-pub use Rattle.fab_desk_trials.proofs as fab_desk_trials
 pub use Rattle.fab_desk_trials.proofs.fab_desk_commands
-pub use Rattle.fab_desk_base.proofs as fab_desk_base
-pub use Rattle.fab_world.proofs as fab_world

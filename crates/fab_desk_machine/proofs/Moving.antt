@@ -1,7 +1,7 @@
 -- Whose paths a command moves.
 use Rattle.std.proofs.Common.{ℕ, ◌≡◌, ◌↔◌, List, [], subst}
 use Rattle.std.specs.BTreeSet.{BTreeSet}
-use Rattle.fab_names.proofs.OrderLaws.{name_total, name_exact}
+use Rattle.fab_reach_base.proofs.fab_names.OrderLaws.{name_total, name_exact}
 use Rattle.fab_reach_base.proofs.Sets.{none_in}
 use Rattle.fab_reach_base.specs.Records.{Records}
 use Rattle.fab_world.specs.Worlds.{WorldRows, records_of}

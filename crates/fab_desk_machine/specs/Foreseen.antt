@@ -1,8 +1,8 @@
 -- What a request would change, were it done, and why it would not be done.
 use Rattle.std.specs.Prelude.{ℕ, ◌≡◌, ◌⊎◌, List, Some, slice_get}
 use Rattle.fab_policy.specs.declared.act.Verdict.TheVariants.{Allowed}
-use Rattle.fab_policy_base.specs.Callers.{IsOnlyWith}
-use Rattle.fab_policy_base.specs.Policies.{CallerRow, PolicyRows}
+use Rattle.fab_policy.specs.fab_policy_base.Callers.{IsOnlyWith}
+use Rattle.fab_policy.specs.fab_policy_base.Policies.{CallerRow, PolicyRows}
 use Rattle.fab_reach_base.specs.Records.{Records}
 use Rattle.fab_world.specs.Worlds.{WorldRows}
 use Rattle.fab_desk_base.specs.Acts.{IsJudged}

@@ -5,4 +5,3 @@ pub mod Reports
 pub use Rattle.fab_desk_trials.specs as fab_desk_trials
 pub use Rattle.fab_desk_trials.specs.fab_desk_commands
 pub use Rattle.fab_desk_base.specs as fab_desk_base
-pub use Rattle.fab_world.specs as fab_world

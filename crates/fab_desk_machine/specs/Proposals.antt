@@ -1,7 +1,7 @@
 -- What is proposed for a request, and what a list of requests is answered.
 use Rattle.std.specs.Prelude.{ℕ, ◌≡◌, ◌⊎◌, List, [], ◌∷◌, Option, None, Some, slice_get}
-use Rattle.fab_policy_base.specs.Callers.{IsOnlyWith}
-use Rattle.fab_policy_base.specs.Policies.{CallerRow, PolicyRows}
+use Rattle.fab_policy.specs.fab_policy_base.Callers.{IsOnlyWith}
+use Rattle.fab_policy.specs.fab_policy_base.Policies.{CallerRow, PolicyRows}
 use Rattle.fab_reach_base.specs.Records.{Records}
 use Rattle.fab_reach_base.specs.declared.book.Delta.{Delta}
 use Rattle.fab_world.specs.Soundness.{IsSound}

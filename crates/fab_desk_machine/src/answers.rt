@@ -7,7 +7,7 @@ ghost use Rattle.fab_desk_machine.specs.Proposals.{AreAnswered, CountsStep, IsAc
 use crate::change::carry_through;
 use crate::proposing::{Proposal, propose};
 use fab_desk_base::{Command, Reply};
-use fab_policy_base::Policy;
+use fab_policy::base::Policy;
 use fab_reach_books::PathBook;
 use fab_world::World;
 use std::alloc::{AllocError, Allocator};

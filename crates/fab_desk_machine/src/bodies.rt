@@ -3,15 +3,15 @@
 ghost use Rattle.std.specs.Prelude.{◌≡◌, ◌↔◌, ℕ, IsTrue, IsSome};
 ghost use Rattle.fab_desk_base.specs.Answers.{IsThere, HasPlan};
 ghost use Rattle.fab_desk_base.specs.Commands.{IsGiven, action_of};
-ghost use Rattle.fab_inventory.specs.Inventories.{IsCapacity, kind_of};
-ghost use Rattle.fab_policy_base.specs.Policies.{PolicyRows};
+ghost use Rattle.fab_reach_base.specs.fab_inventory.Inventories.{IsCapacity, kind_of};
+ghost use Rattle.fab_policy.specs.fab_policy_base.Policies.{PolicyRows};
 
 use fab_desk_base::Command;
 use fab_desk_reads::plan_in;
-use fab_inventory::{HolderKind, Inventory, MOST_BYTES, MOST_PORTS_OF_HOLDER};
-use fab_names::Name;
-use fab_plans_text::is_within_limits;
+use fab_reach_base::inventory::{HolderKind, Inventory, MOST_BYTES, MOST_PORTS_OF_HOLDER};
+use fab_reach_base::names::Name;
 use fab_world::World;
+use fab_world::plans::texts::is_within_limits;
 use std::alloc::Allocator;
 
 /// Whether it is a capacity.

@@ -1,7 +1,7 @@
 //! What a command comes to that was tried.
 ghost use Rattle.std.specs.Prelude.{◌≡◌, ◌⊎◌, ℕ, None, IsSome, IfOk, MatchOption};
 ghost use Rattle.fab_policy.specs.declared.act.Verdict.TheVariants.{Allowed};
-ghost use Rattle.fab_policy_base.specs.Policies.{PolicyRows};
+ghost use Rattle.fab_policy.specs.fab_policy_base.Policies.{PolicyRows};
 ghost use Rattle.fab_reach_base.specs.Books.{IsDelta};
 ghost use Rattle.fab_reach_base.specs.Records.{Records};
 ghost use Rattle.fab_reach_base.specs.declared.book.Delta.{Delta};
@@ -24,11 +24,11 @@ use crate::verdicts::{Sender, denial, moved_by};
 use fab_desk_base::{Command, DeskFault, Reply};
 use fab_desk_trials::commands::{Next, staged_next};
 use fab_desk_trials::{Effect, Prepared};
-use fab_names::Name;
-use fab_plans::PlanText;
-use fab_policy_base::Policy;
+use fab_policy::base::Policy;
+use fab_reach_base::names::Name;
 use fab_reach_books::PathBook;
 use fab_world::World;
+use fab_world::plans::PlanText;
 use std::alloc::{AllocError, Allocator};
 use std::collections::BTreeSet;
 

@@ -1,7 +1,7 @@
 //! What a request would change, were it done.
 ghost use Rattle.std.specs.Prelude.{◌≡◌, ℕ, IsSome, IfOk, IfErr};
 ghost use Rattle.fab_policy.specs.declared.act.Verdict.TheVariants.{Allowed};
-ghost use Rattle.fab_policy_base.specs.Policies.{PolicyRows};
+ghost use Rattle.fab_policy.specs.fab_policy_base.Policies.{PolicyRows};
 ghost use Rattle.fab_world.specs.Soundness.{IsSound};
 ghost use Rattle.fab_world.specs.Worlds.{records_of};
 ghost use Rattle.fab_desk_base.specs.Acts.{IsJudged};
@@ -17,7 +17,7 @@ use crate::proposing::{is_memory, sender_of};
 use crate::verdicts::Sender;
 use fab_desk_base::{Command, DeskFault};
 use fab_desk_trials::{Prepared, try_out};
-use fab_policy_base::Policy;
+use fab_policy::base::Policy;
 use fab_reach_books::PathBook;
 use fab_world::World;
 use std::alloc::Allocator;

@@ -21,7 +21,6 @@ pub use fab_desk_base as base;
 pub use fab_desk_reads as reads;
 pub use fab_desk_trials as trials;
 pub use fab_desk_trials::commands;
-pub use fab_world as world;
 pub use foreseeing::foresee;
 pub use proposing::{Proposal, propose, sender_of};
 pub use report::Report;

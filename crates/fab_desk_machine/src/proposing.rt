@@ -1,7 +1,7 @@
 //! What is proposed for a request.
 ghost use Rattle.std.specs.Prelude.{◌≡◌, ◌⊎◌, ◌↔◌, ℕ, IsSome, IsTrue, slice_get, Some};
-ghost use Rattle.fab_policy_base.specs.Policies.{CallerRow, PolicyRows};
-ghost use Rattle.fab_policy_base.specs.Callers.{IsOnlyWith};
+ghost use Rattle.fab_policy.specs.fab_policy_base.Policies.{CallerRow, PolicyRows};
+ghost use Rattle.fab_policy.specs.fab_policy_base.Callers.{IsOnlyWith};
 ghost use Rattle.fab_world.specs.Soundness.{IsSound};
 ghost use Rattle.fab_world.specs.Worlds.{records_of};
 ghost use Rattle.fab_desk_base.specs.Answers.{IsAnswerTo, IsStep, IsThere};
@@ -18,7 +18,7 @@ use crate::verdicts::Sender;
 use fab_desk_base::{Command, DeskFault, Query, Reply};
 use fab_desk_reads::shown;
 use fab_desk_trials::try_out;
-use fab_policy_base::Policy;
+use fab_policy::base::Policy;
 use fab_reach_books::PathBook;
 use fab_world::World;
 use std::alloc::Allocator;

@@ -8,8 +8,8 @@ ghost use Rattle.fab_desk_machine.specs.Reports.{reply_of, Tells};
 
 use fab_desk_base::{Command, Reply};
 use fab_desk_reads::plan_in;
-use fab_names::Name;
 use fab_reach_base::Delta;
+use fab_reach_base::names::Name;
 use fab_world::{KeptPlan, World};
 use std::alloc::Allocator;
 

@@ -1,7 +1,7 @@
 //! What the policy says of a command that was tried.
 ghost use Rattle.std.specs.Prelude.{◌≡◌, ◌↔◌, ℕ, List, IsSome, IfOk, MatchOption};
 ghost use Rattle.fab_policy.specs.declared.act.Verdict.TheVariants.{Allowed};
-ghost use Rattle.fab_policy_base.specs.Policies.{PolicyRows};
+ghost use Rattle.fab_policy.specs.fab_policy_base.Policies.{PolicyRows};
 ghost use Rattle.fab_desk_base.specs.Acts.{IsJudged};
 ghost use Rattle.fab_desk_base.specs.Answers.{IsDeniedWith, IsMove, IsThere};
 ghost use Rattle.fab_desk_base.specs.Commands.{action_of};
@@ -13,9 +13,9 @@ ghost use Rattle.fab_desk_trials.specs.Trials.{HasEffect, IsPrepared, effect_wor
 use fab_desk_base::{Command, DeskFault};
 use fab_desk_trials::{Effect, Prepared, moved_view};
 use fab_desk_verdicts::{judged, moved_tenants};
-use fab_names::Name;
 use fab_policy::Verdict;
-use fab_policy_base::{CallerId, Policy};
+use fab_policy::base::{CallerId, Policy};
+use fab_reach_base::names::Name;
 use fab_reach_base::{Delta, View};
 use fab_reach_books::PathBook;
 use fab_world::World;

@@ -9,7 +9,7 @@ use Rattle.std.proofs.lemmas.List.{length-append, get_or-append_right}
 use Rattle.std.proofs.lemmas.List.Elements.{All-contains_itself, Contains-append_cases, Contains-append_left, Contains-append_right, Contains-push, Contains-push_cases}
 use Rattle.std.proofs.lemmas.Map.Keys.{sorted_head, sorted_tail}
 use Rattle.std.proofs.lemmas.Option.{slice_get_read}
-use Rattle.fab_lemmas.proofs.Walks.{all_push}
+use Rattle.fab_reach_base.proofs.fab_lemmas.Walks.{all_push}
 
 -- ---- items
 

@@ -10,12 +10,12 @@ use Rattle.std.specs.Ordering.{ordering_then}
 use Rattle.std.proofs.lemmas.List.{append-nil, append_assoc, flat_map_more, map-append}
 use Rattle.std.proofs.lemmas.List.Elements.{Contains-append_cases, Contains-append_left, Contains-append_right}
 use Rattle.std.proofs.lemmas.Map.Keys.{sorted_head, sorted_tail}
-use Rattle.fab_lemmas.specs.Lists.{IsListOf}
-use Rattle.fab_lemmas.proofs.Walks.{all_push}
-use Rattle.fab_names.specs.Orders.{name_cmp, member_cmp}
-use Rattle.fab_names.specs.declared.member.Member.{Member}
-use Rattle.fab_names.proofs.OrderLaws.{name_total, name_exact}
-use Rattle.fab_zoning_rows.specs.Rows.{Row, Rows, row_cmp, IsRowOf}
+use Rattle.fab_reach_base.specs.fab_lemmas.Lists.{IsListOf}
+use Rattle.fab_reach_base.proofs.fab_lemmas.Walks.{all_push}
+use Rattle.fab_reach_base.specs.fab_names.Orders.{name_cmp, member_cmp}
+use Rattle.fab_reach_base.specs.fab_names.declared.member.Member.{Member}
+use Rattle.fab_reach_base.proofs.fab_names.OrderLaws.{name_total, name_exact}
+use Rattle.fab_reach_base.specs.fab_zoning_rows.Rows.{Row, Rows, row_cmp, IsRowOf}
 use Rattle.fab_desk_base.specs.Showing.{AreActiveZones, IsActiveZone}
 use Rattle.fab_desk_base.specs.declared.reply.ZoneMembers.{ZoneMembers}
 use Rattle.fab_desk_reads.specs.Grouping.{rows_of_zone, rows_in, names_of, HasSome, EndsIn, IsOpened, IsAdded, IsGrouped}

@@ -2,9 +2,9 @@
 use Rattle.std.specs.Prelude.{ℕ, ◌≡◌, ◌-◌, ◌⊎◌, List, [], ◌∷◌, ◌++◌, map, length, slice_get, Some}
 use Rattle.std.specs.List.{flat_map, AllByRecursion}
 use Rattle.std.specs.List.Sorted.{IsStrictlySortedBy}
-use Rattle.fab_names.specs.Orders.{name_cmp}
-use Rattle.fab_names.specs.declared.member.Member.{Member}
-use Rattle.fab_zoning_rows.specs.Rows.{Row}
+use Rattle.fab_reach_base.specs.fab_names.Orders.{name_cmp}
+use Rattle.fab_reach_base.specs.fab_names.declared.member.Member.{Member}
+use Rattle.fab_reach_base.specs.fab_zoning_rows.Rows.{Row}
 use Rattle.fab_desk_base.specs.declared.reply.ZoneMembers.{ZoneMembers}
 
 -- the rows of a zone, and of zones

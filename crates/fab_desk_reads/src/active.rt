@@ -4,8 +4,8 @@ ghost use Rattle.fab_desk_base.specs.Showing.{AreActiveZones};
 ghost use Rattle.fab_desk_reads.specs.Grouping.{IsAdded, IsGrouped, IsOpened, EndsIn};
 
 use fab_desk_base::ZoneMembers;
-use fab_names::{Member, Name};
-use fab_zoning::Zoning;
+use fab_reach_base::names::{Member, Name};
+use fab_reach_base::zoning::Zoning;
 use std::alloc::{AllocError, Allocator};
 use std::collections::BTreeSet;
 

@@ -6,8 +6,8 @@ ghost use Rattle.fab_desk_reads.specs.Recorded.{IsFound};
 
 use crate::parts::inventory_in;
 use fab_desk_base::{Shown, ShownHolder};
-use fab_inventory::{HolderKind, Inventory};
-use fab_names::{Name, Wwn};
+use fab_reach_base::inventory::{HolderKind, Inventory};
+use fab_reach_base::names::{Name, Wwn};
 use fab_world::World;
 use std::alloc::{AllocError, Allocator};
 

@@ -8,10 +8,10 @@ ghost use Rattle.fab_desk_reads.specs.Recorded.{IsFound};
 
 use crate::parts::{inventory_in, zoning_in};
 use fab_desk_base::{Joint, Shown};
-use fab_inventory::Port;
-use fab_names::Wwn;
+use fab_reach_base::inventory::Port;
+use fab_reach_base::names::Wwn;
+use fab_reach_base::zoning::Why;
 use fab_world::World;
-use fab_zoning::Why;
 use std::alloc::Allocator;
 
 /// Why the ports may communicate, or that they may not. It takes no memory.

@@ -1,11 +1,11 @@
 //! What sets and maps have, listed in their order.
 ghost use Rattle.std.specs.Prelude.{◌≡◌, IfOk};
 ghost use Rattle.std.specs.FinMap as fin;
-ghost use Rattle.fab_names.specs.Orders.{name_cmp};
+ghost use Rattle.fab_reach_base.specs.fab_names.Orders.{name_cmp};
 ghost use Rattle.fab_desk_base.specs.Showing.{AreEntries};
 
-use fab_names::{Name, Wwn};
 use fab_policy::Approval;
+use fab_reach_base::names::{Name, Wwn};
 use std::alloc::{AllocError, Allocator};
 use std::collections::{BTreeMap, BTreeSet, btree_map, btree_set};
 

@@ -8,9 +8,9 @@ ghost use Rattle.fab_desk_base.specs.Tenants.{holder, volume, host_group, storag
 use crate::holders::holder_tenant;
 use crate::parts::{inventory_in, mapping_in, plan_in, zoning_in};
 use fab_desk_base::Query;
-use fab_inventory::HolderKind;
-use fab_names::{Fabric, Name, Wwn};
 use fab_policy::{CallerId, Policy};
+use fab_reach_base::inventory::HolderKind;
+use fab_reach_base::names::{Fabric, Name, Wwn};
 use fab_world::World;
 use std::alloc::Allocator;
 

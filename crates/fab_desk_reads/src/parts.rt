@@ -4,12 +4,12 @@ ghost use Rattle.std.specs.FinMap as map;
 ghost use Rattle.std.specs.Option.{option_copied};
 ghost use Rattle.fab_reach_base.specs.Records.{zoning_at};
 
-use fab_inventory::Inventory;
-use fab_mapping::Mapping;
-use fab_names::{Fabric, Name};
 use fab_reach_base::Config;
+use fab_reach_base::inventory::Inventory;
+use fab_reach_base::mapping::Mapping;
+use fab_reach_base::names::{Fabric, Name};
+use fab_reach_base::zoning::Zoning;
 use fab_world::{KeptPlan, World};
-use fab_zoning::Zoning;
 use std::alloc::Allocator;
 
 /// The inventory of a world.

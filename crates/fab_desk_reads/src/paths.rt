@@ -4,7 +4,7 @@ ghost use Rattle.fab_world.specs.Worlds.{WorldRows, records_of};
 ghost use Rattle.fab_desk_base.specs.Showing.{ShowsPaths};
 
 use fab_desk_base::Shown;
-use fab_names::Name;
+use fab_reach_base::names::Name;
 use fab_reach_books::PathBook;
 use std::alloc::{AllocError, Allocator};
 

@@ -6,7 +6,7 @@ ghost use Rattle.fab_desk_reads.specs.Recorded.{IsFound};
 use crate::listed::approvals_listed;
 use crate::parts::plan_in;
 use fab_desk_base::{Shown, ShownPlan};
-use fab_names::Name;
+use fab_reach_base::names::Name;
 use fab_world::World;
 use std::alloc::{AllocError, Allocator};
 

@@ -7,7 +7,7 @@ use crate::active::active_zones;
 use crate::listed::keys_listed;
 use crate::parts::zoning_in;
 use fab_desk_base::Shown;
-use fab_names::{Fabric, Name};
+use fab_reach_base::names::{Fabric, Name};
 use fab_world::World;
 use std::alloc::{AllocError, Allocator};
 

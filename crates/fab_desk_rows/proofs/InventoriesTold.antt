@@ -1,6 +1,6 @@
 -- Rows of inventories that are listed once more.
 use Rattle.std.proofs.Common.{◌≡◌, sym, subst}
-use Rattle.fab_lemmas.specs.Lists.{IsListOf}
+use Rattle.fab_reach_base.specs.fab_lemmas.Lists.{IsListOf}
 use Rattle.fab_store_rows.specs.declared.inventory_row.InventoryRow.{InventoryRow}
 use Rattle.fab_store_rows.specs.declared.inventory_row.InventoryRow.TheVariants as row
 use Rattle.fab_store_world.specs.Inventories.{AreListsOf, port_order, entry_order, address_order, holder_order, volume_order}

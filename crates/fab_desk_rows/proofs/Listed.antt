@@ -2,7 +2,7 @@
 use Rattle.std.proofs.Common.{◌≡◌, List, [], ◌∷◌, inl, inr, sym, subst, arith}
 use Rattle.std.specs.declared.cmp.Ordering.{Ordering}
 use Rattle.std.specs.List.Sorted.{IsStrictlySortedBy}
-use Rattle.fab_lemmas.specs.Lists.{IsListOf}
+use Rattle.fab_reach_base.specs.fab_lemmas.Lists.{IsListOf}
 use Rattle.fab_world.specs.Worlds.{WorldRows}
 use Rattle.fab_store_world.specs.Standing.{Lacking}
 use Rattle.fab_store_world.proofs.Picked.{first_or_later}

@@ -4,10 +4,10 @@ use mathlib.Core.Bool.{true≢false}
 use Rattle.std.specs.declared.cmp.Ordering.{Ordering}
 use Rattle.std.specs.Cmp.Lexicographic.{bytes_decides}
 use Rattle.std.specs.FinMap as map
-use Rattle.fab_lemmas.specs.Firsts.{HasAt}
-use Rattle.fab_lemmas.specs.Lists.{IsListOf}
-use Rattle.fab_lemmas.proofs.Filters.{list_as}
-use Rattle.fab_inventory.specs.Holders.{same_name}
+use Rattle.fab_reach_base.specs.fab_lemmas.Firsts.{HasAt}
+use Rattle.fab_reach_base.specs.fab_lemmas.Lists.{IsListOf}
+use Rattle.fab_reach_base.proofs.fab_lemmas.Filters.{list_as}
+use Rattle.fab_reach_base.specs.fab_inventory.Holders.{same_name}
 use Rattle.fab_world.specs.PlanRecords.{PlanRecord}
 use Rattle.fab_world.specs.Worlds.{WorldRows}
 use Rattle.fab_store_world.specs.Standing.{Lacking}

@@ -3,12 +3,12 @@ use Rattle.std.proofs.Common.{◌≡◌, ℕ, List, [], Option, None, Some, refl
 use Rattle.std.specs.BTreeSet.{BTreeSet, IsOrdered}
 use Rattle.std.specs.FinMap as map
 use Rattle.std.specs.Option.{option_map, option_and_then}
-use Rattle.fab_lemmas.specs.Lists.{IsListOf}
-use Rattle.fab_lemmas.proofs.Filters.{list_as}
-use Rattle.fab_inventory.specs.declared.port.Port.{Port}
-use Rattle.fab_inventory.specs.Holders.{Holds}
-use Rattle.fab_inventory.specs.Ports.{port_of}
-use Rattle.fab_inventory.specs.declared.port.Known.{Known}
+use Rattle.fab_reach_base.specs.fab_lemmas.Lists.{IsListOf}
+use Rattle.fab_reach_base.proofs.fab_lemmas.Filters.{list_as}
+use Rattle.fab_reach_base.specs.fab_inventory.declared.port.Port.{Port}
+use Rattle.fab_reach_base.specs.fab_inventory.Holders.{Holds}
+use Rattle.fab_reach_base.specs.fab_inventory.Ports.{port_of}
+use Rattle.fab_reach_base.specs.fab_inventory.declared.port.Known.{Known}
 use Rattle.fab_reach_base.specs.Adding.{Adds}
 use Rattle.fab_reach_base.specs.Books.{IsGained, IsDelta}
 use Rattle.fab_reach_base.specs.Orders as paths

@@ -2,11 +2,11 @@
 use Rattle.std.proofs.Common.{◌≡◌, ◌↔◌, ℕ, List, [], ◌∷◌, Bool, true, false, refl, sym, ap, ◌∙◌, subst}
 use Rattle.std.specs.FinMap as map
 use Rattle.std.proofs.lemmas.Option.{same_Some}
-use Rattle.fab_lemmas.specs.Lists.{IsListOf}
-use Rattle.fab_inventory.specs.Holders.{same_name}
+use Rattle.fab_reach_base.specs.fab_lemmas.Lists.{IsListOf}
+use Rattle.fab_reach_base.specs.fab_inventory.Holders.{same_name}
 use Rattle.fab_store_rows.specs.PlanEntries.{PlanEntry}
-use Rattle.fab_plans_base.specs.Steps.{PlanStep}
-use Rattle.fab_plans_base.specs.Plans.{Spells, plan_text}
+use Rattle.fab_world.specs.fab_plans_base.Steps.{PlanStep}
+use Rattle.fab_world.specs.fab_plans_base.Plans.{Spells, plan_text}
 use Rattle.fab_world.specs.PlanRecords.{PlanRecord}
 use Rattle.fab_world.specs.Plans.{state_of}
 use Rattle.fab_world.specs.Worlds.{WorldRows}

@@ -5,12 +5,12 @@ use Rattle.std.specs.FinMap as map
 use Rattle.std.specs.Ordering.{eq_by_cmp}
 use Rattle.std.specs.Cmp.{Equal-is, tied_itself}
 use Rattle.std.proofs.lemmas.Option.{same_Some}
-use Rattle.fab_lemmas.specs.Lists.{IsListOf}
-use Rattle.fab_names.specs.Orders.{name_cmp}
-use Rattle.fab_names.proofs.OrderLaws.{name_total, name_exact}
-use Rattle.fab_inventory.specs.Holders.{same_name}
+use Rattle.fab_reach_base.specs.fab_lemmas.Lists.{IsListOf}
+use Rattle.fab_reach_base.specs.fab_names.Orders.{name_cmp}
+use Rattle.fab_reach_base.proofs.fab_names.OrderLaws.{name_total, name_exact}
+use Rattle.fab_reach_base.specs.fab_inventory.Holders.{same_name}
 use Rattle.fab_store_rows.specs.PlanEntries.{PlanEntry}
-use Rattle.fab_plans_base.specs.Plans.{Spells, plan_text}
+use Rattle.fab_world.specs.fab_plans_base.Plans.{Spells, plan_text}
 use Rattle.fab_store_rows.specs.declared.record_row.PlanState.TheVariants as state
 use Rattle.fab_world.specs.PlanRecords.{Standing, staged, active, rolled_back, withdrawn, PlanRecord}
 use Rattle.fab_world.specs.Plans.{state_of, undo_of}

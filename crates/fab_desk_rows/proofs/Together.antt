@@ -1,7 +1,7 @@
 -- The rows of inventories, configurations and paths that are moved, as those of the tables.
 use Rattle.std.proofs.Common.{List}
-use Rattle.fab_lemmas.specs.Lists.{IsListOf}
-use Rattle.fab_lemmas.proofs.Filters.{list_as}
+use Rattle.fab_reach_base.specs.fab_lemmas.Lists.{IsListOf}
+use Rattle.fab_reach_base.proofs.fab_lemmas.Filters.{list_as}
 use Rattle.fab_store_rows.specs.declared.config_row.ConfigRow.{ConfigRow}
 use Rattle.fab_store_rows.specs.declared.inventory_row.PortEntry.{PortEntry}
 use Rattle.fab_store_rows.specs.declared.inventory_row.AddressRow.{AddressRow}

@@ -7,9 +7,9 @@ use Rattle.std.specs.Ordering.{ordering_then}
 use Rattle.std.specs.List.Sorted.{IsStrictlySortedBy}
 use Rattle.std.proofs.lemmas.List.Elements.{Contains-append_left, Contains-append_right, Contains-append_cases}
 use Rattle.std.proofs.lemmas.Option.{same_Some}
-use Rattle.fab_lemmas.specs.Lists.{IsListOf}
-use Rattle.fab_lemmas.proofs.Filters.{list_as}
-use Rattle.fab_names.proofs.OrderLaws.{name_total}
+use Rattle.fab_reach_base.specs.fab_lemmas.Lists.{IsListOf}
+use Rattle.fab_reach_base.proofs.fab_lemmas.Filters.{list_as}
+use Rattle.fab_reach_base.proofs.fab_names.OrderLaws.{name_total}
 use Rattle.fab_store_rows.specs.RowOrder.{row_cmp}
 use Rattle.fab_store_rows.proofs.OrderOfRows.{same_order}
 use Rattle.fab_store_rows.specs.declared.config_row.ConfigRow.{ConfigRow}

@@ -2,7 +2,7 @@
 use Rattle.std.specs.Prelude.{ℕ, ◌≡◌, List}
 use Rattle.std.specs.declared.cmp.Ordering.{Ordering}
 use Rattle.std.specs.FinMap as map
-use Rattle.fab_lemmas.specs.Lists.{IsListOf}
+use Rattle.fab_reach_base.specs.fab_lemmas.Lists.{IsListOf}
 use Rattle.fab_store_rows.specs.Differences.{IsDifference}
 use Rattle.fab_store_world.specs.Inventories.{IsInventoryDifference}
 use Rattle.fab_store_world.specs.Paths.{ArePathChanges}

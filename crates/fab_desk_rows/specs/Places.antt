@@ -4,7 +4,7 @@ use Rattle.std.specs.FinMap as map
 use Rattle.fab_store_rows.specs.PlanEntries.{PlanEntry}
 use Rattle.fab_store_rows.specs.declared.record_row.PlanState.{PlanState}
 use Rattle.fab_store_rows.specs.declared.record_row.PlanState.TheVariants as states
-use Rattle.fab_plans_base.specs.Plans.{IsWithinLimits, plan_text}
+use Rattle.fab_world.specs.fab_plans_base.Plans.{IsWithinLimits, plan_text}
 use Rattle.fab_world.specs.PlanRecords.{PlanRecord}
 use Rattle.fab_world.specs.Plans.{state_of}
 use Rattle.fab_world.specs.Worlds.{WorldRows}

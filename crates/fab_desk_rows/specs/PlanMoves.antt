@@ -2,7 +2,7 @@
 -- functions.
 use Rattle.std.specs.Prelude.{ℕ, ◌≡◌, ◌⊎◌, List, [], ◌∷◌, ◌++◌, Option, Some}
 use Rattle.std.specs.declared.cmp.Ordering.{Ordering}
-use Rattle.fab_lemmas.specs.Lists.{IsListOf}
+use Rattle.fab_reach_base.specs.fab_lemmas.Lists.{IsListOf}
 use Rattle.fab_store_rows.specs.declared.config_row.ConfigRow.{ConfigRow}
 use Rattle.fab_store_rows.specs.declared.record_row.ApprovalRow.{ApprovalRow}
 use Rattle.fab_store_rows.specs.declared.record_row.UndoRow.{UndoRow}

@@ -2,15 +2,15 @@
 ghost use Rattle.std.specs.Prelude.{◌≡◌, ◌↔◌, None, Some, IsTrue, OnOk, IfOk};
 ghost use Rattle.std.specs.BTreeMap.{get};
 ghost use Rattle.std.specs.FinMap as map;
-ghost use Rattle.fab_lemmas.specs.Lists.{IsListOf};
-ghost use Rattle.fab_names.specs.Orders.{name_cmp};
+ghost use Rattle.fab_reach_base.specs.fab_lemmas.Lists.{IsListOf};
+ghost use Rattle.fab_reach_base.specs.fab_names.Orders.{name_cmp};
 ghost use Rattle.fab_store_world.specs.Keys.{approval_order};
 ghost use Rattle.fab_desk_commands.specs.Nexts.{turned};
 ghost use Rattle.fab_desk_rows.specs.PlanMoves.{IsPushed, IsGivenOnlyIn, AreApprovalsMoved};
 
 use crate::moved::{Moved, none_moved};
 use fab_desk_commands::Turn;
-use fab_names::Name;
+use fab_reach_base::names::Name;
 use fab_store_rows::ApprovalRow;
 use fab_world::KeptPlan;
 use std::alloc::{AllocError, Allocator};

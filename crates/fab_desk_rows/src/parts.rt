@@ -1,6 +1,6 @@
 //! The rows of inventories, configurations and paths in which the next world differs.
 ghost use Rattle.std.specs.Prelude.{◌≡◌, IfOk};
-ghost use Rattle.fab_inventory.specs.Inventories.{InventoryRows};
+ghost use Rattle.fab_reach_base.specs.fab_inventory.Inventories.{InventoryRows};
 ghost use Rattle.fab_reach_base.specs.Books.{IsDelta};
 ghost use Rattle.fab_reach_base.specs.Records.{ConfigRows};
 ghost use Rattle.fab_reach_base.specs.Views.{seen};
@@ -13,7 +13,7 @@ ghost use Rattle.fab_desk_rows.specs.Moves.{ArePartsMoved};
 
 use crate::paths::path_rows_moved;
 use fab_desk_commands::{Next, Turn, copied};
-use fab_inventory::Port;
+use fab_reach_base::inventory::Port;
 use fab_reach_base::{Config, Delta, View};
 use fab_store_rows::{AddressRow, ConfigRow, HolderRow, PortEntry, RowDifference, VolumeRow};
 use fab_store_world::{InventoryDifference, InventoryLists, PathRowDifference};

@@ -1,6 +1,6 @@
 //! The rows of the paths that a change gains and loses.
 ghost use Rattle.std.specs.Prelude.{◌≡◌, ℕ, List, OnOk, IfOk, MatchOption};
-ghost use Rattle.fab_lemmas.specs.Lists.{IsListOf};
+ghost use Rattle.fab_reach_base.specs.fab_lemmas.Lists.{IsListOf};
 ghost use Rattle.fab_reach_base.specs.Adding.{Adds};
 ghost use Rattle.fab_reach_base.specs.Books.{IsDelta};
 ghost use Rattle.fab_reach_base.specs.Reach.{IsInitiatorOf};
@@ -9,8 +9,8 @@ ghost use Rattle.fab_store_world.specs.PathGathering.{Has, IsRowOf, IsRowOfSome}
 ghost use Rattle.fab_store_world.specs.Paths.{ArePathChanges, path_row_order};
 ghost use Rattle.fab_desk_base.specs.Keeping.{KeepsHosts};
 
-use fab_inventory::HolderKind;
-use fab_names::{Name, Wwn};
+use fab_reach_base::inventory::HolderKind;
+use fab_reach_base::names::{Name, Wwn};
 use fab_reach_base::{Delta, Path, View};
 use fab_store_rows::PathRow;
 use fab_store_world::PathRowDifference;

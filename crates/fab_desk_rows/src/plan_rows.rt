@@ -1,6 +1,6 @@
 //! The row of a plan that comes to another state, or to another position.
 ghost use Rattle.std.specs.Prelude.{◌≡◌, ◌↔◌, ℕ, List, [], ◌∷◌, IsTrue, IfOk, OnOk};
-ghost use Rattle.fab_plans_base.specs.Plans.{Spells, IsWithinLimits, plan_text};
+ghost use Rattle.fab_world.specs.fab_plans_base.Plans.{Spells, IsWithinLimits, plan_text};
 ghost use Rattle.fab_store_rows.specs.declared.record_row.PlanState.TheVariants as states;
 ghost use Rattle.fab_store_world.specs.Keys.{plan_order};
 ghost use Rattle.fab_store_world.specs.Positions.{IsPosition};
@@ -10,7 +10,7 @@ ghost use Rattle.fab_desk_rows.specs.Moves.{AreMoved};
 ghost use Rattle.fab_desk_rows.specs.Places as spec;
 
 use crate::moved::{Moved, none_moved};
-use fab_names::Name;
+use fab_reach_base::names::Name;
 use fab_store_rows::{PlanRow, PlanState};
 use fab_world::KeptPlan;
 use std::alloc::{AllocError, Allocator};

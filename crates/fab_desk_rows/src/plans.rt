@@ -16,7 +16,7 @@ use crate::moved::{Moved, none_moved};
 use crate::plan_rows::{Place, one_row, place_in, row_moved};
 use crate::undo::turned_undo;
 use fab_desk_commands::{Next, Turn};
-use fab_names::Name;
+use fab_reach_base::names::Name;
 use fab_store_rows::{ApprovalRow, PlanRow, PlanState, UndoRow};
 use fab_world::{KeptPlan, World};
 use std::alloc::{AllocError, Allocator};

@@ -1,6 +1,6 @@
 //! The rows that the activation of one plan changed.
 ghost use Rattle.std.specs.Prelude.{◌≡◌, ◌++◌, [], map, Some, OnOk, IfOk};
-ghost use Rattle.fab_lemmas.specs.Lists.{IsListOf};
+ghost use Rattle.fab_reach_base.specs.fab_lemmas.Lists.{IsListOf};
 ghost use Rattle.fab_store_world.specs.Keys.{undo_order};
 ghost use Rattle.fab_store_world.specs.PlanRows.{IsInOrder, ChangesInOrder};
 ghost use Rattle.fab_world.specs.PlanRecords.{rolled_back};
@@ -9,7 +9,7 @@ ghost use Rattle.fab_desk_rows.specs.PlanMoves.{undo_row, IsUndoOf, AreUndoMoved
 
 use crate::moved::{Moved, none_moved};
 use fab_desk_commands::Turn;
-use fab_names::Name;
+use fab_reach_base::names::Name;
 use fab_store_rows::{ConfigRow, RowDifference, Sign, UndoRow};
 use fab_world::KeptPlan;
 use std::alloc::{AllocError, Allocator};

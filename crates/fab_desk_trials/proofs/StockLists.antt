@@ -1,7 +1,7 @@
 -- The rows in which an inventory differs.
 use Rattle.std.proofs.Common.{◌≡◌, List, sym, subst}
-use Rattle.fab_inventory.specs.Inventories.{InventoryRows}
-use Rattle.fab_inventory.specs.declared.port.Port.{Port}
+use Rattle.fab_reach_base.specs.fab_inventory.Inventories.{InventoryRows}
+use Rattle.fab_reach_base.specs.fab_inventory.declared.port.Port.{Port}
 use Rattle.fab_reach_books.specs.Stocks.{AreKnownOnlyIn}
 use Rattle.fab_store_rows.specs.declared.inventory_row.HolderRow.{HolderRow}
 use Rattle.fab_store_world.specs.Inventories.{AreListsOf, IsKnownOnlyIn}

@@ -2,9 +2,9 @@
 use Rattle.std.proofs.Common.{ℕ, ◌≡◌, List, [], Option, Some, MatchOption, Result, Ok, Err, IfOk, IfErr, Bool, true, false, IsTrue, inl, inr, refl, sym, subst}
 use Rattle.std.specs.FinMap as map
 use Rattle.std.specs.declared.vec.Vec.{Vec}
-use Rattle.fab_inventory.specs.Inventories.{InventoryRows}
-use Rattle.fab_plans_base.specs.Steps.{PlanStep}
-use Rattle.fab_policy_base.specs.Policies.{PolicyRows}
+use Rattle.fab_reach_base.specs.fab_inventory.Inventories.{InventoryRows}
+use Rattle.fab_world.specs.fab_plans_base.Steps.{PlanStep}
+use Rattle.fab_policy.specs.fab_policy_base.Policies.{PolicyRows}
 use Rattle.fab_store_world.specs.Inventories.{IsInventoryDifference}
 use Rattle.fab_store_world.specs.declared.inventories.InventoryDifference.{InventoryDifference}
 use Rattle.fab_world.specs.Worlds.{WorldRows}

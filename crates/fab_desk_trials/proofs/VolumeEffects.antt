@@ -1,7 +1,7 @@
 -- A command on a volume leaves an inventory that is one with that before, but for the volume.
 use Rattle.std.proofs.Common.{◌≡◌, List, ℕ, sym, ap, subst}
-use Rattle.fab_inventory.specs.declared.holder.Volume.{Volume}
-use Rattle.fab_inventory.specs.Inventories.{InventoryRows}
+use Rattle.fab_reach_base.specs.fab_inventory.declared.holder.Volume.{Volume}
+use Rattle.fab_reach_base.specs.fab_inventory.Inventories.{InventoryRows}
 use Rattle.fab_store_world.specs.Inventories.{AreOneButVolume}
 use Rattle.fab_store_world.proofs.OneVolume.{one_but_put, one_but_dropped}
 use Rattle.fab_world.specs.Worlds.{WorldRows}

@@ -1,7 +1,7 @@
 -- What a command that is tried would make of the world, and when it is ready.
 use Rattle.std.specs.Prelude.{ℕ, ◌≡◌, ◌<◌, ◌⊎◌, List, Option, None, Some, Result, Ok, Err, Bool, true, false}
 use Rattle.std.specs.FinMap as map
-use Rattle.fab_inventory.specs.Inventories.{InventoryRows}
+use Rattle.fab_reach_base.specs.fab_inventory.Inventories.{InventoryRows}
 use Rattle.fab_reach_base.specs.Records.{Records}
 use Rattle.fab_store_world.specs.Inventories.{IsInventoryDifference}
 use Rattle.fab_store_world.specs.declared.inventories.InventoryDifference.{InventoryDifference}

@@ -2,7 +2,7 @@
 ghost use Rattle.std.specs.Prelude.{◌≡◌, ℕ, IsSome, IfOk, IfErr};
 ghost use Rattle.fab_store_world.specs.Inventories.{AreOneButVolume};
 ghost use Rattle.fab_world.specs.Soundness.{IsSound};
-ghost use Rattle.fab_policy_base.specs.Policies.{PolicyRows};
+ghost use Rattle.fab_policy.specs.fab_policy_base.Policies.{PolicyRows};
 ghost use Rattle.fab_desk_base.specs.Answers.{IsThere};
 ghost use Rattle.fab_desk_base.specs.Commands.{IsGiven, action_of, tried};
 ghost use Rattle.fab_desk_base.specs.Trying.{IsTryFault};
@@ -13,8 +13,8 @@ use fab_desk_commands::{
     Next, activated, approved, holder_dropped, holder_put, imported, is_staged_already,
     rolled_back, volume_dropped, volume_put, withdrawn,
 };
-use fab_inventory::Inventory;
-use fab_names::Name;
+use fab_reach_base::inventory::Inventory;
+use fab_reach_base::names::Name;
 use fab_store_world::{inventory_difference, volume_difference};
 use fab_world::World;
 use std::alloc::Allocator;

@@ -1,6 +1,6 @@
 //! What an effect moves: the inventory and the configuration after it, and the rows in which they differ.
 ghost use Rattle.std.specs.Prelude.{◌≡◌, List, ℕ, IfOk, MatchOption};
-ghost use Rattle.fab_inventory.specs.Inventories.{InventoryRows};
+ghost use Rattle.fab_reach_base.specs.fab_inventory.Inventories.{InventoryRows};
 ghost use Rattle.fab_reach_base.specs.Records.{ConfigRows, Records};
 ghost use Rattle.fab_reach_base.specs.Views.{seen};
 ghost use Rattle.fab_reach_books.specs.Rows.{IsRowDiff};

@@ -8,7 +8,7 @@ ghost use Rattle.fab_reach_base.specs.declared.listing.TheConstants.{MOST_PATHS}
 ghost use Rattle.fab_reach_books.specs.Rows.{IsRowDiff};
 ghost use Rattle.fab_world.specs.Soundness.{IsSound};
 ghost use Rattle.fab_world.specs.Worlds.{records_of};
-ghost use Rattle.fab_policy_base.specs.Policies.{PolicyRows};
+ghost use Rattle.fab_policy.specs.fab_policy_base.Policies.{PolicyRows};
 ghost use Rattle.fab_desk_base.specs.Answers.{IsThere};
 ghost use Rattle.fab_desk_base.specs.Commands.{IsGiven, action_of, tried};
 ghost use Rattle.fab_desk_base.specs.Refusals.{HasManyPaths};
@@ -22,8 +22,8 @@ use crate::effects::{Effect, effect_of};
 use crate::limits::check_changes;
 use crate::moves::{moved_rows, moved_view};
 use fab_desk_base::{Command, DeskFault, DeskLimit};
-use fab_names::Name;
 use fab_reach_base::View;
+use fab_reach_base::names::Name;
 use fab_reach_books::{Limited, PathBook, RowDiff, ViewSight};
 use fab_world::World;
 use std::alloc::Allocator;

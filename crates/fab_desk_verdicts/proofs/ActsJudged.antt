@@ -2,13 +2,13 @@
 use Rattle.std.proofs.Common.{◌≡◌, ◌↔◌, ℕ, List, Contains, Option, None, Some, refl, sym, ap, ◌∙◌, subst}
 use Rattle.std.specs.Option.{option_map}
 use Rattle.std.specs.FinMap as map
-use Rattle.fab_names.specs.declared.fabric.Fabric.{Fabric}
+use Rattle.fab_reach_base.specs.fab_names.declared.fabric.Fabric.{Fabric}
 use Rattle.fab_policy.specs.declared.act.Act.{Act}
 use Rattle.fab_policy.specs.declared.act.Approval.{Approval}
 use Rattle.fab_policy.specs.declared.act.PlanApprovals.{PlanApprovals}
 use Rattle.fab_policy.specs.declared.act.Verdict.{Verdict}
-use Rattle.fab_policy_base.specs.Policies.{PolicyRows}
-use Rattle.fab_policy_base.specs.declared.policy.Action.{Action}
+use Rattle.fab_policy.specs.fab_policy_base.Policies.{PolicyRows}
+use Rattle.fab_policy.specs.fab_policy_base.declared.policy.Action.{Action}
 use Rattle.fab_world.specs.PlanRecords.{PlanRecord}
 use Rattle.fab_world.specs.Worlds.{WorldRows}
 use Rattle.fab_desk_base.specs.Acts.{IsApprovalOf, AreApprovals, AreOfPlan, AreOfStaged, AreOfCommand, IsAct, IsJudged}

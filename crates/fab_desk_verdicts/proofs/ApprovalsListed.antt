@@ -3,9 +3,9 @@ use Rattle.std.proofs.Common.{◌≡◌, ◌↔◌, ℕ, ◌⊎◌, List, [], �
 use Rattle.std.specs.BTreeMap.{BTreeMap, IsOrdered, get}
 use Rattle.std.specs.FinMap as finite
 use Rattle.std.proofs.lemmas.Map.Views.{btree_map_get_iff}
-use Rattle.fab_lemmas.proofs.SeenMaps.{same_look_ups}
-use Rattle.fab_names.specs.Orders.{name_cmp}
-use Rattle.fab_names.proofs.OrderLaws.{name_total, name_exact}
+use Rattle.fab_reach_base.proofs.fab_lemmas.SeenMaps.{same_look_ups}
+use Rattle.fab_reach_base.specs.fab_names.Orders.{name_cmp}
+use Rattle.fab_reach_base.proofs.fab_names.OrderLaws.{name_total, name_exact}
 use Rattle.fab_policy.specs.declared.act.Approval.{Approval}
 use Rattle.fab_reach_base.proofs.Same.{same_some}
 use Rattle.fab_world.specs.PlanRecords.{PlanRecord}

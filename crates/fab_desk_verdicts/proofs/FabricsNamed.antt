@@ -1,9 +1,9 @@
 -- Which fabrics a command names.
 use Rattle.std.proofs.Common.{◌≡◌, ◌↔◌, List, Contains, Some, Bool, IsTrue, Vec, refl}
-use Rattle.fab_names.specs.declared.fabric.Fabric.{Fabric}
-use Rattle.fab_inventory.specs.declared.port.PortRow.{PortRow}
-use Rattle.fab_plans.specs.Steps.{fabric_of}
-use Rattle.fab_plans_base.specs.Steps.{PlanStep}
+use Rattle.fab_reach_base.specs.fab_names.declared.fabric.Fabric.{Fabric}
+use Rattle.fab_reach_base.specs.fab_inventory.declared.port.PortRow.{PortRow}
+use Rattle.fab_world.specs.fab_plans.Steps.{fabric_of}
+use Rattle.fab_world.specs.fab_plans_base.Steps.{PlanStep}
 use Rattle.fab_world.specs.Worlds.{WorldRows}
 use Rattle.fab_desk_base.specs.Commands.{HasStep, NamesFabric}
 use Rattle.fab_desk_base.specs.declared.command.Command.{Command}

@@ -1,13 +1,13 @@
 -- Whose things steps give and name, kind by kind.
 use Rattle.std.proofs.Common.{◌≡◌, ℕ, List, ◌⊎◌, inl, inr, refl, subst}
-use Rattle.fab_inventory.specs.declared.holder.HolderKind.TheVariants as kind
+use Rattle.fab_reach_base.specs.fab_inventory.declared.holder.HolderKind.TheVariants as kind
 use Rattle.fab_reach_base.specs.Adding.{Adds}
 use Rattle.fab_reach_base.specs.Records.{Records}
 use Rattle.fab_reach_base.proofs.Adding.{adds_as, adds_none}
-use Rattle.fab_plans_base.specs.Actions.{zoning_step}
-use Rattle.fab_plans_base.specs.Steps.{PlanStep, host_group_put, host_group_drop, group_new, group_drop, group_host, group_map}
-use Rattle.fab_plans_base.specs.declared.zoning_action.ZoningAction.{ZoningAction}
-use Rattle.fab_plans_base.specs.declared.zoning_action.ZoningAction.TheVariants as zoning
+use Rattle.fab_world.specs.fab_plans_base.Actions.{zoning_step}
+use Rattle.fab_world.specs.fab_plans_base.Steps.{PlanStep, host_group_put, host_group_drop, group_new, group_drop, group_host, group_map}
+use Rattle.fab_world.specs.fab_plans_base.declared.zoning_action.ZoningAction.{ZoningAction}
+use Rattle.fab_world.specs.fab_plans_base.declared.zoning_action.ZoningAction.TheVariants as zoning
 use Rattle.fab_desk_base.specs.Tenants.{Thing, holder, volume, host_group, storage_group, IsTenantOf, IsVolumeOf, IsHostGroupOf, IsGroupOf}
 use Rattle.fab_desk_verdicts.specs.Gathered.{IsOfSomeHost, IsOfStep}
 use Rattle.fab_desk_verdicts.proofs.TenantSets.{both_added}

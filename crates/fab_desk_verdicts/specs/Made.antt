@@ -1,13 +1,13 @@
 -- The act that is made of what was found of a command.
 use Rattle.std.specs.Prelude.{ℕ, ◌≡◌, List, Option, None, Some}
-use Rattle.fab_names.specs.declared.fabric.Fabric.{Fabric}
+use Rattle.fab_reach_base.specs.fab_names.declared.fabric.Fabric.{Fabric}
 use Rattle.fab_policy.specs.Verdicts.{IsVerdict}
 use Rattle.fab_policy.specs.declared.act.Act.{Act}
 use Rattle.fab_policy.specs.declared.act.Approval.{Approval}
 use Rattle.fab_policy.specs.declared.act.PlanApprovals.{PlanApprovals}
 use Rattle.fab_policy.specs.declared.act.Verdict.{Verdict}
-use Rattle.fab_policy_base.specs.Policies.{PolicyRows}
-use Rattle.fab_policy_base.specs.declared.policy.Action.{Action}
+use Rattle.fab_policy.specs.fab_policy_base.Policies.{PolicyRows}
+use Rattle.fab_policy.specs.fab_policy_base.declared.policy.Action.{Action}
 
 -- the author and the approvals, where there is an author
 abbrev pub IsSaid : Option (List ℕ) → List Approval → Option PlanApprovals → Type 0

@@ -2,7 +2,7 @@
 use Rattle.std.specs.Prelude.{ℕ, ◌≡◌, ◌↔◌, List, Contains, Option, None, Some}
 use Rattle.std.specs.FinMap as map
 use Rattle.std.specs.Option.{option_map}
-use Rattle.fab_plans_base.specs.Steps.{PlanStep}
+use Rattle.fab_world.specs.fab_plans_base.Steps.{PlanStep}
 use Rattle.fab_policy.specs.declared.act.Approval.{Approval}
 use Rattle.fab_world.specs.PlanRecords.{PlanRecord}
 use Rattle.fab_world.specs.Worlds.{WorldRows}

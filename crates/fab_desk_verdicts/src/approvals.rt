@@ -1,15 +1,15 @@
 //! What was said of a command's plan.
 ghost use Rattle.std.specs.Prelude.{◌≡◌, ◌↔◌, map, Contains, IfOk};
 ghost use Rattle.std.specs.BTreeMap.{get};
-ghost use Rattle.fab_names.specs.Orders.{name_cmp};
+ghost use Rattle.fab_reach_base.specs.fab_names.Orders.{name_cmp};
 ghost use Rattle.fab_policy.specs.declared.act.Approval.{Approval};
 ghost use Rattle.fab_desk_base.specs.Acts.{IsApprovalOf};
 ghost use Rattle.fab_desk_verdicts.specs.Named.{plan_named, approval_of, author_at, plan_author, AreListed};
 
 use crate::named::{named_plan, plan_at, plan_of};
 use fab_desk_base::Command;
-use fab_names::Name;
 use fab_policy::Approval;
+use fab_reach_base::names::Name;
 use fab_world::World;
 use std::alloc::{AllocError, Allocator};
 use std::collections::BTreeMap;

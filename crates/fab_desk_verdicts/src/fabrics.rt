@@ -1,17 +1,17 @@
 //! The fabrics that a command names.
 ghost use Rattle.std.specs.Prelude.{◌≡◌, ◌↔◌, Contains, IsTrue};
-ghost use Rattle.fab_names.specs.declared.fabric.Fabric.{Fabric};
-ghost use Rattle.fab_names.specs.declared.fabric.Fabric.TheVariants as fabric;
-ghost use Rattle.fab_plans.specs.Steps.{fabric_of};
-ghost use Rattle.fab_plans_base.specs.Actions.{zoning_step};
-ghost use Rattle.fab_plans_base.specs.Steps.{PlanStep};
+ghost use Rattle.fab_reach_base.specs.fab_names.declared.fabric.Fabric.{Fabric};
+ghost use Rattle.fab_reach_base.specs.fab_names.declared.fabric.Fabric.TheVariants as fabric;
+ghost use Rattle.fab_world.specs.fab_plans.Steps.{fabric_of};
+ghost use Rattle.fab_world.specs.fab_plans_base.Actions.{zoning_step};
+ghost use Rattle.fab_world.specs.fab_plans_base.Steps.{PlanStep};
 ghost use Rattle.fab_world.specs.Worlds.{WorldRows};
 ghost use Rattle.fab_desk_base.specs.Commands.{NamesFabric};
 ghost use Rattle.fab_desk_verdicts.specs.Named.{AreSteps};
 
 use fab_desk_base::Command;
-use fab_names::Fabric;
-use fab_plans_base::{Action, Step, ZoningAction};
+use fab_reach_base::names::Fabric;
+use fab_world::plans::base::{Action, Step, ZoningAction};
 use std::alloc::Allocator;
 
 /// The fabric whose zoning the action changes.

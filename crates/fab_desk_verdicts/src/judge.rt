@@ -13,10 +13,10 @@ use crate::fabrics::fabrics_of;
 use crate::named::{action_of, steps_kept, steps_of};
 use crate::touched::touched;
 use fab_desk_base::Command;
-use fab_names::{Fabric, Name};
-use fab_plans_base::Step;
 use fab_policy::{Act, Action, Approval, CallerId, PlanApprovals, Policy, Verdict, decide};
+use fab_reach_base::names::{Fabric, Name};
 use fab_world::World;
+use fab_world::plans::base::Step;
 use std::alloc::{AllocError, Allocator};
 use std::collections::BTreeSet;
 

@@ -8,8 +8,8 @@ ghost use Rattle.fab_desk_base.specs.Touching.{MovesPathOf};
 ghost use Rattle.fab_desk_verdicts.specs.Gathered.{IsInitiatorTenant, IsOfSomePath};
 
 use crate::things::{add_holder, add_volume};
-use fab_inventory::HolderKind;
-use fab_names::{Name, Wwn};
+use fab_reach_base::inventory::HolderKind;
+use fab_reach_base::names::{Name, Wwn};
 use fab_reach_base::{Delta, Path, View};
 use std::alloc::{AllocError, Allocator};
 use std::collections::BTreeSet;

@@ -3,16 +3,16 @@ ghost use Rattle.std.specs.Prelude.{◌≡◌, ◌↔◌, Contains, IfOk};
 ghost use Rattle.std.specs.FinMap as map;
 ghost use Rattle.std.specs.Option.{option_copied};
 ghost use Rattle.fab_reach_base.specs.Views.{seen};
-ghost use Rattle.fab_plans_base.specs.Steps.{PlanStep};
+ghost use Rattle.fab_world.specs.fab_plans_base.Steps.{PlanStep};
 ghost use Rattle.fab_world.specs.Worlds.{WorldRows, records_of};
 ghost use Rattle.fab_desk_base.specs.Commands as commands;
 ghost use Rattle.fab_desk_verdicts.specs.Named.{plan_named, AreKept, AreSteps};
 
 use fab_desk_base::Command;
-use fab_names::Name;
-use fab_plans_base::Step;
 use fab_policy::Action;
 use fab_reach_base::View;
+use fab_reach_base::names::Name;
+use fab_world::plans::base::Step;
 use fab_world::{KeptPlan, World};
 use std::alloc::{AllocError, Allocator};
 

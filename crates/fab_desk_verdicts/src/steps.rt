@@ -2,16 +2,16 @@
 ghost use Rattle.std.specs.Prelude.{OnOk, ℕ, List};
 ghost use Rattle.fab_reach_base.specs.Adding.{Adds};
 ghost use Rattle.fab_reach_base.specs.Views.{seen};
-ghost use Rattle.fab_plans_base.specs.Actions.{mapping_step};
-ghost use Rattle.fab_plans_base.specs.Steps.{host_group_put, host_group_drop, group_new, group_drop, group_host, group_map};
+ghost use Rattle.fab_world.specs.fab_plans_base.Actions.{mapping_step};
+ghost use Rattle.fab_world.specs.fab_plans_base.Steps.{host_group_put, host_group_drop, group_new, group_drop, group_host, group_map};
 ghost use Rattle.fab_desk_base.specs.Tenants.{Has};
 ghost use Rattle.fab_desk_verdicts.specs.Gathered.{IsOfSomeHost, IsOfStep, IsOfSomeStep};
 
 use crate::things::{add_group, add_holder, add_host_group, add_tenant, add_volume};
-use fab_inventory::HolderKind;
-use fab_names::Name;
-use fab_plans_base::{Action, MappingAction, Step};
 use fab_reach_base::View;
+use fab_reach_base::inventory::HolderKind;
+use fab_reach_base::names::Name;
+use fab_world::plans::base::{Action, MappingAction, Step};
 use std::alloc::{AllocError, Allocator};
 use std::collections::BTreeSet;
 

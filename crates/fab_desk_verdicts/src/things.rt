@@ -3,9 +3,9 @@ ghost use Rattle.std.specs.Prelude.{OnOk, ◌≡◌};
 ghost use Rattle.fab_reach_base.specs.Adding.{Adds};
 ghost use Rattle.fab_desk_base.specs.Tenants.{Has, IsHolderOf, IsVolumeOf, IsHostGroupOf, IsGroupOf};
 
-use fab_inventory::{HolderKind, Inventory};
-use fab_names::Name;
 use fab_reach_base::View;
+use fab_reach_base::inventory::{HolderKind, Inventory};
+use fab_reach_base::names::Name;
 use std::alloc::{AllocError, Allocator};
 use std::collections::BTreeSet;
 

@@ -10,10 +10,10 @@ use crate::named::view_of;
 use crate::steps::add_steps;
 use crate::things::{add_holder, add_tenant, add_volume};
 use fab_desk_base::Command;
-use fab_inventory::{HolderKind, Inventory};
-use fab_names::Name;
-use fab_plans_base::Step;
+use fab_reach_base::inventory::{HolderKind, Inventory};
+use fab_reach_base::names::Name;
 use fab_world::World;
+use fab_world::plans::base::Step;
 use std::alloc::{AllocError, Allocator};
 use std::collections::BTreeSet;
 

@@ -1,12 +1,12 @@
 -- The text of a fabric's active set.
 use Rattle.std.specs.Prelude.{ℕ, List, [], ◌∷◌, ◌++◌, codes, Option, Some, None}
 use Rattle.std.specs.List.{flat_map}
-use Rattle.fab_names.specs.Fabrics.{fabric_text}
-use Rattle.fab_names.specs.Members.{member_text}
-use Rattle.fab_names.specs.declared.fabric.Fabric.{Fabric}
-use Rattle.fab_names.specs.declared.member.Member.{Member}
-use Rattle.fab_zoning.specs.declared.flag.DefaultFlag.{DefaultFlag}
-use Rattle.fab_zoning.specs.declared.flag.DefaultFlag.TheVariants.{Permit, Deny}
+use Rattle.fab_reach_base.specs.fab_names.Fabrics.{fabric_text}
+use Rattle.fab_reach_base.specs.fab_names.Members.{member_text}
+use Rattle.fab_reach_base.specs.fab_names.declared.fabric.Fabric.{Fabric}
+use Rattle.fab_reach_base.specs.fab_names.declared.member.Member.{Member}
+use Rattle.fab_reach_base.specs.fab_zoning.declared.flag.DefaultFlag.{DefaultFlag}
+use Rattle.fab_reach_base.specs.fab_zoning.declared.flag.DefaultFlag.TheVariants.{Permit, Deny}
 use Rattle.fab_desk_base.specs.declared.reply.ZoneMembers.{ZoneMembers}
 use Rattle.fab_files.specs.Lines.{line_of}
 

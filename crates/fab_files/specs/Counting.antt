@@ -3,9 +3,9 @@ use Rattle.std.specs.Prelude.{ℕ, ◌≡◌, ◌+◌, List, is_some, unwrap_or}
 use Rattle.std.specs.List.{flat_map, list_any}
 use Rattle.std.specs.Ordering.{eq_by_cmp}
 use Rattle.std.specs.BTreeMap.{BTreeMap, get, IsOrdered}
-use Rattle.fab_names.specs.Orders.{name_cmp}
-use Rattle.fab_names.specs.declared.fabric.Fabric.{Fabric}
-use Rattle.fab_names.specs.declared.fabric.Fabric.TheVariants.{A, B}
+use Rattle.fab_reach_base.specs.fab_names.Orders.{name_cmp}
+use Rattle.fab_reach_base.specs.fab_names.declared.fabric.Fabric.{Fabric}
+use Rattle.fab_reach_base.specs.fab_names.declared.fabric.Fabric.TheVariants.{A, B}
 use Rattle.fab_reach_base.specs.declared.path.Path.{Path}
 use Rattle.fab_files.specs.Reports.{counts_line, paths_over}
 use Rattle.fab_files.specs.declared.counts.Counts.{Counts}

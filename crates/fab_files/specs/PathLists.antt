@@ -1,8 +1,8 @@
 -- Paths as comma-separated values (RFC 4180). No field needs quotes.
 use Rattle.std.specs.Prelude.{ℕ, List, [], ◌∷◌, ◌++◌, codes, decimal}
 use Rattle.std.specs.List.{flat_map}
-use Rattle.fab_names.specs.Fabrics.{fabric_text}
-use Rattle.fab_names.specs.WorldWideNames.{wwn_text}
+use Rattle.fab_reach_base.specs.fab_names.Fabrics.{fabric_text}
+use Rattle.fab_reach_base.specs.fab_names.WorldWideNames.{wwn_text}
 use Rattle.fab_reach_base.specs.declared.path.Path.{Path}
 use Rattle.fab_files.specs.Lines.{line_of}
 

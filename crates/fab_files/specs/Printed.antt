@@ -1,7 +1,7 @@
 -- The text that an answer is printed as.
 use Rattle.std.specs.Prelude.{ℕ, ◌≡◌, List, [], ◌∷◌, ◌++◌, Option, Some, None}
-use Rattle.fab_names.specs.declared.fabric.Fabric.{Fabric}
-use Rattle.fab_zoning.specs.declared.flag.DefaultFlag.{DefaultFlag}
+use Rattle.fab_reach_base.specs.fab_names.declared.fabric.Fabric.{Fabric}
+use Rattle.fab_reach_base.specs.fab_zoning.declared.flag.DefaultFlag.{DefaultFlag}
 use Rattle.fab_reach_base.specs.declared.path.Path.{Path}
 use Rattle.fab_wire_streams.specs.JsonText.{json_text}
 use Rattle.fab_desk_base.specs.declared.reply.ZoneMembers.{ZoneMembers}

@@ -2,13 +2,13 @@
 ghost use Rattle.std.specs.Prelude.{◌≡◌, ◌++◌};
 ghost use Rattle.fab_wire_streams.specs.Taking.{Takes};
 ghost use Rattle.fab_files.specs.ActiveSets.{active_lines, head_lines, zones_lines, zone_lines, member_line, set_name, flag_text, words_line};
-ghost use Rattle.fab_names.specs.declared.member.Member.{Member};
+ghost use Rattle.fab_reach_base.specs.fab_names.declared.member.Member.{Member};
 
 use fab_desk_base::ZoneMembers;
-use fab_names::{Fabric, Member, Name, Place};
+use fab_reach_base::names::{Fabric, Member, Name, Place};
+use fab_reach_base::zoning::DefaultFlag;
 use fab_wire_streams::sink::{Sink, put_all};
 use fab_wire_streams::streams::WriteFailed;
-use fab_zoning::DefaultFlag;
 use itoa::Buffer;
 use std::alloc::Allocator;
 

@@ -1,11 +1,11 @@
 //! How many paths lead to each volume over each fabric.
 ghost use Rattle.std.specs.Prelude.{◌≡◌, ◌<◌, ◌-◌, ◌^◌, IfOk, unwrap_or};
 ghost use Rattle.std.specs.BTreeMap.{get};
-ghost use Rattle.fab_names.specs.Orders.{name_cmp};
+ghost use Rattle.fab_reach_base.specs.fab_names.Orders.{name_cmp};
 ghost use Rattle.fab_files.specs.Counting.{AreCounted, none_counted, one_more};
 
-use fab_names::{Fabric, Name};
 use fab_reach_base::Path;
+use fab_reach_base::names::{Fabric, Name};
 use std::alloc::{AllocError, Allocator};
 use std::collections::BTreeMap;
 

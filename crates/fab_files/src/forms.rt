@@ -7,12 +7,12 @@ ghost use Rattle.fab_files.specs.Printed.{Prints};
 use crate::printing::PrintFault;
 use crate::{ReportFault, active_text, paths_csv, report};
 use fab_desk_base::{Reply, Shown, ZoneMembers};
-use fab_names::{Fabric, Name};
 use fab_reach_base::Path;
+use fab_reach_base::names::{Fabric, Name};
+use fab_reach_base::zoning::DefaultFlag;
 use fab_wire_answers::answers::{Answer, put_body};
 use fab_wire_streams::sink::Sink;
 use fab_wire_streams::streams::WriteFailed;
-use fab_zoning::DefaultFlag;
 use std::alloc::Global;
 
 /// In which form an answer is printed. What does not fit the form is printed as `Json`.

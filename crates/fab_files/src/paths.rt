@@ -3,8 +3,8 @@ ghost use Rattle.std.specs.Prelude.{[], ◌∷◌};
 ghost use Rattle.fab_wire_streams.specs.Taking.{Takes};
 ghost use Rattle.fab_files.specs.PathLists.{csv_line, csv_text, path_header, path_line, path_lines};
 
-use fab_names::Name;
 use fab_reach_base::Path;
+use fab_reach_base::names::Name;
 use fab_wire_streams::sink::{Sink, put_all};
 use fab_wire_streams::streams::WriteFailed;
 use itoa::Buffer;

@@ -6,8 +6,8 @@ ghost use Rattle.fab_files.specs.Counting.{entry_lines};
 
 use crate::columns::put_row;
 use crate::counts::{Counts, counts_of};
-use fab_names::Name;
 use fab_reach_base::Path;
+use fab_reach_base::names::Name;
 use fab_wire_streams::sink::Sink;
 use fab_wire_streams::streams::WriteFailed;
 use itoa::Buffer;

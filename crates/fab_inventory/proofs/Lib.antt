@@ -7,3 +7,5 @@ pub mod Steps
 pub mod Holdings
 pub mod Restoring
 pub mod Seating
+pub use Rattle.fab_lemmas.proofs as fab_lemmas
+pub use Rattle.fab_names.proofs as fab_names

@@ -12,6 +12,8 @@ mod limits;
 mod port;
 mod restore;
 
+pub use fab_lemmas as lemmas;
+pub use fab_names as names;
 pub use fault::{InventoryFault, InventoryLimit, RestoreFault};
 pub use holder::{Holder, HolderKind, Volume};
 pub use inventory::Inventory;

@@ -4,15 +4,15 @@ use Rattle.std.specs.Ordering.{nat_cmp}
 use Rattle.std.specs.Option.{option_and_then}
 use Rattle.std.specs.FinMap as map
 use Rattle.std.proofs.lemmas.List.Elements.{Contains-push_cases, Contains-append_left, Contains-push}
-use Rattle.fab_lemmas.specs.Lists.{IsListOf}
-use Rattle.fab_lemmas.proofs.SeenEntries.{entry_decides}
-use Rattle.fab_names.specs.Orders.{name_cmp}
-use Rattle.fab_names.proofs.OrderLaws.{name_total, name_exact}
-use Rattle.fab_inventory.specs.Holders.{Holds}
-use Rattle.fab_inventory.specs.declared.holder.HolderKind.TheVariants as kind
-use Rattle.fab_inventory.specs.declared.port.Known.{Known}
-use Rattle.fab_mapping_base.specs.Groups.{StorageGroupRows}
-use Rattle.fab_policy_base.specs.Policies.{PolicyRows}
+use Rattle.fab_reach_base.specs.fab_lemmas.Lists.{IsListOf}
+use Rattle.fab_reach_base.proofs.fab_lemmas.SeenEntries.{entry_decides}
+use Rattle.fab_reach_base.specs.fab_names.Orders.{name_cmp}
+use Rattle.fab_reach_base.proofs.fab_names.OrderLaws.{name_total, name_exact}
+use Rattle.fab_reach_base.specs.fab_inventory.Holders.{Holds}
+use Rattle.fab_reach_base.specs.fab_inventory.declared.holder.HolderKind.TheVariants as kind
+use Rattle.fab_reach_base.specs.fab_inventory.declared.port.Known.{Known}
+use Rattle.fab_reach_base.specs.fab_mapping_base.Groups.{StorageGroupRows}
+use Rattle.fab_policy.specs.fab_policy_base.Policies.{PolicyRows}
 use Rattle.fab_reach_base.specs.Adding.{Adds}
 use Rattle.fab_reach_base.proofs.Adding.{Before, adds_as, from_none}
 use Rattle.fab_world.specs.Worlds.{WorldRows}

@@ -9,11 +9,11 @@ use Rattle.std.specs.BTreeSet.{BTreeSet}
 use Rattle.std.specs.FinMap as fin
 use Rattle.std.specs.Map.{lookup, keys_of}
 use Rattle.std.proofs.lemmas.Map.Views.{Contains-from_lookup}
-use Rattle.fab_lemmas.proofs.SeenEntries.{entry_decides}
-use Rattle.fab_lemmas.proofs.SeenMaps.{looked_up}
-use Rattle.fab_lemmas.specs.MapsOfSets.{MapOfSets, seen_set, seen_sets}
-use Rattle.fab_names.specs.Orders.{name_cmp}
-use Rattle.fab_names.proofs.OrderLaws.{name_total, name_exact}
+use Rattle.fab_reach_base.proofs.fab_lemmas.SeenEntries.{entry_decides}
+use Rattle.fab_reach_base.proofs.fab_lemmas.SeenMaps.{looked_up}
+use Rattle.fab_reach_base.specs.fab_lemmas.MapsOfSets.{MapOfSets, seen_set, seen_sets}
+use Rattle.fab_reach_base.specs.fab_names.Orders.{name_cmp}
+use Rattle.fab_reach_base.proofs.fab_names.OrderLaws.{name_total, name_exact}
 use Rattle.fab_looks.specs.Inner.Entries.{HasKeys}
 
 -- what is there

@@ -5,13 +5,13 @@ use Rattle.std.specs.Ordering.{is_eq}
 use Rattle.std.specs.Cmp.{tied_itself}
 use Rattle.std.specs.Option.{option_map}
 use Rattle.std.specs.FinMap as map
-use Rattle.fab_names.specs.Orders.{name_cmp}
-use Rattle.fab_names.proofs.OrderLaws.{name_total}
-use Rattle.fab_names.specs.declared.fabric.Fabric.{Fabric}
-use Rattle.fab_inventory.specs.declared.holder.Holder.{Holder}
-use Rattle.fab_inventory.specs.declared.holder.HolderKind.{HolderKind}
-use Rattle.fab_inventory.specs.declared.holder.HolderKind.TheVariants as kind
-use Rattle.fab_inventory.specs.declared.port.Port.{Port}
+use Rattle.fab_reach_base.specs.fab_names.Orders.{name_cmp}
+use Rattle.fab_reach_base.proofs.fab_names.OrderLaws.{name_total}
+use Rattle.fab_reach_base.specs.fab_names.declared.fabric.Fabric.{Fabric}
+use Rattle.fab_reach_base.specs.fab_inventory.declared.holder.Holder.{Holder}
+use Rattle.fab_reach_base.specs.fab_inventory.declared.holder.HolderKind.{HolderKind}
+use Rattle.fab_reach_base.specs.fab_inventory.declared.holder.HolderKind.TheVariants as kind
+use Rattle.fab_reach_base.specs.fab_inventory.declared.port.Port.{Port}
 use Rattle.fab_reach_base.specs.Records.{Records}
 use Rattle.fab_looks_base.specs.Links.{IsLogin, HasLogin, IsExplained, IsMissing}
 use Rattle.fab_looks_base.specs.declared.explaining.Why.{Why}

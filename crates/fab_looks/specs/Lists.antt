@@ -3,8 +3,8 @@ use Rattle.std.specs.Prelude.{ℕ, ◌↔◌, List, IsTrue, IsSome}
 use Rattle.std.specs.BTreeSet.{BTreeSet, contains}
 use Rattle.std.specs.FinMap as map
 use Rattle.std.specs.Ordering.{nat_cmp}
-use Rattle.fab_inventory.specs.declared.holder.HolderKind.TheVariants as kind
-use Rattle.fab_policy_base.specs.Policies.{PolicyRows}
+use Rattle.fab_reach_base.specs.fab_inventory.declared.holder.HolderKind.TheVariants as kind
+use Rattle.fab_policy.specs.fab_policy_base.Policies.{PolicyRows}
 use Rattle.fab_world.specs.Worlds.{WorldRows}
 use Rattle.fab_desk_base.specs.Showing.{IsOpenTo}
 use Rattle.fab_desk_base.specs.Tenants.{Has}

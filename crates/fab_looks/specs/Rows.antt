@@ -2,9 +2,9 @@
 use Rattle.std.specs.Prelude.{ℕ, List, map}
 use Rattle.std.specs.List.{AllZip}
 use Rattle.std.specs.Ordering.{nat_cmp}
-use Rattle.fab_lemmas.specs.Lists.{IsListOf}
-use Rattle.fab_names.specs.Orders.{name_cmp}
-use Rattle.fab_policy_base.specs.Policies.{PolicyRows}
+use Rattle.fab_reach_base.specs.fab_lemmas.Lists.{IsListOf}
+use Rattle.fab_reach_base.specs.fab_names.Orders.{name_cmp}
+use Rattle.fab_policy.specs.fab_policy_base.Policies.{PolicyRows}
 use Rattle.fab_world.specs.Worlds.{WorldRows}
 use Rattle.fab_desk_base.specs.Showing.{IsOpenTo, Shows}
 use Rattle.fab_desk_base.specs.declared.command.Query.TheVariants as query

@@ -1,8 +1,8 @@
 -- Who reaches a volume, as a caller is told.
 use Rattle.std.specs.Prelude.{ℕ, ◌≡◌, List, Some}
 use Rattle.std.specs.BTreeMap.{BTreeMap, get}
-use Rattle.fab_names.specs.Orders.{name_cmp}
-use Rattle.fab_policy_base.specs.Policies.{PolicyRows}
+use Rattle.fab_reach_base.specs.fab_names.Orders.{name_cmp}
+use Rattle.fab_policy.specs.fab_policy_base.Policies.{PolicyRows}
 use Rattle.fab_world.specs.Worlds.{WorldRows, records_of}
 use Rattle.fab_looks_base.specs.Links.{IsReached}
 use Rattle.fab_looks_base.specs.Reachers.{IsReacher}

@@ -1,8 +1,8 @@
 -- Why a host reaches a volume, as a caller is told.
 use Rattle.std.specs.Prelude.{ℕ, List}
 use Rattle.std.specs.FinMap as map
-use Rattle.fab_inventory.specs.declared.holder.HolderKind.TheVariants as kind
-use Rattle.fab_policy_base.specs.Policies.{PolicyRows}
+use Rattle.fab_reach_base.specs.fab_inventory.declared.holder.HolderKind.TheVariants as kind
+use Rattle.fab_policy.specs.fab_policy_base.Policies.{PolicyRows}
 use Rattle.fab_reach_base.specs.Records.{Records}
 use Rattle.fab_world.specs.Worlds.{WorldRows, records_of}
 use Rattle.fab_desk_base.specs.Showing.{IsOpenTo}

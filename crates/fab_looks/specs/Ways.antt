@@ -2,10 +2,10 @@
 use Rattle.std.specs.Prelude.{ℕ, ◌≡◌, ◌⊎◌, ◌↔◌, List, Contains, Some}
 use Rattle.std.specs.List.{AllZip}
 use Rattle.std.specs.FinMap as map
-use Rattle.fab_inventory.specs.Holders.{Holds}
-use Rattle.fab_inventory.specs.declared.holder.HolderKind.TheVariants as kind
-use Rattle.fab_mapping_base.specs.Groups.{StorageGroupRows, MapsVolume}
-use Rattle.fab_policy_base.specs.Policies.{PolicyRows}
+use Rattle.fab_reach_base.specs.fab_inventory.Holders.{Holds}
+use Rattle.fab_reach_base.specs.fab_inventory.declared.holder.HolderKind.TheVariants as kind
+use Rattle.fab_reach_base.specs.fab_mapping_base.Groups.{StorageGroupRows, MapsVolume}
+use Rattle.fab_policy.specs.fab_policy_base.Policies.{PolicyRows}
 use Rattle.fab_world.specs.Worlds.{WorldRows}
 use Rattle.fab_desk_base.specs.Showing.{IsOpenTo, Shows}
 use Rattle.fab_desk_base.specs.declared.command.Query.{Query}

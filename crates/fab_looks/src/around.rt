@@ -9,9 +9,9 @@ use crate::rows::answers_to;
 use crate::way::add_open;
 use crate::zones::add_zones;
 use fab_desk_base::{Query, Shown};
-use fab_mapping::StorageGroup;
-use fab_names::{Name, Wwn};
 use fab_policy::{CallerId, Policy};
+use fab_reach_base::mapping::StorageGroup;
+use fab_reach_base::names::{Name, Wwn};
 use fab_world::World;
 use std::alloc::{AllocError, Allocator};
 

@@ -2,9 +2,9 @@
 ghost use Rattle.fab_reach_base.specs.Records.{zoning_at};
 ghost use Rattle.fab_looks.specs.Inner.Entries.{HasKeys};
 
-use fab_inventory::{Holder, Volume};
-use fab_mapping::{HostGroup, StorageGroup};
-use fab_names::{Fabric, Member, Name};
+use fab_reach_base::inventory::{Holder, Volume};
+use fab_reach_base::mapping::{HostGroup, StorageGroup};
+use fab_reach_base::names::{Fabric, Member, Name};
 use fab_world::{KeptPlan, World};
 use std::alloc::Allocator;
 use std::collections::BTreeSet;

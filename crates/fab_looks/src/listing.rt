@@ -11,9 +11,9 @@ use crate::entries::{
 };
 use fab_desk_base::Query;
 use fab_desk_reads::is_open_to;
-use fab_inventory::HolderKind;
-use fab_names::{Fabric, Name};
 use fab_policy::{CallerId, Policy};
+use fab_reach_base::inventory::HolderKind;
+use fab_reach_base::names::{Fabric, Name};
 use fab_world::World;
 use std::alloc::{AllocError, Allocator};
 use std::collections::BTreeSet;

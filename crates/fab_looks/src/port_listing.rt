@@ -2,7 +2,7 @@
 ghost use Rattle.std.specs.Prelude.{IfOk};
 ghost use Rattle.fab_looks.specs.Lists.{AreKnownPorts};
 
-use fab_names::Wwn;
+use fab_reach_base::names::Wwn;
 use fab_world::World;
 use std::alloc::{AllocError, Allocator};
 use std::collections::BTreeSet;

@@ -6,11 +6,11 @@ ghost use Rattle.fab_looks.specs.Inner.Seen.{AreSeen};
 
 use fab_desk_base::Query;
 use fab_desk_reads::is_open_to;
-use fab_inventory::HolderKind;
 use fab_looks_base::{Counts, who_reaches};
-use fab_names::Name;
 use fab_policy::{CallerId, Policy};
 use fab_reach_base::View;
+use fab_reach_base::inventory::HolderKind;
+use fab_reach_base::names::Name;
 use fab_world::World;
 use std::alloc::{AllocError, Allocator};
 use std::collections::BTreeMap;

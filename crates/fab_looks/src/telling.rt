@@ -4,11 +4,11 @@ ghost use Rattle.fab_looks.specs.Told.{untold, IsTold};
 
 use fab_desk_base::Query;
 use fab_desk_reads::is_open_to;
-use fab_inventory::HolderKind;
 use fab_looks_base::{Link, Why, explain};
-use fab_names::Name;
 use fab_policy::{CallerId, Policy};
 use fab_reach_base::View;
+use fab_reach_base::inventory::HolderKind;
+use fab_reach_base::names::Name;
 use fab_world::World;
 use std::alloc::{AllocError, Allocator};
 

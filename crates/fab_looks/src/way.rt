@@ -8,10 +8,10 @@ ghost use Rattle.fab_world.specs.Soundness.{IsSound};
 use crate::rows::answers_to;
 use fab_desk_base::{Query, Shown};
 use fab_desk_reads::is_open_to;
-use fab_inventory::HolderKind;
-use fab_mapping::StorageGroup;
-use fab_names::{Name, Wwn};
 use fab_policy::{CallerId, Policy};
+use fab_reach_base::inventory::HolderKind;
+use fab_reach_base::mapping::StorageGroup;
+use fab_reach_base::names::{Name, Wwn};
 use fab_world::World;
 use std::alloc::{AllocError, Allocator};
 

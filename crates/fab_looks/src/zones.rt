@@ -6,10 +6,10 @@ ghost use Rattle.fab_reach_base.specs.Adding.{Adds};
 
 use crate::listing::{Kind, list};
 use fab_desk_base::Query;
-use fab_names::{Fabric, Name, Wwn};
 use fab_policy::{CallerId, Policy};
+use fab_reach_base::names::{Fabric, Name, Wwn};
+use fab_reach_base::zoning::rows::PortZones;
 use fab_world::World;
-use fab_zoning_rows::PortZones;
 use std::alloc::{AllocError, Allocator};
 use std::collections::BTreeSet;
 

@@ -18,7 +18,7 @@ use Rattle.fab_names.specs.declared.fabric.Fabric.{Fabric}
 use Rattle.fab_policy_base.specs.Policies.{PolicyRows}
 use Rattle.fab_reach_base.specs.Records.{Records}
 use Rattle.fab_store_rows.specs.Differences.{IsDifference}
-use Rattle.fab_desk_machine.specs.fab_world.Worlds.{WorldRows, records_of}
+use Rattle.fab_world.specs.Worlds.{WorldRows, records_of}
 
 module _ {A R : Type 0} (leads : R → Records → Records → Type 0) (p : PolicyRows) (w : WorldRows) where
   -- what is foreseen is what would be made

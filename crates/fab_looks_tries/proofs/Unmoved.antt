@@ -14,7 +14,7 @@ use Rattle.fab_store_rows.specs.RowOrder.{row_order}
 use Rattle.fab_store_rows.specs.declared.config_row.ConfigRow.{ConfigRow}
 use Rattle.fab_store_rows.specs.declared.inventory_row.InventoryRow.TheVariants as row
 use Rattle.fab_store_world.specs.Inventories.{IsKnownOnlyIn, port_order}
-use Rattle.fab_desk_machine.specs.fab_world.Worlds.{WorldRows, records_of}
+use Rattle.fab_world.specs.Worlds.{WorldRows, records_of}
 
 nowhere : {k : ℕ} → ¬ (k < 0)
 nowhere h = omega (arith, h)

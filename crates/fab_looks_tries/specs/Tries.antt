@@ -16,7 +16,7 @@ use Rattle.fab_policy.specs.declared.act.Verdict.TheVariants.{Allowed}
 use Rattle.fab_policy_base.specs.Callers.{IsOnlyWith}
 use Rattle.fab_policy_base.specs.Policies.{CallerRow, PolicyRows}
 use Rattle.fab_store_rows.specs.Differences.{IsDifference}
-use Rattle.fab_desk_machine.specs.fab_world.Worlds.{WorldRows, records_of}
+use Rattle.fab_world.specs.Worlds.{WorldRows, records_of}
 
 -- one caller has the token, the policy allows what is asked, nothing refuses it, and this is the world
 -- that it makes; a dry run makes what the activation does

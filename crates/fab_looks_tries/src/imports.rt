@@ -9,8 +9,8 @@ ghost use Rattle.fab_looks_tries.specs.Hosts.{ArePathsMoved};
 ghost use Rattle.fab_looks_tries.specs.Ports.{ArePortsMoved};
 ghost use Rattle.fab_looks_tries.specs.Tries.{IsTriedImport};
 ghost use Rattle.fab_reach_base.specs.Records.{Records};
-ghost use Rattle.fab_desk_machine.specs.fab_world.Soundness.{IsSound};
-ghost use Rattle.fab_desk_machine.specs.fab_world.Worlds.{records_of};
+ghost use Rattle.fab_world.specs.Soundness.{IsSound};
+ghost use Rattle.fab_world.specs.Worlds.{records_of};
 
 use crate::paths::{PathsMoved, paths_moved};
 use crate::ports::{PortsMoved, count_listed, ports_moved};
@@ -18,11 +18,11 @@ use crate::rows::new_ports;
 use fab_desk_machine::base::{Command, DeskFault};
 use fab_desk_machine::foresee;
 use fab_desk_machine::trials::Prepared;
-use fab_desk_machine::world::World;
 use fab_inventory::PortRow;
 use fab_names::Fabric;
 use fab_policy_base::Policy;
 use fab_reach_books::PathBook;
+use fab_world::World;
 use std::alloc::{AllocError, Allocator};
 
 /// What the import of a port list would do.

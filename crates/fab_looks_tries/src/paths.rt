@@ -7,16 +7,16 @@ ghost use Rattle.fab_reach_base.specs.Books.{IsGained};
 ghost use Rattle.fab_reach_base.specs.Orders.{IsListOf};
 ghost use Rattle.fab_reach_base.specs.Records.{Records};
 ghost use Rattle.fab_reach_base.specs.Views.{seen};
-ghost use Rattle.fab_desk_machine.specs.fab_world.Worlds.{records_of};
+ghost use Rattle.fab_world.specs.Worlds.{records_of};
 
 use crate::hosts::losing_hosts;
 use crate::left::{Left, left_of};
 use crate::order::in_order;
 use fab_desk_machine::adopt;
-use fab_desk_machine::world::World;
 use fab_names::Name;
 use fab_reach_base::{Path, View};
 use fab_reach_books::PathBook;
+use fab_world::World;
 use std::alloc::{AllocError, Allocator};
 use std::collections::BTreeSet;
 

@@ -9,19 +9,19 @@ ghost use Rattle.fab_looks_tries.specs.Hosts.{ArePathsMoved};
 ghost use Rattle.fab_looks_tries.specs.Tries.{IsTriedPlan};
 ghost use Rattle.fab_reach_base.specs.Records.{Records};
 ghost use Rattle.fab_store_rows.specs.Differences.{IsDifference};
-ghost use Rattle.fab_desk_machine.specs.fab_world.Soundness.{IsSound};
-ghost use Rattle.fab_desk_machine.specs.fab_world.Worlds.{records_of};
+ghost use Rattle.fab_world.specs.Soundness.{IsSound};
+ghost use Rattle.fab_world.specs.Worlds.{records_of};
 
 use crate::paths::{PathsMoved, paths_moved};
 use crate::rows::config_rows;
 use fab_desk_machine::base::{Command, DeskFault};
 use fab_desk_machine::foresee;
 use fab_desk_machine::trials::Prepared;
-use fab_desk_machine::world::World;
 use fab_names::Name;
 use fab_policy_base::Policy;
 use fab_reach_books::PathBook;
 use fab_store_rows::RowDifference;
+use fab_world::World;
 use std::alloc::{AllocError, Allocator};
 
 /// What the activation of a plan would do.

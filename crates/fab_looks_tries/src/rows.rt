@@ -6,7 +6,7 @@ ghost use Rattle.fab_desk_machine.specs.fab_desk_trials.Trials.{EffectSuits, eff
 ghost use Rattle.fab_looks_tries.specs.Ports.{AreNewPorts};
 ghost use Rattle.fab_reach_base.specs.Records.{ConfigRows};
 ghost use Rattle.fab_store_rows.specs.Differences.{IsDifference};
-ghost use Rattle.fab_desk_machine.specs.fab_world.Worlds.{WorldRows};
+ghost use Rattle.fab_world.specs.Worlds.{WorldRows};
 
 use fab_desk_machine::commands::{Next, Turn, copied};
 use fab_desk_machine::trials::Effect;

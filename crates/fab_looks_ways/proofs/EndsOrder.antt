@@ -6,8 +6,8 @@ use Rattle.std.specs.BTreeSet.{BTreeSet, contains}
 use Rattle.std.specs.Cmp.{IsTotalOrder, nat_cmp_total}
 use Rattle.std.proofs.lemmas.Cmp.{on_total, then_total}
 use Rattle.std.specs.FinSet as set
-use Rattle.fab_names.specs.contracts.fabric.FabricOrd.TheImpl.Laws.{total-law}
-use Rattle.fab_names.specs.Orders.{fabric_cmp}
+use Rattle.fab_reach_base.specs.fab_names.contracts.fabric.FabricOrd.TheImpl.Laws.{total-law}
+use Rattle.fab_reach_base.specs.fab_names.Orders.{fabric_cmp}
 use Rattle.fab_reach_base.specs.Adding.{Adds}
 use Rattle.fab_reach_base.proofs.PathOrder.{both_equal, fabric_exact}
 use Rattle.fab_reach_base.proofs.Sets.{adds_insert}

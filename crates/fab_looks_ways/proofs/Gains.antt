@@ -4,11 +4,11 @@ use Rattle.std.specs.BTreeMap.{is_at}
 use Rattle.std.specs.BTreeSet.{BTreeSet, contains}
 use Rattle.std.specs.FinMap as map
 use Rattle.std.proofs.lemmas.Map.Views.{btree_set_contains_iff}
-use Rattle.fab_lemmas.proofs.SeenEntries.{entry_decides}
-use Rattle.fab_names.specs.Orders.{name_cmp}
-use Rattle.fab_names.proofs.OrderLaws.{name_total, name_exact}
-use Rattle.fab_mapping_base.specs.Groups.{StorageGroupRows}
-use Rattle.fab_policy_base.specs.Policies.{PolicyRows}
+use Rattle.fab_reach_base.proofs.fab_lemmas.SeenEntries.{entry_decides}
+use Rattle.fab_reach_base.specs.fab_names.Orders.{name_cmp}
+use Rattle.fab_reach_base.proofs.fab_names.OrderLaws.{name_total, name_exact}
+use Rattle.fab_reach_base.specs.fab_mapping_base.Groups.{StorageGroupRows}
+use Rattle.fab_policy.specs.fab_policy_base.Policies.{PolicyRows}
 use Rattle.fab_reach_base.specs.Adding.{Adds}
 use Rattle.fab_reach_base.proofs.Adding.{Before, adds_as, from_none}
 use Rattle.fab_reach_base.proofs.Sets.{adds_insert, none_in}

@@ -9,15 +9,15 @@ use Rattle.std.specs.BTreeSet.{BTreeSet}
 use Rattle.std.specs.FinSet as set
 use Rattle.std.specs.Option.{option_copied}
 use Rattle.std.proofs.lemmas.Map.Views.{btree_set_contains_iff}
-use Rattle.fab_lemmas.specs.MapsOfSets.{in_tree}
-use Rattle.fab_names.specs.Orders.{name_cmp}
-use Rattle.fab_names.specs.declared.fabric.Fabric.{Fabric}
-use Rattle.fab_names.proofs.OrderLaws.{name_total, name_exact}
-use Rattle.fab_inventory.specs.declared.port.Port.{Port}
-use Rattle.fab_zoning.specs.Zonings.{FabricZoning}
-use Rattle.fab_zoning_rows.specs.Holding.{Holds, IsLoggedInAt}
-use Rattle.fab_zoning_rows.specs.PortZones.{in_zones}
-use Rattle.fab_zoning_rows.specs.declared.port_zones.PortZones.{PortZones}
+use Rattle.fab_reach_base.specs.fab_lemmas.MapsOfSets.{in_tree}
+use Rattle.fab_reach_base.specs.fab_names.Orders.{name_cmp}
+use Rattle.fab_reach_base.specs.fab_names.declared.fabric.Fabric.{Fabric}
+use Rattle.fab_reach_base.proofs.fab_names.OrderLaws.{name_total, name_exact}
+use Rattle.fab_reach_base.specs.fab_inventory.declared.port.Port.{Port}
+use Rattle.fab_reach_base.specs.fab_zoning.Zonings.{FabricZoning}
+use Rattle.fab_reach_base.specs.fab_zoning_rows.Holding.{Holds, IsLoggedInAt}
+use Rattle.fab_reach_base.specs.fab_zoning_rows.PortZones.{in_zones}
+use Rattle.fab_reach_base.specs.fab_zoning_rows.declared.port_zones.PortZones.{PortZones}
 use Rattle.fab_reach_base.specs.Adding.{Adds}
 use Rattle.fab_reach_base.specs.Reach.{IsPort}
 use Rattle.fab_reach_base.specs.Records.{Records, zoning_at}

@@ -7,19 +7,19 @@ use Rattle.std.specs.List.{AllZip}
 use Rattle.std.specs.BTreeSet.{BTreeSet, contains}
 use Rattle.std.specs.FinMap as map
 use Rattle.std.specs.FinSet as set
-use Rattle.fab_lemmas.specs.Lists.{IsListOf}
-use Rattle.fab_names.specs.Orders.{name_cmp, fabric_cmp}
-use Rattle.fab_names.specs.declared.fabric.Fabric.{Fabric}
-use Rattle.fab_inventory.specs.Holders as holders
-use Rattle.fab_inventory.specs.declared.port.Port.{Port}
-use Rattle.fab_zoning.specs.Joins.{Joined, IsFirstZone, InDefaultZone}
-use Rattle.fab_zoning.specs.Zonings.{FabricZoning}
-use Rattle.fab_zoning_rows.specs.Holding.{Holds, IsLoggedInAt}
-use Rattle.fab_mapping_base.specs.Groups.{StorageGroupRows, MapsVolume}
+use Rattle.fab_reach_base.specs.fab_lemmas.Lists.{IsListOf}
+use Rattle.fab_reach_base.specs.fab_names.Orders.{name_cmp, fabric_cmp}
+use Rattle.fab_reach_base.specs.fab_names.declared.fabric.Fabric.{Fabric}
+use Rattle.fab_reach_base.specs.fab_inventory.Holders as holders
+use Rattle.fab_reach_base.specs.fab_inventory.declared.port.Port.{Port}
+use Rattle.fab_reach_base.specs.fab_zoning.Joins.{Joined, IsFirstZone, InDefaultZone}
+use Rattle.fab_reach_base.specs.fab_zoning.Zonings.{FabricZoning}
+use Rattle.fab_reach_base.specs.fab_zoning_rows.Holding.{Holds, IsLoggedInAt}
+use Rattle.fab_reach_base.specs.fab_mapping_base.Groups.{StorageGroupRows, MapsVolume}
 use Rattle.fab_reach_base.specs.Gathering.{Serves}
 use Rattle.fab_reach_base.specs.Reach.{IsPort}
 use Rattle.fab_reach_base.specs.Records.{Records, zoning_at}
-use Rattle.fab_policy_base.specs.Policies.{PolicyRows}
+use Rattle.fab_policy.specs.fab_policy_base.Policies.{PolicyRows}
 use Rattle.fab_world.specs.Worlds.{WorldRows, records_of}
 use Rattle.fab_desk_base.specs.Showing.{IsOpenTo}
 use Rattle.fab_desk_base.specs.declared.command.Query.TheVariants as query

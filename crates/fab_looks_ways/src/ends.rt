@@ -1,6 +1,6 @@
 //! The ends of a way through a fabric.
 
-use fab_names::{Fabric, Wwn};
+use fab_reach_base::names::{Fabric, Wwn};
 
 /// An initiator port and a target port, at a fabric.
 ///

@@ -4,17 +4,17 @@ ghost use Rattle.fab_looks_ways.specs.Inner.Gathering.{AreEndsOf, GroupEnds, Por
 ghost use Rattle.fab_looks_ways.specs.Pairs.{HasEnds, IsPair, IsUpAt};
 ghost use Rattle.fab_reach_base.specs.Adding.{Adds};
 ghost use Rattle.fab_world.specs.Worlds.{records_of};
-ghost use Rattle.fab_zoning_rows.specs.Holding.{IsLoggedInAt};
+ghost use Rattle.fab_reach_base.specs.fab_zoning_rows.Holding.{IsLoggedInAt};
 
 use crate::ends::Ends;
 use crate::groups::own_groups;
 use fab_desk_base::Query;
 use fab_desk_reads::is_open_to;
-use fab_inventory::{HolderKind, Port};
 use fab_looks_base::serves;
-use fab_mapping::StorageGroup;
-use fab_names::{Fabric, Name, Wwn};
 use fab_policy::{CallerId, Policy};
+use fab_reach_base::inventory::{HolderKind, Port};
+use fab_reach_base::mapping::StorageGroup;
+use fab_reach_base::names::{Fabric, Name, Wwn};
 use fab_world::World;
 use std::alloc::{AllocError, Allocator};
 use std::collections::BTreeSet;

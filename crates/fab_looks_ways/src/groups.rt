@@ -7,9 +7,9 @@ ghost use Rattle.fab_reach_base.specs.Adding.{Adds};
 
 use fab_desk_base::Query;
 use fab_desk_reads::is_open_to;
-use fab_mapping::StorageGroup;
-use fab_names::Name;
 use fab_policy::{CallerId, Policy};
+use fab_reach_base::mapping::StorageGroup;
+use fab_reach_base::names::Name;
 use fab_world::World;
 use std::alloc::{AllocError, Allocator};
 use std::collections::BTreeSet;

@@ -2,16 +2,16 @@
 ghost use Rattle.std.specs.Prelude.{◌≡◌, ◌↔◌, true, IsTrue, OnOk, IfOk};
 ghost use Rattle.std.specs.Ordering.{nat_cmp};
 ghost use Rattle.fab_desk_base.specs.Tenants.{Has};
-ghost use Rattle.fab_lemmas.specs.Lists.{IsListOf};
+ghost use Rattle.fab_reach_base.specs.fab_lemmas.Lists.{IsListOf};
 ghost use Rattle.fab_looks_ways.specs.Inner.Offers.{HasUnit, IsOfferOf};
 ghost use Rattle.fab_looks_ways.specs.Offers.{IsOffer, IsUnitAt, IsUnitOf, IsUnitOfSome};
-ghost use Rattle.fab_names.specs.Orders.{name_cmp};
+ghost use Rattle.fab_reach_base.specs.fab_names.Orders.{name_cmp};
 ghost use Rattle.fab_reach_base.specs.Adding.{Adds};
 ghost use Rattle.fab_reach_base.specs.Gathering.{Serves};
 
 use fab_looks_base::serves;
-use fab_mapping::{Mapping, StorageGroup};
-use fab_names::Name;
+use fab_reach_base::mapping::{Mapping, StorageGroup};
+use fab_reach_base::names::Name;
 use std::alloc::{AllocError, Allocator};
 use std::collections::BTreeSet;
 

@@ -7,13 +7,13 @@ ghost use Rattle.fab_looks_ways.specs.Pairs.{AreZonesOf, IsTie};
 ghost use Rattle.fab_reach_base.specs.Reach.{IsPort};
 ghost use Rattle.fab_reach_base.specs.Records.{zoning_at};
 ghost use Rattle.fab_world.specs.Worlds.{records_of};
-ghost use Rattle.fab_zoning_rows.specs.Holding.{IsLoggedInAt};
+ghost use Rattle.fab_reach_base.specs.fab_zoning_rows.Holding.{IsLoggedInAt};
 
 use crate::zoned::{Zoned, zoned_at};
-use fab_inventory::Port;
-use fab_names::{Fabric, Name, Wwn};
+use fab_reach_base::inventory::Port;
+use fab_reach_base::names::{Fabric, Name, Wwn};
+use fab_reach_base::zoning::Why;
 use fab_world::World;
-use fab_zoning::Why;
 use std::alloc::{AllocError, Allocator};
 use std::collections::BTreeMap;
 

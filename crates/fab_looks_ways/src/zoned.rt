@@ -2,19 +2,19 @@
 ghost use Rattle.std.specs.Prelude.{◌≡◌, ◌↔◌, ℕ, List, true, OnOk, IfOk};
 ghost use Rattle.std.specs.Option.{option_copied};
 ghost use Rattle.fab_desk_base.specs.Tenants.{Has};
-ghost use Rattle.fab_lemmas.specs.MapsOfSets.{in_tree};
+ghost use Rattle.fab_reach_base.specs.fab_lemmas.MapsOfSets.{in_tree};
 ghost use Rattle.fab_looks_ways.specs.Pairs as pairs;
 ghost use Rattle.fab_looks_ways.specs.Pairs.{AreZonesOf};
-ghost use Rattle.fab_names.specs.Orders.{name_cmp};
+ghost use Rattle.fab_reach_base.specs.fab_names.Orders.{name_cmp};
 ghost use Rattle.fab_reach_base.specs.Adding.{Adds};
 ghost use Rattle.fab_reach_base.specs.Records.{zoning_at};
-ghost use Rattle.fab_zoning_rows.specs.PortZones.{in_zones};
+ghost use Rattle.fab_reach_base.specs.fab_zoning_rows.PortZones.{in_zones};
 
 use crate::offers::listed;
-use fab_inventory::Port;
-use fab_names::{Fabric, Name};
+use fab_reach_base::inventory::Port;
+use fab_reach_base::names::{Fabric, Name};
+use fab_reach_base::zoning::rows::PortZones;
 use fab_world::World;
-use fab_zoning_rows::PortZones;
 use std::alloc::{AllocError, Allocator};
 use std::collections::BTreeSet;
 

@@ -9,8 +9,8 @@ use Rattle.std.specs.Map.{lookup}
 use Rattle.std.specs.BTreeMap.{is_at}
 use Rattle.std.specs.FinMap as map
 use Rattle.std.specs.FinSet as set
-use Rattle.fab_lemmas.proofs.Tests.{or_left}
-use Rattle.fab_lemmas.proofs.SeenMaps.{get_entries}
+use Rattle.fab_inventory.proofs.fab_lemmas.Tests.{or_left}
+use Rattle.fab_inventory.proofs.fab_lemmas.SeenMaps.{get_entries}
 
 module _ {K : Type 0} {R : K → K → Ordering} (o : IsTotalOrder R) where
   pub bare_set : (ks : List K) → length ks ≡ 0 → (x : K) → set.contains (set.from_list {R = R} ks) x ≡ false

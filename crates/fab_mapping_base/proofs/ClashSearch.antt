@@ -12,12 +12,12 @@ use Rattle.std.proofs.lemmas.Option.{slice_get_within, slice_get-get_or, get_or_
 use Rattle.std.specs.List.{slice_get, AllByRecursion, list_any}
 use Rattle.std.specs.Map.{keys_of}
 use Rattle.std.specs.List.Sorted.{IsStrictlySortedBy}
-use Rattle.fab_lemmas.specs.Firsts.{IsFirstWith}
-use Rattle.fab_lemmas.specs.Adding.{Adds, Among}
-use Rattle.fab_lemmas.specs.MapsOfSets.{in_tree}
-use Rattle.fab_lemmas.proofs.Leasts.{least_as}
-use Rattle.fab_names.specs.Orders.{name_cmp}
-use Rattle.fab_names.proofs.OrderLaws.{name_total, name_exact}
+use Rattle.fab_inventory.specs.fab_lemmas.Firsts.{IsFirstWith}
+use Rattle.fab_inventory.specs.fab_lemmas.Adding.{Adds, Among}
+use Rattle.fab_inventory.specs.fab_lemmas.MapsOfSets.{in_tree}
+use Rattle.fab_inventory.proofs.fab_lemmas.Leasts.{least_as}
+use Rattle.fab_inventory.specs.fab_names.Orders.{name_cmp}
+use Rattle.fab_inventory.proofs.fab_names.OrderLaws.{name_total, name_exact}
 use Rattle.fab_mapping_base.specs.declared.nexus.Nexus.{Nexus}
 use Rattle.fab_mapping_base.specs.Groups.{StorageGroupRows}
 use Rattle.fab_mapping_base.specs.Nexuses.{nexus_cmp}

@@ -5,11 +5,11 @@ use Rattle.std.specs.Ordering.{is_gt}
 use Rattle.std.specs.Cmp.{IsTotalOrder, tied_itself}
 use Rattle.std.specs.FinMap as map
 use Rattle.std.specs.FinSet as set
-use Rattle.fab_lemmas.specs.Firsts.{IsFirstOf}
-use Rattle.fab_lemmas.proofs.Adding.{Before}
-use Rattle.fab_lemmas.proofs.Leasts.{least_as}
-use Rattle.fab_lemmas.proofs.SeenEntries.{entry_decides}
-use Rattle.fab_lemmas.proofs.SeenSets.{listed_decides}
+use Rattle.fab_inventory.specs.fab_lemmas.Firsts.{IsFirstOf}
+use Rattle.fab_inventory.proofs.fab_lemmas.Adding.{Before}
+use Rattle.fab_inventory.proofs.fab_lemmas.Leasts.{least_as}
+use Rattle.fab_inventory.proofs.fab_lemmas.SeenEntries.{entry_decides}
+use Rattle.fab_inventory.proofs.fab_lemmas.SeenSets.{listed_decides}
 
 -- the item, and it is not as it should be
 abbrev pub Lacking : {X : Type 0} → (X → Type 0) → X → X → Type 0

@@ -10,5 +10,5 @@ pub mod SortedLists
 pub mod SameKeys
 mod Bares
 pub use Rattle.fab_inventory.proofs as fab_inventory
-pub use Rattle.fab_names.proofs as fab_names
-pub use Rattle.fab_lemmas.proofs as fab_lemmas
+pub use Rattle.fab_inventory.proofs.fab_names
+pub use Rattle.fab_inventory.proofs.fab_lemmas

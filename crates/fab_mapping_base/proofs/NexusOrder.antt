@@ -4,8 +4,8 @@ use Rattle.std.specs.declared.cmp.Ordering.{Ordering}
 use Rattle.std.specs.declared.cmp.Ordering.TheVariants.{Less, Equal, Greater}
 use Rattle.std.specs.Ordering.{nat_cmp, ordering_then, is_gt}
 use Rattle.std.specs.Cmp.{IsTotalOrder, then_total, on_total, nat_cmp_total, tied_itself}
-use Rattle.fab_names.specs.Orders.{name_cmp}
-use Rattle.fab_names.proofs.OrderLaws.{name_total}
+use Rattle.fab_inventory.specs.fab_names.Orders.{name_cmp}
+use Rattle.fab_inventory.proofs.fab_names.OrderLaws.{name_total}
 use Rattle.fab_mapping_base.specs.declared.nexus.Nexus.{Nexus}
 use Rattle.fab_mapping_base.specs.Nexuses.{nexus_cmp}
 

@@ -11,7 +11,7 @@ use Rattle.std.proofs.lemmas.Bool.{MatchBool-at_true}
 use Rattle.std.proofs.lemmas.Iterator.Search.{true_from_All}
 use Rattle.std.proofs.lemmas.List.Elements.{All-contains, All-contains_itself, All-from_all_within, All-weaker}
 use Rattle.std.proofs.lemmas.Map.Views.{Contains-from_any, All-from_any, tells_apart}
-use Rattle.fab_lemmas.proofs.SeenEntries.{entry_decides}
+use Rattle.fab_inventory.proofs.fab_lemmas.SeenEntries.{entry_decides}
 
 -- a search through all of a list answered whether each has P
 abbrev pub Answers : {X : Type 0} → (X → Type 0) → List X → Bool → Type 0

@@ -10,8 +10,8 @@ use Rattle.std.specs.List.Sorted.{IsStrictlySortedBy}
 use Rattle.std.specs.Map.{keys_of}
 use Rattle.std.proofs.lemmas.Bool.Decides.{Decides-eqb}
 use Rattle.std.proofs.lemmas.Slice.Eq.{slice_eq-Decides}
-use Rattle.fab_lemmas.proofs.SeenMaps.{entries_made}
-use Rattle.fab_lemmas.proofs.Tests.{both, left, right}
+use Rattle.fab_inventory.proofs.fab_lemmas.SeenMaps.{entries_made}
+use Rattle.fab_inventory.proofs.fab_lemmas.Tests.{both, left, right}
 use Rattle.fab_mapping_base.proofs.SortedLists.{same_sorted}
 
 module _ {K : Type 0} {R : K → K → Ordering} (o : IsTotalOrder R) (exact : set.IsAntisymmetric R) where

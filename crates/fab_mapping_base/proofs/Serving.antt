@@ -10,14 +10,14 @@ use Rattle.std.specs.FinSet as set
 use Rattle.std.specs.List.{slice_get}
 use Rattle.std.specs.Map.{lookup}
 use Rattle.std.proofs.lemmas.Bool.{cases_lt}
-use Rattle.fab_lemmas.specs.Adding.{Adds}
+use Rattle.fab_inventory.specs.fab_lemmas.Adding.{Adds}
 use Rattle.std.proofs.lemmas.Option.{slice_get_within}
 use Rattle.std.proofs.lemmas.List.Elements.{Contains-push_cases, Contains-append_left, Contains-push}
-use Rattle.fab_lemmas.specs.MapsOfSets.{in_tree}
-use Rattle.fab_lemmas.proofs.Adding.{Before, adds_as, adds_both}
-use Rattle.fab_lemmas.proofs.SeenSets.{listed_decides}
-use Rattle.fab_names.specs.Orders.{name_cmp}
-use Rattle.fab_names.proofs.OrderLaws.{name_total, name_exact}
+use Rattle.fab_inventory.specs.fab_lemmas.MapsOfSets.{in_tree}
+use Rattle.fab_inventory.proofs.fab_lemmas.Adding.{Before, adds_as, adds_both}
+use Rattle.fab_inventory.proofs.fab_lemmas.SeenSets.{listed_decides}
+use Rattle.fab_inventory.specs.fab_names.Orders.{name_cmp}
+use Rattle.fab_inventory.proofs.fab_names.OrderLaws.{name_total, name_exact}
 use Rattle.fab_mapping_base.specs.Groups.{HostGroupRows, StorageGroupRows, Names}
 use Rattle.std.proofs.lemmas.Map.Views.{btree_map_get_iff}
 use Rattle.fab_mapping_base.specs.Clashes.{HostGroups, IsExposed}

@@ -9,7 +9,7 @@ use Rattle.std.specs.FinSet as set
 use Rattle.std.specs.List.{list_any, AllByRecursion}
 use Rattle.std.specs.List.Sorted.{IsStrictlySortedBy}
 use Rattle.std.proofs.lemmas.Map.Keys.{sorted_head, sorted_tail}
-use Rattle.fab_lemmas.proofs.Tests.{or_true, or_right, or_left}
+use Rattle.fab_inventory.proofs.fab_lemmas.Tests.{or_true, or_right, or_left}
 
 module _ {K : Type 0} {R : K → K → Ordering} (o : IsTotalOrder R) (exact : set.IsAntisymmetric R) where
   abbrev is_in : List K → K → Bool

@@ -1,7 +1,7 @@
 -- The tests of soundness by numbers.
 use Rattle.std.proofs.Common.{ℕ, ◌≡◌, ◌<◌, ◌≤◌, true, nat_le, nat_lt, arith}
 use Rattle.std.specs.FinSet as set
-use Rattle.fab_lemmas.proofs.Tests.{within, from_within, from_below}
+use Rattle.fab_inventory.proofs.fab_lemmas.Tests.{within, from_within, from_below}
 use Rattle.fab_mapping_base.specs.declared.limits.TheConstants.{MOST_HOSTS}
 use Rattle.fab_mapping_base.specs.Groups.{HostGroupRows}
 use Rattle.fab_mapping_base.specs.Soundness.{IsSoundHostGroup}

@@ -11,10 +11,10 @@ use Rattle.std.specs.List.{AllByRecursion, list_any}
 use Rattle.std.specs.List.Sorted.{IsStrictlySortedBy}
 use Rattle.std.specs.Map.{lookup, keys_of}
 use Rattle.std.proofs.lemmas.Map.Keys.{sorted_head, sorted_tail}
-use Rattle.fab_lemmas.proofs.Tests.{or_true}
+use Rattle.fab_inventory.proofs.fab_lemmas.Tests.{or_true}
 use Rattle.std.proofs.lemmas.List.Elements.{Contains-append_left, Contains-append_right, Contains-push}
-use Rattle.fab_lemmas.proofs.SeenEntries.{entry_decides}
-use Rattle.fab_lemmas.proofs.Walks.{all_found, first_hit}
+use Rattle.fab_inventory.proofs.fab_lemmas.SeenEntries.{entry_decides}
+use Rattle.fab_inventory.proofs.fab_lemmas.Walks.{all_found, first_hit}
 
 some_or : {X : Type 0} (b : Bool) (v : X) (o : Option X) → is_some (cond b (Some v) o) ≡ (b || is_some o)
 some_or true v o = refl

@@ -5,9 +5,9 @@ use Rattle.std.specs.BTreeMap.{BTreeMap}
 use Rattle.std.specs.BTreeSet.{BTreeSet}
 use Rattle.std.specs.FinMap as map
 use Rattle.std.specs.FinSet as set
-use Rattle.fab_lemmas.specs.Firsts.{IsFirstOf}
-use Rattle.fab_lemmas.specs.MapsOfSets.{tree_has}
-use Rattle.fab_names.specs.Orders.{name_cmp}
+use Rattle.fab_inventory.specs.fab_lemmas.Firsts.{IsFirstOf}
+use Rattle.fab_inventory.specs.fab_lemmas.MapsOfSets.{tree_has}
+use Rattle.fab_inventory.specs.fab_names.Orders.{name_cmp}
 use Rattle.fab_mapping_base.specs.declared.limits.TheConstants.{MOST_STORAGE_GROUPS}
 use Rattle.fab_mapping_base.specs.declared.nexus.Nexus.{Nexus}
 use Rattle.fab_mapping_base.specs.Groups.{HostGroupRows, StorageGroupRows}

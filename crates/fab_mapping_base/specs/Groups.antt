@@ -4,9 +4,9 @@ use Rattle.std.specs.Coded.{Coded, code_by, coded×, coded_ℕ, coded_bool}
 use Rattle.std.specs.Ordering.{nat_cmp}
 use Rattle.std.specs.FinMap as map
 use Rattle.std.specs.FinSet as set
-use Rattle.fab_lemmas.specs.Room.{HasRoom, IsFullSet, SetHasRoom}
-use Rattle.fab_names.specs.Orders.{name_cmp}
-use Rattle.fab_names.specs.Codes.{name_code}
+use Rattle.fab_inventory.specs.fab_lemmas.Room.{HasRoom, IsFullSet, SetHasRoom}
+use Rattle.fab_inventory.specs.fab_names.Orders.{name_cmp}
+use Rattle.fab_inventory.specs.fab_names.Codes.{name_code}
 use Rattle.fab_mapping_base.specs.declared.limits.TheConstants.{MOST_GROUPS_SERVED, MOST_TARGETS, MOST_UNITS}
 use Rattle.fab_mapping_base.specs.declared.fault.MappingFault.{MappingFault}
 use Rattle.fab_mapping_base.specs.declared.fault.MappingFault.TheVariants.{UnitTaken, Limit, Memory}

@@ -6,5 +6,5 @@ pub mod Fitting
 pub mod ClashSearch
 pub mod Bare
 pub use Rattle.fab_inventory.specs as fab_inventory
-pub use Rattle.fab_names.specs as fab_names
-pub use Rattle.fab_lemmas.specs as fab_lemmas
+pub use Rattle.fab_inventory.specs.fab_names
+pub use Rattle.fab_inventory.specs.fab_lemmas

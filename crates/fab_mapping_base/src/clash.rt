@@ -6,9 +6,9 @@ ghost use Rattle.std.specs.List.{slice_get};
 ghost use Rattle.std.specs.Ordering.{nat_cmp};
 ghost use Rattle.std.specs.BTreeMap.{get};
 ghost use Rattle.std.specs.BTreeSet.{contains};
-ghost use Rattle.fab_lemmas.specs.Firsts.{IsFirstWith, lesser};
-ghost use Rattle.fab_lemmas.specs.Adding.{Among};
-ghost use Rattle.fab_names.specs.Orders.{name_cmp};
+ghost use Rattle.fab_inventory.specs.fab_lemmas.Firsts.{IsFirstWith, lesser};
+ghost use Rattle.fab_inventory.specs.fab_lemmas.Adding.{Among};
+ghost use Rattle.fab_inventory.specs.fab_names.Orders.{name_cmp};
 ghost use Rattle.fab_mapping_base.specs.Nexuses.{nexus_cmp};
 ghost use Rattle.fab_mapping_base.specs.Clashes.{AreAtOdds, Maps, IsLeastClashIn, HasNoClashIn};
 ghost use Rattle.fab_mapping_base.specs.ClashSearch.{IsShared, IsUnlike, MeetsTwo, IsLeastOf, MeetsAt, AreFine, MeetsIn};
@@ -16,7 +16,7 @@ ghost use Rattle.fab_mapping_base.specs.ClashSearch.{IsShared, IsUnlike, MeetsTw
 use crate::known_pairs::KnownPairs;
 use crate::served::{exposed_of, served_hosts};
 use crate::{HostGroup, Nexus, StorageGroup};
-use fab_names::{Name, Wwn};
+use fab_inventory::names::{Name, Wwn};
 use std::alloc::{AllocError, Allocator};
 use std::collections::{BTreeMap, BTreeSet};
 
@@ -79,7 +79,7 @@ fn clash_of<A: Allocator + Copy>(
 fn lesser(a: Option<Nexus>, b: Option<Nexus>) -> Option<Nexus>
     ensures { result ≡ lesser nexus_cmp a b }
 {
-    fab_lemmas::lesser(a, b)
+    fab_inventory::lemmas::lesser(a, b)
 }
 
 /// The storage group at a place.

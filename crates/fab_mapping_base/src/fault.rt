@@ -2,7 +2,7 @@
 ghost use Rattle.std.specs.Prelude.{◌≡◌};
 ghost use Rattle.fab_mapping_base.specs.declared.fault.MappingFault.TheVariants.{Memory};
 
-use fab_names::{Name, Wwn};
+use fab_inventory::names::{Name, Wwn};
 use std::alloc::{AllocError, AllocFailed};
 
 /// Why a change is refused. The mapping is then as it was.

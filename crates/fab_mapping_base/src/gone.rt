@@ -2,15 +2,15 @@
 ghost use Rattle.std.specs.Prelude.{◌≡◌, MatchOption};
 ghost use Rattle.std.specs.Ordering.{nat_cmp};
 ghost use Rattle.fab_inventory.specs.Inventories.{IsHost, IsArray};
-ghost use Rattle.fab_lemmas.specs.Firsts.{IsFirstOf};
-ghost use Rattle.fab_names.specs.Orders.{name_cmp};
+ghost use Rattle.fab_inventory.specs.fab_lemmas.Firsts.{IsFirstOf};
+ghost use Rattle.fab_inventory.specs.fab_names.Orders.{name_cmp};
 ghost use Rattle.fab_mapping_base.specs.Fitting.{IsPortOf, IsVolumeOn, LacksHost, LacksArray, LacksTarget, LacksVolume};
 
 use crate::look_ups::{is_array, is_host, is_port_of, is_volume_on};
 use crate::{HostGroup, StorageGroup};
 use fab_inventory::Inventory;
-use fab_lemmas::lesser;
-use fab_names::{Name, Wwn};
+use fab_inventory::lemmas::lesser;
+use fab_inventory::names::{Name, Wwn};
 use std::alloc::Allocator;
 
 /// What a mapping names and an inventory has not.

@@ -2,14 +2,14 @@
 ghost use Rattle.std.specs.Prelude.{◌≡◌, ℕ, List, false, IfOk, OnOk, OnErr, IsTrue, ◌↔◌};
 ghost use Rattle.std.specs.FinSet as set;
 ghost use Rattle.std.specs.List.Sorted.{IsStrictlySortedBy};
-ghost use Rattle.fab_names.specs.Orders.{name_cmp};
+ghost use Rattle.fab_inventory.specs.fab_names.Orders.{name_cmp};
 ghost use Rattle.fab_mapping_base.specs.Groups.{host_group_of};
 ghost use Rattle.fab_mapping_base.specs.Soundness.{IsSoundHostGroup};
 
 use crate::limits::MOST_HOSTS;
 use crate::same::are_same_names;
-use fab_lemmas::set_of;
-use fab_names::Name;
+use fab_inventory::lemmas::set_of;
+use fab_inventory::names::Name;
 use std::alloc::{AllocError, Allocator};
 use std::collections::BTreeSet;
 use std::collections::btree_set::Iter;

@@ -19,8 +19,7 @@ mod storage_group;
 
 pub use clash::{are_at_odds, least_clash};
 pub use fab_inventory as inventory;
-pub use fab_lemmas as lemmas;
-pub use fab_names as names;
+pub use fab_inventory::{lemmas, names};
 pub use fault::{MappingFault, MappingLimit};
 pub use gone::{Gone, gone_array, gone_host, gone_target, gone_volume};
 pub use host_group::HostGroup;

@@ -1,11 +1,11 @@
 //! What an inventory is asked: whose a name is, who holds a port, and on which array a volume is.
 ghost use Rattle.std.specs.Prelude.{◌≡◌, Some, IsTrue, ◌↔◌, All, MatchOption};
 ghost use Rattle.fab_inventory.specs.Inventories.{IsHost, IsArray};
-ghost use Rattle.fab_lemmas.specs.Firsts.{IsFirstWithout};
+ghost use Rattle.fab_inventory.specs.fab_lemmas.Firsts.{IsFirstWithout};
 ghost use Rattle.fab_mapping_base.specs.Fitting.{IsPortOf, IsVolumeOn};
 
+use fab_inventory::names::{Name, Wwn};
 use fab_inventory::{HolderKind, Inventory, Port};
-use fab_names::{Name, Wwn};
 use std::alloc::Allocator;
 
 /// Whether the name is a host's.

@@ -1,6 +1,6 @@
 //! Where a host meets a volume.
 
-use fab_names::{Name, Wwn};
+use fab_inventory::names::{Name, Wwn};
 
 /// A host, a target port and a logical unit number: where the host meets a volume (the I_T_L nexus
 /// of SCSI, with the host in the place of its initiator ports).

@@ -3,9 +3,9 @@ ghost use Rattle.std.specs.Prelude.{◌≡◌, ◌↔◌, IsTrue};
 ghost use Rattle.std.specs.FinMap as map;
 ghost use Rattle.std.specs.FinSet as set;
 ghost use Rattle.std.specs.Ordering.{nat_cmp};
-ghost use Rattle.fab_names.specs.Orders.{name_cmp};
+ghost use Rattle.fab_inventory.specs.fab_names.Orders.{name_cmp};
 
-use fab_names::{Name, Wwn};
+use fab_inventory::names::{Name, Wwn};
 use std::alloc::Allocator;
 use std::collections::{BTreeMap, BTreeSet};
 

@@ -2,14 +2,14 @@
 ghost use Rattle.std.specs.Prelude.{◌≡◌, ◌↔◌, ◌<◌, length, map, slice_get, Some, true, false, List, ℕ, OnOk, IfOk, Contains};
 ghost use Rattle.std.specs.FinSet as set;
 ghost use Rattle.std.specs.BTreeMap.{get};
-ghost use Rattle.fab_lemmas.specs.Adding.{Adds};
-ghost use Rattle.fab_names.specs.Orders.{name_cmp};
+ghost use Rattle.fab_inventory.specs.fab_lemmas.Adding.{Adds};
+ghost use Rattle.fab_inventory.specs.fab_names.Orders.{name_cmp};
 ghost use Rattle.fab_mapping_base.specs.Groups.{StorageGroupRows};
 ghost use Rattle.fab_mapping_base.specs.Clashes.{IsExposed};
 ghost use Rattle.fab_mapping_base.specs.ClashSearch.{ServesHost, ServesAt, lists};
 
 use crate::{HostGroup, StorageGroup};
-use fab_names::Name;
+use fab_inventory::names::Name;
 use std::alloc::{AllocError, Allocator};
 use std::collections::{BTreeMap, BTreeSet};
 

@@ -1,14 +1,14 @@
 //! Whether a host group or a storage group is sound, and fits an inventory.
 ghost use Rattle.std.specs.Prelude.{◌≡◌, IsTrue, ◌↔◌};
 ghost use Rattle.std.specs.BTreeMap.{get};
-ghost use Rattle.fab_names.specs.Orders.{name_cmp};
+ghost use Rattle.fab_inventory.specs.fab_names.Orders.{name_cmp};
 ghost use Rattle.fab_mapping_base.specs.Soundness.{HasKnownHosts, IsSoundGroup};
 ghost use Rattle.fab_mapping_base.specs.Fitting.{HasHosts, HasTargets, HasVolumes, GroupFits};
 
 use crate::look_ups::{is_array, is_host, is_port_of, is_volume_on};
 use crate::{HostGroup, StorageGroup};
 use fab_inventory::Inventory;
-use fab_names::Name;
+use fab_inventory::names::Name;
 use std::alloc::Allocator;
 use std::collections::BTreeMap;
 

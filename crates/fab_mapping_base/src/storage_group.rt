@@ -3,7 +3,7 @@ ghost use Rattle.std.specs.Prelude.{◌≡◌, IsTrue, ◌↔◌, OnOk, OnErr, I
 ghost use Rattle.std.specs.FinSet as set;
 ghost use Rattle.std.specs.List.Sorted.{IsStrictlySortedBy};
 ghost use Rattle.std.specs.Ordering.{nat_cmp};
-ghost use Rattle.fab_names.specs.Orders.{name_cmp};
+ghost use Rattle.fab_inventory.specs.fab_names.Orders.{name_cmp};
 ghost use Rattle.std.specs.FinMap as map;
 ghost use Rattle.fab_mapping_base.specs.ClashSearch.{MapsOther};
 ghost use Rattle.fab_mapping_base.specs.Soundness.{HasFewParts, HasUnitNumbers};
@@ -13,7 +13,7 @@ ghost use Rattle.fab_mapping_base.specs.Groups.{MapsVolume, new_storage_group, w
 use crate::limits::{LAST_UNIT, MOST_GROUPS_SERVED, MOST_TARGETS, MOST_UNITS};
 use crate::same::{are_same_names, are_same_ports, are_same_units};
 use crate::{MappingFault, MappingLimit};
-use fab_names::{Name, Wwn};
+use fab_inventory::names::{Name, Wwn};
 use std::alloc::{AllocError, Allocator};
 use std::collections::{BTreeMap, BTreeSet, btree_map, btree_set};
 use std::marker::Model;

@@ -3,17 +3,17 @@
 use Rattle.std.proofs.Common.{ℕ, ◌≡◌, ◌≤◌, inl, inr, List, length, Option, None, Some, is_some, true, false, refl, sym, ap, ◌∙◌, subst, arith}
 use Rattle.std.specs.FinMap as map
 use Rattle.std.specs.Option.{option_and_then}
-use Rattle.fab_inventory.specs.Inventories.{InventoryRows, IsHost}
-use Rattle.fab_inventory.specs.declared.port.Known.{Known}
-use Rattle.fab_inventory.specs.declared.holder.Volume.{Volume}
-use Rattle.fab_mapping_base.specs.declared.fault.MappingFault.{MappingFault}
-use Rattle.fab_mapping_base.specs.declared.fault.MappingFault.TheVariants as fault
-use Rattle.fab_mapping_base.specs.declared.fault.MappingLimit.TheVariants as limit
-use Rattle.fab_mapping_base.specs.declared.limits.TheConstants.{MOST_HOST_GROUPS}
-use Rattle.fab_mapping_base.specs.Groups.{StorageGroupRows}
-use Rattle.fab_mapping.specs.Mappings as base
-use Rattle.fab_mapping.specs.Mappings.{MappingRows, GroupHas, IsPortOf, IsVolumeOn}
-use Rattle.fab_plans_base.specs.Steps.{PlanStep, host_group_put, host_group_drop, group_host, group_unhost, group_target, group_untarget, group_map, group_unmap}
+use Rattle.fab_reach_base.specs.fab_inventory.Inventories.{InventoryRows, IsHost}
+use Rattle.fab_reach_base.specs.fab_inventory.declared.port.Known.{Known}
+use Rattle.fab_reach_base.specs.fab_inventory.declared.holder.Volume.{Volume}
+use Rattle.fab_reach_base.specs.fab_mapping_base.declared.fault.MappingFault.{MappingFault}
+use Rattle.fab_reach_base.specs.fab_mapping_base.declared.fault.MappingFault.TheVariants as fault
+use Rattle.fab_reach_base.specs.fab_mapping_base.declared.fault.MappingLimit.TheVariants as limit
+use Rattle.fab_reach_base.specs.fab_mapping_base.declared.limits.TheConstants.{MOST_HOST_GROUPS}
+use Rattle.fab_reach_base.specs.fab_mapping_base.Groups.{StorageGroupRows}
+use Rattle.fab_reach_base.specs.fab_mapping.Mappings as base
+use Rattle.fab_reach_base.specs.fab_mapping.Mappings.{MappingRows, GroupHas, IsPortOf, IsVolumeOn}
+use Rattle.fab_plans_kept.specs.fab_plans_base.Steps.{PlanStep, host_group_put, host_group_drop, group_host, group_unhost, group_target, group_untarget, group_map, group_unmap}
 use Rattle.fab_plans.specs.Checks.{PassesAll, IsFirstRefusal}
 use Rattle.fab_plans.specs.MappingSteps.{MappingFails, HasOtherVolume}
 use Rattle.fab_plans.specs.Telling.{IsFaultOf, TellsMapping}

@@ -8,7 +8,7 @@ use Rattle.std.specs.Cmp.{IsTotalOrder}
 use Rattle.std.specs.FinSet as set
 use Rattle.std.proofs.lemmas.List.{get_or-take, length-take}
 use Rattle.std.proofs.lemmas.Option.{slice_get_within, get_or_from_slice_get}
-use Rattle.fab_lemmas.specs.Firsts.{IsFirstWithout}
+use Rattle.fab_reach_base.specs.fab_lemmas.Firsts.{IsFirstWithout}
 use Rattle.fab_plans.specs.Checks.{Check, own_name, other_names, right_array, free_unit, no_user, room, place_of, Failures, IsFirstRefusal}
 use Rattle.fab_plans.specs.declared.fault.Refusal.{Refusal}
 use Rattle.fab_plans.proofs.Facts.{one_value}

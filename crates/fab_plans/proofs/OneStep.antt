@@ -3,23 +3,23 @@ use Rattle.std.proofs.Common.{◌≡◌, ℕ, List, [], Option, None, Some, Bool
 use Rattle.std.specs.declared.cmp.Ordering.{Ordering}
 use Rattle.std.specs.FinMap as map
 use Rattle.std.specs.FinSet as set
-use Rattle.fab_names.proofs.OrderLaws.{name_total, name_exact}
-use Rattle.fab_names.specs.Orders.{name_cmp}
-use Rattle.fab_names.specs.declared.fabric.Fabric.{Fabric}
-use Rattle.fab_names.specs.declared.member.Member.{Member}
-use Rattle.fab_names.specs.declared.member.Member.TheVariants as member
-use Rattle.fab_lemmas.specs.Firsts.{IsFirstWithout}
-use Rattle.fab_lemmas.specs.MapsOfSets.{MapOfSets, IsFirstUser}
-use Rattle.fab_inventory.specs.Inventories.{InventoryRows, IsHost}
-use Rattle.fab_zoning.specs.Resolved.{AreResolved}
-use Rattle.fab_zoning_rows.specs.Rows.{Rows}
-use Rattle.fab_zoning.specs.Steps.{HasAlias, HasZone}
-use Rattle.fab_zoning.specs.Zonings.{FabricZoning}
-use Rattle.fab_zoning_rows.proofs.RowSets.{row_total, row_exact}
-use Rattle.fab_mapping_base.specs.Groups.{StorageGroupRows, with_hosts, without_hosts, with_target, without_target, with_unit, without_unit, exposed_as}
-use Rattle.fab_mapping.specs.Mappings.{MappingRows, ChangesGroup, IsLeastServing}
+use Rattle.fab_reach_base.proofs.fab_names.OrderLaws.{name_total, name_exact}
+use Rattle.fab_reach_base.specs.fab_names.Orders.{name_cmp}
+use Rattle.fab_reach_base.specs.fab_names.declared.fabric.Fabric.{Fabric}
+use Rattle.fab_reach_base.specs.fab_names.declared.member.Member.{Member}
+use Rattle.fab_reach_base.specs.fab_names.declared.member.Member.TheVariants as member
+use Rattle.fab_reach_base.specs.fab_lemmas.Firsts.{IsFirstWithout}
+use Rattle.fab_reach_base.specs.fab_lemmas.MapsOfSets.{MapOfSets, IsFirstUser}
+use Rattle.fab_reach_base.specs.fab_inventory.Inventories.{InventoryRows, IsHost}
+use Rattle.fab_reach_base.specs.fab_zoning.Resolved.{AreResolved}
+use Rattle.fab_reach_base.specs.fab_zoning_rows.Rows.{Rows}
+use Rattle.fab_reach_base.specs.fab_zoning.Steps.{HasAlias, HasZone}
+use Rattle.fab_reach_base.specs.fab_zoning.Zonings.{FabricZoning}
+use Rattle.fab_reach_base.proofs.fab_zoning_rows.RowSets.{row_total, row_exact}
+use Rattle.fab_reach_base.specs.fab_mapping_base.Groups.{StorageGroupRows, with_hosts, without_hosts, with_target, without_target, with_unit, without_unit, exposed_as}
+use Rattle.fab_reach_base.specs.fab_mapping.Mappings.{MappingRows, ChangesGroup, IsLeastServing}
 use Rattle.fab_reach_base.specs.Records.{ConfigRows, zoning_at}
-use Rattle.fab_plans_base.specs.Steps.{PlanStep, alias_put, alias_drop, zone_put, zone_drop, set_put, set_drop, activate, deactivate, default_zone, host_group_put, host_group_drop, group_new, group_drop, group_host, group_unhost, group_target, group_untarget, group_map, group_unmap, group_expose, group_hide}
+use Rattle.fab_plans_kept.specs.fab_plans_base.Steps.{PlanStep, alias_put, alias_drop, zone_put, zone_drop, set_put, set_drop, activate, deactivate, default_zone, host_group_put, host_group_drop, group_new, group_drop, group_host, group_unhost, group_target, group_untarget, group_map, group_unmap, group_expose, group_hide}
 use Rattle.fab_plans.specs.Checks.{Check, own_name, other_names, right_array, free_unit, no_user, room, IsFirstRefusal}
 use Rattle.fab_plans.specs.MappingSteps.{MappingFails, MappingMakes}
 use Rattle.fab_plans.specs.Steps.{fabric_of, with_zoning, with_mapping, FailsIn, DoneIn, StepDone, StepRefused}

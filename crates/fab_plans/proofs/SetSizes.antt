@@ -6,7 +6,7 @@ use Rattle.std.specs.Ordering.{is_eq, eq_by_cmp}
 use Rattle.std.specs.Cmp.{IsTotalOrder, tied_itself}
 use Rattle.std.specs.List.{list_any}
 use Rattle.std.specs.FinSet as set
-use Rattle.fab_lemmas.proofs.Tests.{both, left, right, or_left}
+use Rattle.fab_reach_base.proofs.fab_lemmas.Tests.{both, left, right, or_left}
 
 module _ {K : Type 0} {R : K → K → Ordering} (o : IsTotalOrder R) where
   -- a set with a member is not empty

@@ -1,26 +1,26 @@
 -- A step on a part of a configuration is one on the configuration.
 use Rattle.std.proofs.Common.{◌≡◌, None, Some, Result, OnOk, IfErr, refl, sym, ap, ◌∙◌, subst}
-use Rattle.fab_names.specs.declared.fabric.Fabric.{Fabric}
-use Rattle.fab_names.specs.declared.fabric.Fabric.TheVariants.{A, B}
-use Rattle.fab_inventory.specs.Inventories.{InventoryRows}
-use Rattle.fab_zoning.specs.Soundness as zonings
-use Rattle.fab_zoning.specs.Zonings.{FabricZoning}
-use Rattle.fab_mapping.specs.Mappings.{MappingRows}
-use Rattle.fab_mapping.specs.Soundness as mappings
+use Rattle.fab_reach_base.specs.fab_names.declared.fabric.Fabric.{Fabric}
+use Rattle.fab_reach_base.specs.fab_names.declared.fabric.Fabric.TheVariants.{A, B}
+use Rattle.fab_reach_base.specs.fab_inventory.Inventories.{InventoryRows}
+use Rattle.fab_reach_base.specs.fab_zoning.Soundness as zonings
+use Rattle.fab_reach_base.specs.fab_zoning.Zonings.{FabricZoning}
+use Rattle.fab_reach_base.specs.fab_mapping.Mappings.{MappingRows}
+use Rattle.fab_reach_base.specs.fab_mapping.Soundness as mappings
 use Rattle.fab_reach_base.specs.Records.{ConfigRows, zoning_at}
 use Rattle.fab_reach_base.specs.Soundness.{IsSoundBeside}
-use Rattle.fab_plans_base.specs.Actions.{mapping_step}
-use Rattle.fab_plans_base.specs.Steps.{PlanStep, alias_put, alias_drop, zone_put, zone_drop, set_put, set_drop, activate, deactivate, default_zone}
-use Rattle.fab_plans_base.specs.declared.mapping_action.MappingAction.{MappingAction}
-use Rattle.fab_plans_base.specs.declared.mapping_action.MappingAction.TheVariants as mapping
+use Rattle.fab_plans_kept.specs.fab_plans_base.Actions.{mapping_step}
+use Rattle.fab_plans_kept.specs.fab_plans_base.Steps.{PlanStep, alias_put, alias_drop, zone_put, zone_drop, set_put, set_drop, activate, deactivate, default_zone}
+use Rattle.fab_plans_kept.specs.fab_plans_base.declared.mapping_action.MappingAction.{MappingAction}
+use Rattle.fab_plans_kept.specs.fab_plans_base.declared.mapping_action.MappingAction.TheVariants as mapping
 use Rattle.fab_plans.specs.MappingSteps.{MappingFails, MappingDone}
 use Rattle.fab_plans.specs.Steps.{fabric_of, with_zoning, with_mapping, FailsIn, DoneIn, StepDone}
 use Rattle.fab_plans.specs.Telling.{IsFaultOf}
 use Rattle.fab_plans.specs.ZoningSteps.{ZoningFails, ZoningMakes, ZoningDone}
 use Rattle.fab_plans.specs.declared.fault.StepFault.{StepFault}
 use Rattle.fab_plans.proofs.Facts.{on_both}
-use Rattle.fab_mapping.proofs.GroupChanges.{if_err}
-use Rattle.fab_mapping.proofs.GroupChanges.{on_ok}
+use Rattle.fab_reach_base.proofs.fab_mapping.GroupChanges.{if_err}
+use Rattle.fab_reach_base.proofs.fab_mapping.GroupChanges.{on_ok}
 
 -- a step of mapping is of no fabric
 pub of_no_fabric : {A : Type 0} (action : MappingAction A) → fabric_of (mapping_step action) ≡ None

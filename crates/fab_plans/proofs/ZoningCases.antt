@@ -4,22 +4,22 @@ use Rattle.std.proofs.Common.{ℕ, ◌≡◌, ◌≤◌, List, length, Option, N
 use mathlib.Core.Bool.{true≢false}
 use Rattle.std.specs.FinMap as map
 use Rattle.std.specs.FinSet as set
-use Rattle.fab_names.specs.declared.fabric.Fabric.{Fabric}
-use Rattle.fab_names.specs.declared.member.Member.{Member}
-use Rattle.fab_names.specs.declared.member.Member.TheVariants as member
-use Rattle.fab_names.specs.Orders.{name_cmp}
-use Rattle.fab_lemmas.specs.MapsOfSets.{in_set}
-use Rattle.fab_zoning.specs.declared.fault.ZoningFault.{ZoningFault}
-use Rattle.fab_zoning.specs.declared.fault.ZoningFault.TheVariants as fault
-use Rattle.fab_zoning.specs.declared.fault.ZoningLimit.TheVariants as limit
-use Rattle.fab_zoning_rows.specs.Limits.{most_rows}
-use Rattle.fab_zoning.specs.Limits.{most_zones, most_sets}
-use Rattle.fab_zoning_rows.specs.Rows.{Rows}
-use Rattle.fab_zoning.specs.Zonings.{FabricZoning}
-use Rattle.fab_zoning.specs.Resolved.{IsResolved, AreResolved, MoreThan}
-use Rattle.fab_zoning.specs.Steps as base
-use Rattle.fab_zoning_rows.proofs.RowSets.{row_total, row_exact}
-use Rattle.fab_plans_base.specs.Steps.{alias_put, alias_drop, zone_put, zone_drop, set_put, activate}
+use Rattle.fab_reach_base.specs.fab_names.declared.fabric.Fabric.{Fabric}
+use Rattle.fab_reach_base.specs.fab_names.declared.member.Member.{Member}
+use Rattle.fab_reach_base.specs.fab_names.declared.member.Member.TheVariants as member
+use Rattle.fab_reach_base.specs.fab_names.Orders.{name_cmp}
+use Rattle.fab_reach_base.specs.fab_lemmas.MapsOfSets.{in_set}
+use Rattle.fab_reach_base.specs.fab_zoning.declared.fault.ZoningFault.{ZoningFault}
+use Rattle.fab_reach_base.specs.fab_zoning.declared.fault.ZoningFault.TheVariants as fault
+use Rattle.fab_reach_base.specs.fab_zoning.declared.fault.ZoningLimit.TheVariants as limit
+use Rattle.fab_reach_base.specs.fab_zoning_rows.Limits.{most_rows}
+use Rattle.fab_reach_base.specs.fab_zoning.Limits.{most_zones, most_sets}
+use Rattle.fab_reach_base.specs.fab_zoning_rows.Rows.{Rows}
+use Rattle.fab_reach_base.specs.fab_zoning.Zonings.{FabricZoning}
+use Rattle.fab_reach_base.specs.fab_zoning.Resolved.{IsResolved, AreResolved, MoreThan}
+use Rattle.fab_reach_base.specs.fab_zoning.Steps as base
+use Rattle.fab_reach_base.proofs.fab_zoning_rows.RowSets.{row_total, row_exact}
+use Rattle.fab_plans_kept.specs.fab_plans_base.Steps.{alias_put, alias_drop, zone_put, zone_drop, set_put, activate}
 use Rattle.fab_plans.specs.Checks.{PassesAll, IsFirstRefusal}
 use Rattle.fab_plans.specs.ZoningSteps.{ZoningFails}
 use Rattle.fab_plans.specs.Telling.{IsFaultOf, TellsZoning}

@@ -5,3 +5,5 @@ pub mod Steps
 pub mod Outcomes
 pub mod Telling
 pub mod Plans
+pub use Rattle.fab_plans_kept.specs as fab_plans_kept
+pub use Rattle.fab_plans_kept.specs.fab_plans_base

@@ -2,13 +2,13 @@
 use Rattle.std.specs.Prelude.{ℕ, ◌≡◌, ◌≢◌, ◌≤◌, List, None, Some, true, false}
 use Rattle.std.specs.FinMap as map
 use Rattle.std.specs.FinSet as set
-use Rattle.fab_lemmas.specs.Firsts.{IsFirstWithout}
-use Rattle.fab_lemmas.specs.Room.{IsFull, IsFullSet}
-use Rattle.fab_inventory.specs.Inventories.{InventoryRows, IsHost, IsArray}
-use Rattle.fab_mapping_base.specs.declared.limits.TheConstants.{MOST_HOST_GROUPS, MOST_STORAGE_GROUPS, MOST_GROUPS_SERVED, MOST_TARGETS, MOST_UNITS}
-use Rattle.fab_mapping_base.specs.Groups.{StorageGroupRows, host_group_of, new_storage_group, with_hosts, without_hosts, with_target, without_target, with_unit, without_unit, exposed_as}
-use Rattle.fab_mapping.specs.Mappings.{MappingRows, IsLeastServing, GroupHas, ChangesGroup, IsPortOf, IsVolumeOn}
-use Rattle.fab_plans_base.specs.Steps.{PlanStep, host_group_put, host_group_drop, group_new, group_drop, group_host, group_unhost, group_target, group_untarget, group_map, group_unmap, group_expose, group_hide}
+use Rattle.fab_reach_base.specs.fab_lemmas.Firsts.{IsFirstWithout}
+use Rattle.fab_reach_base.specs.fab_lemmas.Room.{IsFull, IsFullSet}
+use Rattle.fab_reach_base.specs.fab_inventory.Inventories.{InventoryRows, IsHost, IsArray}
+use Rattle.fab_reach_base.specs.fab_mapping_base.declared.limits.TheConstants.{MOST_HOST_GROUPS, MOST_STORAGE_GROUPS, MOST_GROUPS_SERVED, MOST_TARGETS, MOST_UNITS}
+use Rattle.fab_reach_base.specs.fab_mapping_base.Groups.{StorageGroupRows, host_group_of, new_storage_group, with_hosts, without_hosts, with_target, without_target, with_unit, without_unit, exposed_as}
+use Rattle.fab_reach_base.specs.fab_mapping.Mappings.{MappingRows, IsLeastServing, GroupHas, ChangesGroup, IsPortOf, IsVolumeOn}
+use Rattle.fab_plans_kept.specs.fab_plans_base.Steps.{PlanStep, host_group_put, host_group_drop, group_new, group_drop, group_host, group_unhost, group_target, group_untarget, group_map, group_unmap, group_expose, group_hide}
 use Rattle.fab_plans.specs.Checks.{Check, own_name, other_names, right_array, free_unit, no_user, room, FailsWith, PassesAll}
 use Rattle.fab_plans.specs.declared.fault.Item.TheVariants as item
 use Rattle.fab_plans.specs.declared.fault.Refusal.{Refusal}

@@ -1,10 +1,10 @@
 -- The outcome of steps on a configuration beside an inventory.
 use Rattle.std.specs.Prelude.{ℕ, ◌≡◌, ◌+◌, ◌⊎◌, List, [], ◌∷◌, take, slice_get, Some}
-use Rattle.fab_inventory.specs.Inventories.{InventoryRows}
-use Rattle.fab_mapping_base.specs.declared.nexus.Nexus.{Nexus}
-use Rattle.fab_mapping.specs.Mappings.{IsLeastClash, HasNoClash}
+use Rattle.fab_reach_base.specs.fab_inventory.Inventories.{InventoryRows}
+use Rattle.fab_reach_base.specs.fab_mapping_base.declared.nexus.Nexus.{Nexus}
+use Rattle.fab_reach_base.specs.fab_mapping.Mappings.{IsLeastClash, HasNoClash}
 use Rattle.fab_reach_base.specs.Records.{ConfigRows}
-use Rattle.fab_plans_base.specs.Steps.{PlanStep}
+use Rattle.fab_plans_kept.specs.fab_plans_base.Steps.{PlanStep}
 use Rattle.fab_plans.specs.Steps.{StepDone, StepRefused}
 use Rattle.fab_plans.specs.declared.fault.Refusal.{Refusal}
 use Rattle.fab_plans.specs.declared.fault.Refusal.TheVariants.{Clash}

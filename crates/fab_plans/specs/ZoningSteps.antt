@@ -2,16 +2,16 @@
 use Rattle.std.specs.Prelude.{ℕ, ◌≡◌, List, None, Some, false}
 use Rattle.std.specs.FinMap as map
 use Rattle.std.specs.FinSet as set
-use Rattle.fab_names.specs.declared.member.Member.TheVariants as member
-use Rattle.fab_lemmas.specs.Firsts.{IsFirstWithout}
-use Rattle.fab_lemmas.specs.MapsOfSets.{IsFirstUser}
-use Rattle.fab_lemmas.specs.Room.{IsFull}
-use Rattle.fab_zoning_rows.specs.Limits.{most_rows}
-use Rattle.fab_zoning.specs.Limits.{most_aliases, most_zones, most_sets}
-use Rattle.fab_zoning.specs.Resolved.{IsResolved, AreResolved, MoreThan}
-use Rattle.fab_zoning.specs.Steps.{HasAlias, HasZone}
-use Rattle.fab_zoning.specs.Zonings.{FabricZoning}
-use Rattle.fab_plans_base.specs.Steps.{PlanStep, alias_put, alias_drop, zone_put, zone_drop, set_put, set_drop, activate, deactivate, default_zone}
+use Rattle.fab_reach_base.specs.fab_names.declared.member.Member.TheVariants as member
+use Rattle.fab_reach_base.specs.fab_lemmas.Firsts.{IsFirstWithout}
+use Rattle.fab_reach_base.specs.fab_lemmas.MapsOfSets.{IsFirstUser}
+use Rattle.fab_reach_base.specs.fab_lemmas.Room.{IsFull}
+use Rattle.fab_reach_base.specs.fab_zoning_rows.Limits.{most_rows}
+use Rattle.fab_reach_base.specs.fab_zoning.Limits.{most_aliases, most_zones, most_sets}
+use Rattle.fab_reach_base.specs.fab_zoning.Resolved.{IsResolved, AreResolved, MoreThan}
+use Rattle.fab_reach_base.specs.fab_zoning.Steps.{HasAlias, HasZone}
+use Rattle.fab_reach_base.specs.fab_zoning.Zonings.{FabricZoning}
+use Rattle.fab_plans_kept.specs.fab_plans_base.Steps.{PlanStep, alias_put, alias_drop, zone_put, zone_drop, set_put, set_drop, activate, deactivate, default_zone}
 use Rattle.fab_plans.specs.Checks.{Check, own_name, other_names, no_user, room, FailsWith, PassesAll}
 use Rattle.fab_plans.specs.declared.fault.Item.TheVariants as item
 use Rattle.fab_plans.specs.declared.fault.Refusal.{Refusal}

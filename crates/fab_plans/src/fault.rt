@@ -1,7 +1,7 @@
 //! Why a step of a plan, or a plan as a whole, is refused.
 
-use fab_mapping::Nexus;
-use fab_names::{Name, Wwn};
+use fab_reach_base::mapping::Nexus;
+use fab_reach_base::names::{Name, Wwn};
 
 /// What a refusal names.
 #[derive(Clone, Copy, Debug, PartialEq, Eq, Drop)]

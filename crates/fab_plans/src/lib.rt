@@ -10,12 +10,13 @@ mod plan;
 mod states;
 mod zoning_steps;
 
-pub use fab_plans_kept::PlanText;
-pub use fab_plans_text::{
+pub use fab_plans_kept as kept;
+pub use fab_plans_kept::texts::{
     Action, Keyword, LAST_UNIT, MOST_BYTES, MOST_ITEMS, MOST_STEPS, MappingAction, MappingKeyword,
     PlanFault, PlanFaultKind, Step, ZoningAction, ZoningKeyword, is_within_limits, print_plan,
     read_plan,
 };
+pub use fab_plans_kept::{PlanText, base, texts};
 pub use fault::{Item, Refusal, StepLimit, TrialFault};
 pub use outcome::trial;
 pub use plan::{ApprovalFault, Plan};

@@ -9,10 +9,10 @@ use crate::fault::StepFault;
 use crate::mapping_steps::take_mapping_step;
 use crate::zoning_steps::{fabric, take_zoning_step};
 use crate::{Refusal, TrialFault};
-use fab_inventory::Inventory;
-use fab_names::Fabric;
-use fab_plans_base::{Action, Step};
+use fab_plans_kept::base::{Action, Step};
 use fab_reach_base::Config;
+use fab_reach_base::inventory::Inventory;
+use fab_reach_base::names::Fabric;
 use std::alloc::Allocator;
 
 /// Does a step on a configuration.

@@ -1,20 +1,20 @@
 //! The steps of zoning.
 ghost use Rattle.std.specs.Prelude.{◌≡◌, Some, OnOk, IfErr, ⊤};
-ghost use Rattle.fab_zoning.specs.Soundness.{IsSound};
-ghost use Rattle.fab_plans_base.specs.Actions as actions;
-ghost use Rattle.fab_plans_base.specs.Plans.{IsStep};
+ghost use Rattle.fab_reach_base.specs.fab_zoning.Soundness.{IsSound};
+ghost use Rattle.fab_plans_kept.specs.fab_plans_base.Actions as actions;
+ghost use Rattle.fab_plans_kept.specs.fab_plans_base.Plans.{IsStep};
 ghost use Rattle.fab_plans.specs.Steps.{fabric_of};
 ghost use Rattle.fab_plans.specs.Telling.{IsFaultOf, TellsZoning};
 ghost use Rattle.fab_plans.specs.ZoningSteps.{ZoningDone, ZoningFails};
-ghost use Rattle.fab_zoning.specs.declared.fault.ZoningFault.TheVariants as zoning;
+ghost use Rattle.fab_reach_base.specs.fab_zoning.declared.fault.ZoningFault.TheVariants as zoning;
 ghost use Rattle.fab_plans.specs.declared.fault.StepFault.TheVariants.{Refused};
 ghost use Rattle.fab_plans.specs.declared.fault.Refusal.TheVariants as refusal;
 
 use crate::fault::StepFault;
 use crate::{Item, Refusal, StepLimit};
-use fab_names::Fabric;
-use fab_plans_base::ZoningAction;
-use fab_zoning::{Zoning, ZoningFault, ZoningLimit};
+use fab_plans_kept::base::ZoningAction;
+use fab_reach_base::names::Fabric;
+use fab_reach_base::zoning::{Zoning, ZoningFault, ZoningLimit};
 use std::alloc::Allocator;
 
 /// The fabric whose zoning the step is of.

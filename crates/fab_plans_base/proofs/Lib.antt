@@ -1,1 +1,2 @@
 pub mod Rebuilt
+pub use Rattle.fab_zoning.proofs as fab_zoning

@@ -6,3 +6,4 @@ pub mod Actions
 pub mod Forms
 pub mod Plans
 pub mod Parts
+pub use Rattle.fab_zoning.specs as fab_zoning

@@ -14,6 +14,7 @@ mod step;
 mod zoning_action;
 mod zoning_keyword;
 
+pub use fab_zoning as zoning;
 pub use keyword::Keyword;
 pub use limits::{LAST_UNIT, MOST_BYTES, MOST_ITEMS, MOST_STEPS};
 pub use mapping_action::MappingAction;

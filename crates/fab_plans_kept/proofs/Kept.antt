@@ -3,9 +3,9 @@ use Rattle.std.proofs.Common.{◌≡◌, ◌↔◌, ℕ, List, [], Bool, IsTrue,
 use Rattle.std.specs.Bool.{Decides}
 use Rattle.std.specs.Cmp.Lexicographic.{pointwise}
 use Rattle.std.proofs.lemmas.Slice.Eq.{bytes_eq-Decides}
-use Rattle.fab_plans_base.specs.Texts.{lines_of}
-use Rattle.fab_plans_base.specs.Steps.{PlanStep}
-use Rattle.fab_plans_base.specs.Plans.{SpellsLines, IsWithinLimits, Spells, plan_text}
+use Rattle.fab_plans_text.specs.fab_plans_base.Texts.{lines_of}
+use Rattle.fab_plans_text.specs.fab_plans_base.Steps.{PlanStep}
+use Rattle.fab_plans_text.specs.fab_plans_base.Plans.{SpellsLines, IsWithinLimits, Spells, plan_text}
 use Rattle.fab_plans_kept.specs.Texts.{IsKeptFor, HasSteps, HasSteps-prop, no_steps, kept_once}
 
 -- the steps that there are are those that it is kept for

@@ -5,9 +5,9 @@ use mathlib.Core.Logic.{inl, inr}
 use Rattle.fab_names.specs.Codes.{name_code, fabric_code, member_code}
 use Rattle.fab_names.specs.declared.fabric.Fabric.{Fabric}
 use Rattle.fab_names.specs.declared.member.Member.{Member}
-use Rattle.fab_zoning.specs.Zonings.{flag_code}
-use Rattle.fab_zoning.specs.declared.flag.DefaultFlag.{DefaultFlag}
-use Rattle.fab_plans_base.specs.Steps.{PlanStep, alias_put, alias_drop, zone_put, zone_drop, set_put, set_drop, activate, deactivate, default_zone, host_group_put, host_group_drop, group_new, group_drop, group_host, group_unhost, group_target, group_untarget, group_map, group_unmap, group_expose, group_hide}
+use Rattle.fab_plans_text.specs.fab_zoning.Zonings.{flag_code}
+use Rattle.fab_plans_text.specs.fab_zoning.declared.flag.DefaultFlag.{DefaultFlag}
+use Rattle.fab_plans_text.specs.fab_plans_base.Steps.{PlanStep, alias_put, alias_drop, zone_put, zone_drop, set_put, set_drop, activate, deactivate, default_zone, host_group_put, host_group_drop, group_new, group_drop, group_host, group_unhost, group_target, group_untarget, group_map, group_unmap, group_expose, group_hide}
 
 abbrev pub Name : Type 0
 Name = List ℕ

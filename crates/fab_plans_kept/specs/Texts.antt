@@ -4,9 +4,9 @@ use Rattle.std.proofs.Common.{refl, sym, ◌∙◌, subst, inl, inr}
 use base.Stored.{Coded-set, coded_list}
 use mathlib.Core.HLevel.{Σ_prop_path}
 use mathlib.Core.Logic.{∥∥₁_elim, ∥∥₁_prop}
-use Rattle.fab_plans_base.specs.Texts.{lines_of}
-use Rattle.fab_plans_base.specs.Steps.{PlanStep}
-use Rattle.fab_plans_base.specs.Plans.{SpellsLines, Spells, plan_text}
+use Rattle.fab_plans_text.specs.fab_plans_base.Texts.{lines_of}
+use Rattle.fab_plans_text.specs.fab_plans_base.Steps.{PlanStep}
+use Rattle.fab_plans_text.specs.fab_plans_base.Plans.{SpellsLines, Spells, plan_text}
 use Rattle.fab_plans_text.proofs.Unique.{one_plan}
 use Rattle.fab_plans_kept.specs.Codes.{step_code}
 

@@ -5,4 +5,6 @@
 mod printed;
 mod text;
 
+pub use fab_plans_text as texts;
+pub use fab_plans_text::base;
 pub use text::PlanText;

@@ -1,7 +1,7 @@
 //! The steps of plans from their texts.
 ghost use Rattle.std.specs.Prelude.{◌≡◌, List, MatchOption, IfOk, IsTrue, ◌↔◌};
-ghost use Rattle.fab_plans_base.specs.Steps.{PlanStep};
-ghost use Rattle.fab_plans_base.specs.Plans.{plan_text};
+ghost use Rattle.fab_plans_text.specs.fab_plans_base.Steps.{PlanStep};
+ghost use Rattle.fab_plans_text.specs.fab_plans_base.Plans.{plan_text};
 ghost use Rattle.fab_plans_kept.specs.Texts.{IsTextOf};
 
 use fab_plans_text::{PlanFaultKind, Step, print_plan, read_plan};

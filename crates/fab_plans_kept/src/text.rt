@@ -1,8 +1,8 @@
 //! The steps of a plan, kept as their printed form.
 ghost use Rattle.std.specs.Prelude.{◌≡◌, ◌↔◌, List, [], IsTrue, IfOk, MatchOption};
 ghost use Rattle.std.specs.String.{string_bytes};
-ghost use Rattle.fab_plans_base.specs.Steps.{PlanStep};
-ghost use Rattle.fab_plans_base.specs.Plans.{IsWithinLimits, Spells, plan_text};
+ghost use Rattle.fab_plans_text.specs.fab_plans_base.Steps.{PlanStep};
+ghost use Rattle.fab_plans_text.specs.fab_plans_base.Plans.{IsWithinLimits, Spells, plan_text};
 ghost use Rattle.fab_plans_kept.specs.Texts.{IsTextOf, IsKeptFor, HasSteps, HasSteps-prop};
 
 use crate::printed::steps_of;
@@ -29,7 +29,7 @@ impl<A: Allocator + Copy> Drop for PlanText<A> {
 impl<A: Allocator + Copy> Model for PlanText<A> {
     ghost use Rattle.std.specs.Prelude.{List};
     ghost use Rattle.std.specs.String.{string_bytes};
-    ghost use Rattle.fab_plans_base.specs.Steps.{PlanStep};
+    ghost use Rattle.fab_plans_text.specs.fab_plans_base.Steps.{PlanStep};
     ghost use Rattle.fab_plans_kept.specs.Texts.{IsKeptFor};
 
     ghost Value = { List PlanStep };

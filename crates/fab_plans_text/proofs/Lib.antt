@@ -7,3 +7,4 @@ pub mod Excluded
 pub mod Printed
 pub mod Words
 pub mod Measures
+pub use Rattle.fab_plans_base.proofs as fab_plans_base

@@ -19,7 +19,7 @@ use Rattle.fab_names.proofs.Copies.{and_right}
 use Rattle.fab_names.proofs.Numerals.{printed_number, all_digits}
 use Rattle.fab_names.proofs.Printed.{printed_spells, wwn_fits, member_again}
 use Rattle.fab_names.proofs.Splits.{Lacks}
-use Rattle.fab_zoning.specs.declared.flag.DefaultFlag.TheVariants.{Permit, Deny}
+use Rattle.fab_plans_base.specs.fab_zoning.declared.flag.DefaultFlag.TheVariants.{Permit, Deny}
 use Rattle.fab_plans_base.specs.Texts.{lines_of, words_of}
 use Rattle.fab_plans_base.specs.Values.{Value, of_fabric, of_name, of_flag, of_member, of_port_member, of_wwn, of_unit, value_text, SpellsValue, SpellsValues}
 use Rattle.fab_plans_base.specs.Steps.{PlanStep}

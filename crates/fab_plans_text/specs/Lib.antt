@@ -1,1 +1,3 @@
 pub mod Faults
+pub use Rattle.fab_plans_base.specs as fab_plans_base
+pub use Rattle.fab_plans_base.specs.fab_zoning

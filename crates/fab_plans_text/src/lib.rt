@@ -14,9 +14,10 @@ mod print;
 mod word;
 mod zoning_line;
 
+pub use fab_plans_base as base;
 pub use fab_plans_base::{
     Action, Keyword, LAST_UNIT, MOST_BYTES, MOST_ITEMS, MOST_STEPS, MappingAction, MappingKeyword,
-    Step, ZoningAction, ZoningKeyword,
+    Step, ZoningAction, ZoningKeyword, zoning,
 };
 pub use fault::{PlanFault, PlanFaultKind};
 pub use measure::is_within_limits;

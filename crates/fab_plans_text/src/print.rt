@@ -9,7 +9,7 @@ ghost use Rattle.fab_plans_base.specs.Plans.{spaced, step_text, plan_text, IsSte
 
 use crate::{Action, MappingAction, Step, ZoningAction};
 use fab_names::{Member, Name};
-use fab_zoning::DefaultFlag;
+use fab_plans_base::zoning::DefaultFlag;
 use std::alloc::{AllocError, Allocator};
 use std::fmt::Write;
 

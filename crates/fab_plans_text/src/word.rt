@@ -5,7 +5,7 @@ ghost use Rattle.fab_plans_text.specs.Faults.{IsMisread, IsFirstFault, MemoryOr}
 
 use crate::{LAST_UNIT, PlanFaultKind};
 use fab_names::{Fabric, Member, Name, Wwn, read_number};
-use fab_zoning::DefaultFlag;
+use fab_plans_base::zoning::DefaultFlag;
 use std::alloc::Allocator;
 
 /// Reads a fabric.

@@ -11,3 +11,4 @@ pub mod Windows
 pub mod Verdicts
 pub mod Needs
 pub mod Found
+pub use Rattle.fab_policy_base.specs as fab_policy_base

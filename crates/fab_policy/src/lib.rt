@@ -12,6 +12,7 @@ mod window;
 
 pub use act::{Act, Approval, Need, PlanApprovals, Verdict};
 pub use approvals::counts;
+pub use fab_policy_base as base;
 pub use fab_policy_base::{
     Action, Caller, CallerId, Freeze, Key, Policy, PolicyFault, Quorum, Rule, Scope, Tenants, Text,
     WEEK_MINUTES, WeekSpan, Window, limits,

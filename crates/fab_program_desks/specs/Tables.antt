@@ -11,7 +11,7 @@ use Rattle.sqlite_store.specs.declared.store.FileStore.{FileStore}
 use Rattle.fab_program_loading.specs.fab_store.Laws.{Leaves}
 use Rattle.fab_program_loading.specs.fab_store.declared.OpenFault.{OpenFault}
 use Rattle.fab_program_loading.specs.fab_store.fab_store_base.Calls.{MigratesNot}
-use Rattle.fab_program_loading.specs.fab_store.fab_store_migration.Migrations.{IsKnown, IsOld}
+use Rattle.fab_store_migration.specs.Migrations.{IsKnown, IsOld}
 use Rattle.fab_store_schema.specs.Trees.{tables_of}
 use Rattle.fab_store_tables.specs.Tables.{Tables}
 use Rattle.fab_store_tables.specs.Versions.{IsMigrated}

@@ -7,8 +7,8 @@ use Rattle.fab_desk_base.specs.declared.command.Command.TheVariants as command
 use Rattle.fab_desk_base.specs.declared.fault.DeskFault.{DeskFault}
 use Rattle.fab_desk_base.specs.declared.fault.DeskFault.TheVariants as refusal
 use Rattle.fab_desk_base.specs.declared.reply.Reply.TheVariants as reply
-use Rattle.fab_files_tries.specs.fab_looks_tries.fab_desk_machine.Foreseen.{IsTurnedDown}
-use Rattle.fab_files_tries.specs.fab_looks_tries.fab_desk_machine.Proposals.{request_of}
+use Rattle.fab_desk_machine.specs.Foreseen.{IsTurnedDown}
+use Rattle.fab_desk_machine.specs.Proposals.{request_of}
 use Rattle.fab_files.specs.Printed.{json_line}
 use Rattle.fab_files.specs.declared.printing.End.{End}
 use Rattle.fab_files.specs.declared.printing.End.TheVariants.{Done, Refused}

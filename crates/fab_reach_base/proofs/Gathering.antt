@@ -10,14 +10,14 @@ use Rattle.std.specs.BTreeSet.{BTreeSet, contains, IsOrdered}
 use Rattle.std.specs.FinMap as map
 use Rattle.std.specs.FinSet as set
 use Rattle.std.specs.Option.{option_map}
-use Rattle.fab_names.specs.declared.fabric.Fabric.{Fabric}
-use Rattle.fab_names.specs.Orders.{name_cmp}
-use Rattle.fab_names.proofs.OrderLaws.{name_total, name_exact}
-use Rattle.fab_inventory.specs.declared.port.Known.{Known}
-use Rattle.fab_inventory.specs.declared.port.Port.{Port}
-use Rattle.fab_inventory.specs.Ports.{port_at, port_of}
-use Rattle.fab_lemmas.proofs.SeenSets.{listed_decides}
-use Rattle.fab_lemmas.specs.MapsOfSets.{in_tree}
+use Rattle.fab_mapping.specs.fab_mapping_base.fab_names.declared.fabric.Fabric.{Fabric}
+use Rattle.fab_mapping.specs.fab_mapping_base.fab_names.Orders.{name_cmp}
+use Rattle.fab_mapping.proofs.fab_mapping_base.fab_names.OrderLaws.{name_total, name_exact}
+use Rattle.fab_mapping.specs.fab_mapping_base.fab_inventory.declared.port.Known.{Known}
+use Rattle.fab_mapping.specs.fab_mapping_base.fab_inventory.declared.port.Port.{Port}
+use Rattle.fab_mapping.specs.fab_mapping_base.fab_inventory.Ports.{port_at, port_of}
+use Rattle.fab_mapping.proofs.fab_mapping_base.fab_lemmas.SeenSets.{listed_decides}
+use Rattle.fab_mapping.specs.fab_mapping_base.fab_lemmas.MapsOfSets.{in_tree}
 use Rattle.fab_mapping.specs.fab_mapping_base.Groups.{StorageGroupRows}
 use Rattle.fab_mapping.specs.Mappings.{MappingRows}
 use Rattle.fab_reach_base.specs.Adding.{Adds, AddsOnly}
@@ -28,7 +28,7 @@ use Rattle.fab_reach_base.specs.Gathering.{Index, IsIndexOf, AreGroupsOf, MayMee
 use Rattle.fab_reach_base.specs.Limits.{MoreThan, IsPathsFault}
 use Rattle.fab_reach_base.proofs.PathOrder.{path_total, path_exact}
 use Rattle.fab_reach_base.proofs.Adding.{Before, adds_as, adds_none, from_none, only_as, before_stop}
-use Rattle.fab_lemmas.proofs.SeenEntries.{entry_decides}
+use Rattle.fab_mapping.proofs.fab_mapping_base.fab_lemmas.SeenEntries.{entry_decides}
 use Rattle.fab_reach_base.proofs.Sets.{adds_insert, none_in}
 use Rattle.fab_reach_base.proofs.Same.{same_some, same_fabric}
 use Rattle.fab_reach_base.specs.declared.listing.PathsFault.{PathsFault}

@@ -6,9 +6,9 @@ use Rattle.std.specs.Ordering.{nat_cmp, ordering_then}
 use Rattle.std.specs.Cmp.{IsTotalOrder, nat_cmp_total}
 use Rattle.std.proofs.lemmas.Cmp.{on_total, then_total}
 use Rattle.std.specs.FinSet as set
-use Rattle.fab_names.specs.declared.fabric.Fabric.TheVariants.{A, B}
-use Rattle.fab_names.specs.contracts.fabric.FabricOrd.TheImpl.Laws.{total-law}
-use Rattle.fab_names.specs.Orders.{fabric_cmp, name_cmp}
+use Rattle.fab_mapping.specs.fab_mapping_base.fab_names.declared.fabric.Fabric.TheVariants.{A, B}
+use Rattle.fab_mapping.specs.fab_mapping_base.fab_names.contracts.fabric.FabricOrd.TheImpl.Laws.{total-law}
+use Rattle.fab_mapping.specs.fab_mapping_base.fab_names.Orders.{fabric_cmp, name_cmp}
 use Rattle.fab_names.proofs.OrderLaws.{name_total, name_exact}
 use Rattle.fab_reach_base.specs.Orders.{path_cmp, path_order}
 use Rattle.fab_reach_base.specs.declared.path.Path.{Path}

@@ -4,17 +4,17 @@ use Rattle.std.specs.Coded.{coded_ℕ, coded_bool, coded_option}
 use Rattle.std.specs.FinMap as map
 use Rattle.std.specs.FinSet as set
 use Rattle.std.proofs.lemmas.Option.{same_Some}
-use Rattle.fab_names.specs.Codes.{name_code, fabric_code, position_code}
-use Rattle.fab_names.specs.Places.{Position}
-use Rattle.fab_names.specs.declared.fabric.Fabric.{Fabric}
-use Rattle.fab_names.specs.declared.member.Member.{Member}
-use Rattle.fab_names.specs.declared.member.Member.TheVariants as member
-use Rattle.fab_names.proofs.OrderLaws.{name_total, name_exact}
-use Rattle.fab_inventory.specs.Inventories.{HolderRows, kind_of, IsHost, IsArray}
-use Rattle.fab_inventory.specs.Ports.{port_at}
-use Rattle.fab_inventory.specs.declared.holder.HolderKind.{HolderKind}
-use Rattle.fab_inventory.specs.declared.holder.HolderKind.TheVariants as kind
-use Rattle.fab_inventory.specs.declared.port.Port.{Port}
+use Rattle.fab_mapping.specs.fab_mapping_base.fab_names.Codes.{name_code, fabric_code, position_code}
+use Rattle.fab_mapping.specs.fab_mapping_base.fab_names.Places.{Position}
+use Rattle.fab_mapping.specs.fab_mapping_base.fab_names.declared.fabric.Fabric.{Fabric}
+use Rattle.fab_mapping.specs.fab_mapping_base.fab_names.declared.member.Member.{Member}
+use Rattle.fab_mapping.specs.fab_mapping_base.fab_names.declared.member.Member.TheVariants as member
+use Rattle.fab_mapping.proofs.fab_mapping_base.fab_names.OrderLaws.{name_total, name_exact}
+use Rattle.fab_mapping.specs.fab_mapping_base.fab_inventory.Inventories.{HolderRows, kind_of, IsHost, IsArray}
+use Rattle.fab_mapping.specs.fab_mapping_base.fab_inventory.Ports.{port_at}
+use Rattle.fab_mapping.specs.fab_mapping_base.fab_inventory.declared.holder.HolderKind.{HolderKind}
+use Rattle.fab_mapping.specs.fab_mapping_base.fab_inventory.declared.holder.HolderKind.TheVariants as kind
+use Rattle.fab_mapping.specs.fab_mapping_base.fab_inventory.declared.port.Port.{Port}
 use Rattle.fab_zoning.specs.fab_zoning_rows.Holding.{Matches, IsLoggedInAt}
 use Rattle.fab_zoning.specs.Joins.{InZone, IsUnzoned, Joined}
 use Rattle.fab_zoning.specs.fab_zoning_rows.Rows.{Row, Rows}

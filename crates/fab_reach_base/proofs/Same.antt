@@ -1,8 +1,8 @@
 -- Two answers that are one.
 use Rattle.std.proofs.Common.{◌≡◌, Option, Some, sym, ap, ◌∙◌}
-use Rattle.fab_names.specs.Places.{Position}
-use Rattle.fab_names.specs.declared.fabric.Fabric.{Fabric}
-use Rattle.fab_inventory.specs.declared.port.Port.{Port}
+use Rattle.fab_mapping.specs.fab_mapping_base.fab_names.Places.{Position}
+use Rattle.fab_mapping.specs.fab_mapping_base.fab_names.declared.fabric.Fabric.{Fabric}
+use Rattle.fab_mapping.specs.fab_mapping_base.fab_inventory.declared.port.Port.{Port}
 use Rattle.fab_zoning.specs.fab_zoning_rows.Holding.{IsLoggedInAt}
 
 -- one option, one value

@@ -1,7 +1,7 @@
 -- Two listings of one world are one list.
 use Rattle.std.proofs.Common.{◌≡◌, List}
 use Rattle.std.proofs.lemmas.Map.Made.{is_member-Decides}
-use Rattle.fab_lemmas.proofs.SeenSets.{tie_decides}
+use Rattle.fab_mapping.proofs.fab_mapping_base.fab_lemmas.SeenSets.{tie_decides}
 pub use Rattle.fab_mapping.proofs.fab_mapping_base.SortedLists.{same_sorted}
 use Rattle.fab_reach_base.specs.Orders.{IsListOf}
 use Rattle.fab_reach_base.specs.declared.path.Path.{Path}

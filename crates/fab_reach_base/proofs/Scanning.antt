@@ -5,9 +5,9 @@ use Rattle.std.specs.Cmp.{IsTotalOrder}
 use Rattle.std.specs.FinMap as map
 use Rattle.std.specs.FinSet as set
 use Rattle.std.proofs.lemmas.List.Elements.{Contains-push_cases, Contains-append_left, Contains-push}
-use Rattle.fab_lemmas.proofs.Walks.{walked}
-use Rattle.fab_lemmas.proofs.SeenSets.{listed_decides}
-use Rattle.fab_lemmas.proofs.SeenEntries.{entry_decides}
+use Rattle.fab_mapping.proofs.fab_mapping_base.fab_lemmas.Walks.{walked}
+use Rattle.fab_mapping.proofs.fab_mapping_base.fab_lemmas.SeenSets.{listed_decides}
+use Rattle.fab_mapping.proofs.fab_mapping_base.fab_lemmas.SeenEntries.{entry_decides}
 
 module _ {K : Type 0} (Q : K → Type 0) where
   -- none so far fails

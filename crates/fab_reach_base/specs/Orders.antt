@@ -4,7 +4,7 @@ use Rattle.std.specs.declared.cmp.Ordering.{Ordering}
 use Rattle.std.specs.Ordering.{nat_cmp, ordering_then}
 use Rattle.std.specs.List.Sorted.{IsStrictlySortedBy}
 use Rattle.std.specs.BTreeSet.{BTreeSet, contains}
-use Rattle.fab_names.specs.Orders.{name_cmp, fabric_cmp}
+use Rattle.fab_mapping.specs.fab_mapping_base.fab_names.Orders.{name_cmp, fabric_cmp}
 use Rattle.fab_reach_base.specs.declared.path.Path.{Path}
 use Rattle.fab_reach_base.specs.contracts.path.PathOrd.TheImpl as paths
 

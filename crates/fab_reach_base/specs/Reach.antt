@@ -2,10 +2,10 @@
 use Rattle.std.specs.Prelude.{ℕ, ◌≡◌, List, Some, true}
 use Rattle.std.specs.FinMap as map
 use Rattle.std.specs.FinSet as set
-use Rattle.fab_names.specs.declared.fabric.Fabric.{Fabric}
-use Rattle.fab_inventory.specs.declared.port.Port.{Port}
-use Rattle.fab_inventory.specs.Ports.{port_at}
-use Rattle.fab_inventory.specs.Inventories.{IsHost, IsArray}
+use Rattle.fab_mapping.specs.fab_mapping_base.fab_names.declared.fabric.Fabric.{Fabric}
+use Rattle.fab_mapping.specs.fab_mapping_base.fab_inventory.declared.port.Port.{Port}
+use Rattle.fab_mapping.specs.fab_mapping_base.fab_inventory.Ports.{port_at}
+use Rattle.fab_mapping.specs.fab_mapping_base.fab_inventory.Inventories.{IsHost, IsArray}
 use Rattle.fab_zoning.specs.fab_zoning_rows.Holding.{IsLoggedInAt}
 use Rattle.fab_zoning.specs.Joins.{Joined}
 use Rattle.fab_mapping.specs.fab_mapping_base.declared.nexus.Nexus.{Nexus}

@@ -2,9 +2,9 @@
 use Rattle.std.specs.Prelude.{ℕ, ◌≡◌, List, Some, true}
 use Rattle.std.specs.FinMap as map
 use Rattle.std.specs.FinSet as set
-use Rattle.fab_names.specs.declared.fabric.Fabric.{Fabric}
-use Rattle.fab_inventory.specs.Holders.{holder_in}
-use Rattle.fab_inventory.specs.Inventories.{InventoryRows, IsHost, IsArray}
+use Rattle.fab_mapping.specs.fab_mapping_base.fab_names.declared.fabric.Fabric.{Fabric}
+use Rattle.fab_mapping.specs.fab_mapping_base.fab_inventory.Holders.{holder_in}
+use Rattle.fab_mapping.specs.fab_mapping_base.fab_inventory.Inventories.{InventoryRows, IsHost, IsArray}
 use Rattle.fab_mapping.specs.fab_mapping_base.Groups.{HostGroupRows, StorageGroupRows}
 use Rattle.fab_mapping.specs.Mappings.{MappingRows}
 use Rattle.fab_reach_base.specs.Records.{Records, zoning_at}

@@ -1,7 +1,7 @@
 -- Which configurations are sound: by their parts, of themselves, and beside an inventory.
 use Rattle.std.specs.Prelude.{◌≡◌}
-use Rattle.fab_names.specs.declared.fabric.Fabric.{Fabric}
-use Rattle.fab_inventory.specs.Inventories.{InventoryRows}
+use Rattle.fab_mapping.specs.fab_mapping_base.fab_names.declared.fabric.Fabric.{Fabric}
+use Rattle.fab_mapping.specs.fab_mapping_base.fab_inventory.Inventories.{InventoryRows}
 use Rattle.fab_zoning.specs.Soundness as zonings
 use Rattle.fab_mapping.specs.Mappings.{HasNoClash}
 use Rattle.fab_mapping.specs.Soundness as mappings

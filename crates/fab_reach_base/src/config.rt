@@ -3,7 +3,7 @@ ghost use Rattle.std.specs.Prelude.{◌≡◌, IfOk};
 ghost use Rattle.fab_reach_base.specs.Records.{zoning_at};
 
 use fab_mapping::Mapping;
-use fab_names::Fabric;
+use fab_mapping::base::names::Fabric;
 use fab_zoning::Zoning;
 use std::alloc::{AllocError, Allocator};
 use std::marker::Model;

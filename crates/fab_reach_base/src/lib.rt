@@ -12,6 +12,9 @@ mod view;
 
 pub use book::Delta;
 pub use config::Config;
+pub use fab_mapping as mapping;
+pub use fab_mapping::base::{inventory, lemmas, names};
+pub use fab_zoning as zoning;
 pub use listing::{
     MOST_PATHS, PathsFault, add_pair, add_pair_of, all_paths, few_paths, host_of, listed,
     plain_paths, targets_of,

@@ -17,9 +17,9 @@ ghost use Rattle.fab_zoning.specs.Joins.{Joined};
 
 use crate::served::served_hosts;
 use crate::{Config, Path, View};
-use fab_inventory::{HolderKind, Inventory, Port};
+use fab_mapping::base::inventory::{HolderKind, Inventory, Port};
+use fab_mapping::base::names::{Fabric, Name, Wwn};
 use fab_mapping::{Mapping, StorageGroup};
-use fab_names::{Fabric, Name, Wwn};
 use std::alloc::{AllocError, Allocator};
 use std::collections::{BTreeMap, BTreeSet};
 

@@ -6,8 +6,8 @@ ghost use Rattle.std.specs.Prelude.{true, List, ℕ};
 ghost use Rattle.fab_reach_base.specs.Adding.{Adds};
 ghost use Rattle.fab_reach_base.specs.Gathering.{Lists, Serves, IsServed, IsIndexOf};
 
+use fab_mapping::base::names::Name;
 use fab_mapping::{HostGroup, Mapping, StorageGroup};
-use fab_names::Name;
 use std::alloc::{AllocError, Allocator};
 use std::collections::{BTreeMap, BTreeSet};
 

@@ -1,13 +1,13 @@
 //! Whether a world is one that a book may stand at.
 ghost use Rattle.std.specs.Prelude.{◌≡◌, ◌↔◌, IsTrue};
-ghost use Rattle.fab_inventory.specs.Inventories.{IsHost, IsArray};
+ghost use Rattle.fab_mapping.specs.fab_mapping_base.fab_inventory.Inventories.{IsHost, IsArray};
 ghost use Rattle.fab_reach_base.specs.Records.{zoning_at};
 ghost use Rattle.fab_reach_base.specs.Serving.{IsArrayPort, AreHosts, AreTargets, HaveHosts, HaveTargets};
 
 use crate::Config;
-use fab_inventory::{HolderKind, Inventory};
+use fab_mapping::base::inventory::{HolderKind, Inventory};
+use fab_mapping::base::names::{Fabric, Name, Wwn};
 use fab_mapping::{HostGroup, Mapping, StorageGroup};
-use fab_names::{Fabric, Name, Wwn};
 use std::alloc::Allocator;
 
 /// Whether the name is a host's.

@@ -5,8 +5,8 @@ ghost use Rattle.fab_reach_base.specs.Serving.{IsServing};
 
 use crate::Config;
 use crate::serving::{have_hosts, have_targets, is_own};
-use fab_inventory::Inventory;
-use fab_names::Fabric;
+use fab_mapping::base::inventory::Inventory;
+use fab_mapping::base::names::Fabric;
 use std::alloc::Allocator;
 
 /// What reachability is a matter of: the inventory and the configuration.

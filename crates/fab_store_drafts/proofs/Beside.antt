@@ -1,9 +1,9 @@
 -- A storage group is clear of the others just where none that serves a host of it is at odds with it.
 use Rattle.std.proofs.Common.{ℕ, ◌≡◌, ◌↔◌, inl, inr, List, Some, Bool, true, IsTrue, Result, Ok, Err, IfOk, sym, subst}
 use Rattle.std.specs.FinMap as map
-use Rattle.fab_mapping_base.specs.Groups.{StorageGroupRows}
-use Rattle.fab_mapping_base.specs.declared.nexus.Nexus.{Nexus}
-use Rattle.fab_mapping.specs.Mappings.{MappingRows}
+use Rattle.fab_reach_base.specs.fab_mapping_base.Groups.{StorageGroupRows}
+use Rattle.fab_reach_base.specs.fab_mapping_base.declared.nexus.Nexus.{Nexus}
+use Rattle.fab_reach_base.specs.fab_mapping.Mappings.{MappingRows}
 use Rattle.fab_reach_base.specs.Records.{ConfigRows}
 use Rattle.fab_store_rows.specs.declared.config_row.StoragePart.TheVariants as part
 use Rattle.fab_store_rows.specs.Standing.{HasPart}

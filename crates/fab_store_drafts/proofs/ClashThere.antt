@@ -3,10 +3,10 @@ use Rattle.std.proofs.Common.{ℕ, ◌≡◌, ◌≢◌, ◌⊎◌, inl, inr, Li
 use mathlib.Core.Bool.{true≢false}
 use Rattle.std.specs.Cmp.Lexicographic.{bytes_decides, pointwise}
 use Rattle.std.specs.FinMap as map
-use Rattle.fab_mapping_base.specs.Groups.{StorageGroupRows}
-use Rattle.fab_mapping_base.specs.Clashes.{GroupClaims}
-use Rattle.fab_mapping_base.specs.declared.nexus.Nexus.{Nexus}
-use Rattle.fab_mapping.specs.Mappings.{MappingRows, IsMapped, HasNoClash}
+use Rattle.fab_reach_base.specs.fab_mapping_base.Groups.{StorageGroupRows}
+use Rattle.fab_reach_base.specs.fab_mapping_base.Clashes.{GroupClaims}
+use Rattle.fab_reach_base.specs.fab_mapping_base.declared.nexus.Nexus.{Nexus}
+use Rattle.fab_reach_base.specs.fab_mapping.Mappings.{MappingRows, IsMapped, HasNoClash}
 use Rattle.fab_reach_base.specs.Records.{ConfigRows}
 use Rattle.fab_store_rows.specs.Standing.{HasPart}
 use Rattle.fab_store_rows.specs.declared.config_row.ConfigRow.{ConfigRow}

@@ -8,15 +8,15 @@ use Rattle.std.specs.FinSet as set
 use Rattle.std.specs.Map.{keys_of}
 use Rattle.std.specs.List.Sorted.{IsStrictlySortedBy}
 use Rattle.std.proofs.lemmas.List.{length-map}
-use Rattle.fab_lemmas.specs.MapsOfSets.{seen_set, seen_sets}
-use Rattle.fab_lemmas.proofs.Tests.{within, from_within, below, from_below}
-use Rattle.fab_lemmas.proofs.SeenMaps.{len_entries}
-use Rattle.fab_lemmas.proofs.SeenSets.{len_seen}
-use Rattle.fab_names.specs.declared.fabric.Fabric.{Fabric}
-use Rattle.fab_names.specs.declared.fabric.Fabric.TheVariants.{A, B}
-use Rattle.fab_names.specs.Orders.{name_cmp}
-use Rattle.fab_names.proofs.OrderLaws.{name_total}
-use Rattle.fab_zoning.specs.Zonings.{NamedSets}
+use Rattle.fab_reach_base.specs.fab_lemmas.MapsOfSets.{seen_set, seen_sets}
+use Rattle.fab_reach_base.proofs.fab_lemmas.Tests.{within, from_within, below, from_below}
+use Rattle.fab_reach_base.proofs.fab_lemmas.SeenMaps.{len_entries}
+use Rattle.fab_reach_base.proofs.fab_lemmas.SeenSets.{len_seen}
+use Rattle.fab_reach_base.specs.fab_names.declared.fabric.Fabric.{Fabric}
+use Rattle.fab_reach_base.specs.fab_names.declared.fabric.Fabric.TheVariants.{A, B}
+use Rattle.fab_reach_base.specs.fab_names.Orders.{name_cmp}
+use Rattle.fab_reach_base.proofs.fab_names.OrderLaws.{name_total}
+use Rattle.fab_reach_base.specs.fab_zoning.Zonings.{NamedSets}
 
 -- a finite set has as many items as are listed in order
 pub set_counted : {K : Type 0} {R : K → K → Ordering} → IsTotalOrder R → (ks : List K) (s : set.FinSet R) → set.from_list ks ≡ s → IsStrictlySortedBy R ks → set.len s ≡ length ks

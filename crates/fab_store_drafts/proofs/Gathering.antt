@@ -6,14 +6,14 @@ use Rattle.std.specs.FinSet as set
 use Rattle.std.proofs.lemmas.List.{take_all}
 use Rattle.std.proofs.lemmas.List.Elements.{Contains-push_cases, Contains-append_left, Contains-push}
 use Rattle.std.proofs.lemmas.Map.Made.{is_member-Decides}
-use Rattle.fab_lemmas.specs.Adding.{Adds, Among}
-use Rattle.fab_lemmas.proofs.Adding.{Before, adds_as, before_all}
-use Rattle.fab_lemmas.proofs.SeenSets.{listed_decides, tie_decides}
-use Rattle.fab_lemmas.proofs.Walks.{walked}
-use Rattle.fab_names.specs.Orders.{name_cmp}
-use Rattle.fab_names.proofs.OrderLaws.{name_total, name_exact}
-use Rattle.fab_mapping_base.specs.Groups.{Names, StorageGroupRows}
-use Rattle.fab_mapping.specs.Mappings.{MappingRows}
+use Rattle.fab_reach_base.specs.fab_lemmas.Adding.{Adds, Among}
+use Rattle.fab_reach_base.proofs.fab_lemmas.Adding.{Before, adds_as, before_all}
+use Rattle.fab_reach_base.proofs.fab_lemmas.SeenSets.{listed_decides, tie_decides}
+use Rattle.fab_reach_base.proofs.fab_lemmas.Walks.{walked}
+use Rattle.fab_reach_base.specs.fab_names.Orders.{name_cmp}
+use Rattle.fab_reach_base.proofs.fab_names.OrderLaws.{name_total, name_exact}
+use Rattle.fab_reach_base.specs.fab_mapping_base.Groups.{Names, StorageGroupRows}
+use Rattle.fab_reach_base.specs.fab_mapping.Mappings.{MappingRows}
 use Rattle.fab_store_rows.specs.declared.config_row.ConfigRow.{ConfigRow}
 use Rattle.fab_store_edits.proofs.ManyRows.{next_is}
 use Rattle.fab_store_drafts.specs.There.{Touches, IsTouched}

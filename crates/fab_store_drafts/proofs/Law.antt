@@ -2,7 +2,7 @@
 -- differ.
 use Rattle.std.proofs.Common.{ℕ, ◌≡◌, ◌↔◌, List, Contains, Bool, true, false, IsTrue, Result, Ok, Err, IfOk, sym, ◌∙◌, subst}
 use mathlib.Core.Bool.{true≢false}
-use Rattle.fab_names.specs.declared.fabric.Fabric.{Fabric}
+use Rattle.fab_reach_base.specs.fab_names.declared.fabric.Fabric.{Fabric}
 use Rattle.fab_reach_base.specs.Records.{ConfigRows, zoning_at}
 use Rattle.fab_reach_base.specs.Soundness.{IsSoundAlone}
 use Rattle.fab_store_rows.specs.Differences.{IsDifference}

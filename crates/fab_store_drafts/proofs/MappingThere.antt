@@ -4,13 +4,13 @@ use mathlib.Core.Bool.{true≢false}
 use Rattle.std.specs.FinMap as map
 use Rattle.std.specs.FinSet as set
 use Rattle.std.specs.Cmp.{nat_cmp_total}
-use Rattle.fab_names.specs.Orders.{name_cmp}
-use Rattle.fab_names.proofs.OrderLaws.{name_total, name_exact}
-use Rattle.fab_mapping_base.specs.declared.limits.TheConstants.{MOST_HOSTS, MOST_GROUPS_SERVED, MOST_TARGETS, MOST_UNITS}
-use Rattle.fab_mapping_base.specs.Groups.{HostGroupRows, StorageGroupRows}
-use Rattle.fab_mapping.specs.Mappings.{MappingRows, IsUnservedIn}
-use Rattle.fab_mapping.specs.Soundness.{IsSound}
-use Rattle.fab_lemmas.specs.Firsts.{HasAt}
+use Rattle.fab_reach_base.specs.fab_names.Orders.{name_cmp}
+use Rattle.fab_reach_base.proofs.fab_names.OrderLaws.{name_total, name_exact}
+use Rattle.fab_reach_base.specs.fab_mapping_base.declared.limits.TheConstants.{MOST_HOSTS, MOST_GROUPS_SERVED, MOST_TARGETS, MOST_UNITS}
+use Rattle.fab_reach_base.specs.fab_mapping_base.Groups.{HostGroupRows, StorageGroupRows}
+use Rattle.fab_reach_base.specs.fab_mapping.Mappings.{MappingRows, IsUnservedIn}
+use Rattle.fab_reach_base.specs.fab_mapping.Soundness.{IsSound}
+use Rattle.fab_reach_base.specs.fab_lemmas.Firsts.{HasAt}
 use Rattle.fab_reach_base.specs.Records.{ConfigRows}
 use Rattle.fab_store_rows.specs.Standing.{HasPart, IsPart, Stands}
 use Rattle.fab_store_rows.specs.declared.config_row.GroupRow.{GroupRow}
@@ -23,7 +23,7 @@ use Rattle.fab_store_rows.specs.declared.config_row.StoragePart.TheVariants as p
 use Rattle.fab_store_edits.specs.Led.{IsLed}
 use Rattle.fab_store_edits.specs.Rows.{host_head, host_row, part_row}
 use Rattle.fab_store_drafts.specs.There.{HasSomeHost, HasFewHosts, HasFewLike, IsNameable, GroupMayCome, PartMayCome, GroupMayGo, PartMayGo, IsSoundThere}
-use Rattle.fab_lemmas.proofs.Sizes.{some_member}
+use Rattle.fab_reach_base.proofs.fab_lemmas.Sizes.{some_member}
 use Rattle.fab_store_drafts.proofs.IfThere.{at_some, some_at}
 use Rattle.fab_store_drafts.proofs.Sizes.{le_or, part_of_set, some_key, part_of_map}
 

@@ -1,9 +1,9 @@
 -- The use of a row: one more, or one less.
 use Rattle.std.proofs.Common.{ℕ, ◌≡◌, ◌↔◌, ◌⊎◌, inl, inr, List, Option, None, Some, refl, sym, ap, ◌∙◌}
-use Rattle.fab_names.specs.declared.fabric.Fabric.{Fabric}
-use Rattle.fab_names.specs.declared.member.Member.{Member}
-use Rattle.fab_names.specs.declared.member.Member.TheVariants as member
-use Rattle.fab_zoning.specs.Edits.{Puts, Takes}
+use Rattle.fab_reach_base.specs.fab_names.declared.fabric.Fabric.{Fabric}
+use Rattle.fab_reach_base.specs.fab_names.declared.member.Member.{Member}
+use Rattle.fab_reach_base.specs.fab_names.declared.member.Member.TheVariants as member
+use Rattle.fab_reach_base.specs.fab_zoning.Edits.{Puts, Takes}
 use Rattle.fab_store_rows.specs.declared.config_row.ConfigRow.{ConfigRow}
 use Rattle.fab_store_rows.specs.declared.config_row.ConfigRow.TheVariants as config
 use Rattle.fab_store_rows.specs.declared.config_row.ZoningItem.{ZoningItem}

@@ -7,8 +7,8 @@ use Rattle.std.specs.Cmp.{IsTotalOrder, tied_itself}
 use Rattle.std.specs.List.{list_any}
 use Rattle.std.specs.FinMap as map
 use Rattle.std.specs.FinSet as set
-use Rattle.fab_lemmas.proofs.Tests.{both, left, right, or_left}
-use Rattle.fab_lemmas.proofs.Sizes.{holds_some, some_member}
+use Rattle.fab_reach_base.proofs.fab_lemmas.Tests.{both, left, right, or_left}
+use Rattle.fab_reach_base.proofs.fab_lemmas.Sizes.{holds_some, some_member}
 
 pub le_or : (m n : ℕ) → (m ≤ n) ⊎ (n < m)
 le_or zero n = inl (omega arith)

@@ -3,11 +3,11 @@ use Rattle.std.proofs.Common.{ℕ, ◌≡◌, ◌↔◌, ◌⊎◌, inl, inr, Li
 use mathlib.Core.Bool.{true≢false}
 use Rattle.std.specs.BTreeMap.{get}
 use Rattle.std.specs.BTreeSet.{BTreeSet, contains}
-use Rattle.fab_lemmas.specs.MapsOfSets.{in_tree}
-use Rattle.fab_lemmas.proofs.Tests.{is_false}
-use Rattle.fab_names.specs.Orders.{name_cmp}
-use Rattle.fab_names.proofs.OrderLaws.{name_total}
-use Rattle.fab_zoning.proofs.SeenItems.{some_key}
+use Rattle.fab_reach_base.specs.fab_lemmas.MapsOfSets.{in_tree}
+use Rattle.fab_reach_base.proofs.fab_lemmas.Tests.{is_false}
+use Rattle.fab_reach_base.specs.fab_names.Orders.{name_cmp}
+use Rattle.fab_reach_base.proofs.fab_names.OrderLaws.{name_total}
+use Rattle.fab_reach_base.proofs.fab_zoning.SeenItems.{some_key}
 use Rattle.fab_store_drafts.specs.UsedKeys.{used_cmp}
 use Rattle.fab_store_drafts.specs.Users.{IsUse}
 use Rattle.fab_store_drafts.specs.declared.uses.Used.{Used}

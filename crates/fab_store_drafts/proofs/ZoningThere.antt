@@ -5,14 +5,14 @@ use Rattle.std.specs.declared.cmp.Ordering.{Ordering}
 use Rattle.std.specs.Cmp.{IsTotalOrder}
 use Rattle.std.specs.FinMap as map
 use Rattle.std.specs.FinSet as set
-use Rattle.fab_names.specs.declared.fabric.Fabric.{Fabric}
-use Rattle.fab_names.specs.declared.member.Member.{Member}
-use Rattle.fab_names.specs.declared.member.Member.TheVariants as member
-use Rattle.fab_names.proofs.OrderLaws.{name_total, name_exact, member_total, member_exact}
-use Rattle.fab_lemmas.specs.MapsOfSets.{has, in_set, HasNoUser}
-use Rattle.fab_zoning.specs.Limits.{most_members}
-use Rattle.fab_zoning.specs.Zonings.{FabricZoning, NamedSets}
-use Rattle.fab_zoning.specs.Soundness.{AreListings, IsSound}
+use Rattle.fab_reach_base.specs.fab_names.declared.fabric.Fabric.{Fabric}
+use Rattle.fab_reach_base.specs.fab_names.declared.member.Member.{Member}
+use Rattle.fab_reach_base.specs.fab_names.declared.member.Member.TheVariants as member
+use Rattle.fab_reach_base.proofs.fab_names.OrderLaws.{name_total, name_exact, member_total, member_exact}
+use Rattle.fab_reach_base.specs.fab_lemmas.MapsOfSets.{has, in_set, HasNoUser}
+use Rattle.fab_reach_base.specs.fab_zoning.Limits.{most_members}
+use Rattle.fab_reach_base.specs.fab_zoning.Zonings.{FabricZoning, NamedSets}
+use Rattle.fab_reach_base.specs.fab_zoning.Soundness.{AreListings, IsSound}
 use Rattle.fab_reach_base.specs.Records.{ConfigRows, zoning_at}
 use Rattle.fab_store_rows.specs.declared.config_row.ConfigRow.{ConfigRow}
 use Rattle.fab_store_rows.specs.declared.config_row.ZoningItem.{ZoningItem}
@@ -22,7 +22,7 @@ use Rattle.fab_store_edits.specs.Led.{IsLed}
 use Rattle.fab_store_edits.specs.Tidy.{HasNoEmptySet}
 use Rattle.fab_store_edits.specs.Rows.{alias_row, zone_row, set_row, active_row}
 use Rattle.fab_store_drafts.specs.There.{IsListable, HasSoundCounts, ItemMayCome, ItemMayGo, IsSoundThere}
-use Rattle.fab_lemmas.proofs.Sizes.{some_member}
+use Rattle.fab_reach_base.proofs.fab_lemmas.Sizes.{some_member}
 use Rattle.fab_store_drafts.proofs.IfThere.{at_some, some_at}
 use Rattle.fab_store_drafts.proofs.Sizes.{le_or, part_of_set}
 

@@ -4,20 +4,20 @@ use Rattle.std.specs.Prelude.{ℕ, ◌≡◌, ◌<◌, ◌≤◌, ◌⊎◌, Lis
 use Rattle.std.specs.declared.cmp.Ordering.{Ordering}
 use Rattle.std.specs.FinMap as map
 use Rattle.std.specs.FinSet as set
-use Rattle.fab_lemmas.specs.Firsts.{HasAt}
-use Rattle.fab_lemmas.specs.MapsOfSets.{HasNoUser}
-use Rattle.fab_names.specs.declared.fabric.Fabric.{Fabric}
-use Rattle.fab_names.specs.declared.member.Member.TheVariants as member
-use Rattle.fab_zoning_rows.specs.Limits.{most_rows}
-use Rattle.fab_zoning.specs.Limits.{most_aliases, most_zones, most_sets, most_members}
-use Rattle.fab_zoning_rows.specs.Rows.{IsPlain}
-use Rattle.fab_zoning.specs.Steps.{HasAlias, HasZone}
-use Rattle.fab_zoning.specs.Zonings.{FabricZoning}
-use Rattle.fab_mapping_base.specs.declared.limits.TheConstants.{MOST_HOSTS, MOST_GROUPS_SERVED, MOST_TARGETS, MOST_UNITS, LAST_UNIT, MOST_HOST_GROUPS, MOST_STORAGE_GROUPS}
-use Rattle.fab_mapping_base.specs.declared.nexus.Nexus.{Nexus}
-use Rattle.fab_mapping_base.specs.Groups.{HostGroupRows, StorageGroupRows}
-use Rattle.fab_mapping_base.specs.Clashes.{GroupClaims}
-use Rattle.fab_mapping.specs.Mappings.{MappingRows, IsMapped, IsUnservedIn}
+use Rattle.fab_reach_base.specs.fab_lemmas.Firsts.{HasAt}
+use Rattle.fab_reach_base.specs.fab_lemmas.MapsOfSets.{HasNoUser}
+use Rattle.fab_reach_base.specs.fab_names.declared.fabric.Fabric.{Fabric}
+use Rattle.fab_reach_base.specs.fab_names.declared.member.Member.TheVariants as member
+use Rattle.fab_reach_base.specs.fab_zoning_rows.Limits.{most_rows}
+use Rattle.fab_reach_base.specs.fab_zoning.Limits.{most_aliases, most_zones, most_sets, most_members}
+use Rattle.fab_reach_base.specs.fab_zoning_rows.Rows.{IsPlain}
+use Rattle.fab_reach_base.specs.fab_zoning.Steps.{HasAlias, HasZone}
+use Rattle.fab_reach_base.specs.fab_zoning.Zonings.{FabricZoning}
+use Rattle.fab_reach_base.specs.fab_mapping_base.declared.limits.TheConstants.{MOST_HOSTS, MOST_GROUPS_SERVED, MOST_TARGETS, MOST_UNITS, LAST_UNIT, MOST_HOST_GROUPS, MOST_STORAGE_GROUPS}
+use Rattle.fab_reach_base.specs.fab_mapping_base.declared.nexus.Nexus.{Nexus}
+use Rattle.fab_reach_base.specs.fab_mapping_base.Groups.{HostGroupRows, StorageGroupRows}
+use Rattle.fab_reach_base.specs.fab_mapping_base.Clashes.{GroupClaims}
+use Rattle.fab_reach_base.specs.fab_mapping.Mappings.{MappingRows, IsMapped, IsUnservedIn}
 use Rattle.fab_reach_base.specs.Records.{ConfigRows, zoning_at}
 use Rattle.fab_store_rows.specs.declared.config_row.ConfigRow.{ConfigRow}
 use Rattle.fab_store_rows.specs.declared.config_row.ConfigRow.TheVariants as config

@@ -4,7 +4,7 @@ use Rattle.std.specs.declared.cmp.Ordering.{Ordering}
 use Rattle.std.specs.declared.cmp.Ordering.TheVariants.{Less, Equal, Greater}
 use Rattle.std.specs.Ordering.{ordering_then}
 use Rattle.std.specs.FinSet as set
-use Rattle.fab_names.specs.Orders.{name_cmp, fabric_cmp}
+use Rattle.fab_reach_base.specs.fab_names.Orders.{name_cmp, fabric_cmp}
 use Rattle.fab_names.proofs.OrderLaws.{name_exact}
 use Rattle.fab_reach_base.proofs.PathOrder.{fabric_exact}
 use Rattle.fab_store_drafts.specs.declared.uses.Used.{Used}

@@ -1,7 +1,7 @@
 -- Who uses what: the uses that are known, and that rows of a configuration tell.
 use Rattle.std.specs.Prelude.{◌≡◌, ◌↔◌, ◌⊎◌, List, Contains}
-use Rattle.fab_names.specs.Orders.{name_cmp}
-use Rattle.fab_zoning.specs.Edits.{IsIn}
+use Rattle.fab_reach_base.specs.fab_names.Orders.{name_cmp}
+use Rattle.fab_reach_base.specs.fab_zoning.Edits.{IsIn}
 use Rattle.fab_reach_base.specs.Records.{ConfigRows}
 use Rattle.fab_store_rows.specs.declared.config_row.ConfigRow.{ConfigRow}
 use Rattle.fab_store_rows.specs.Standing.{Stands}

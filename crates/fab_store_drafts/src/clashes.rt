@@ -1,8 +1,8 @@
 //! Whether the storage groups that rows touch clash with others.
 ghost use Rattle.std.specs.Prelude.{◌≡◌, ◌↔◌, ℕ, List, true, OnOk, IfOk, IsTrue};
 ghost use Rattle.std.specs.BTreeSet.{contains};
-ghost use Rattle.fab_lemmas.specs.Adding.{Adds};
-ghost use Rattle.fab_names.specs.Orders.{name_cmp};
+ghost use Rattle.fab_reach_base.specs.fab_lemmas.Adding.{Adds};
+ghost use Rattle.fab_reach_base.specs.fab_names.Orders.{name_cmp};
 ghost use Rattle.fab_store_drafts.specs.Inner.Nearby.{IsFine};
 ghost use Rattle.fab_store_drafts.specs.There.{GroupTouches, PartTouches, Touches, IsTouched, IsClear, IsClearAt};
 ghost use Rattle.fab_store_drafts.specs.Users.{AreUsers};
@@ -10,10 +10,10 @@ ghost use Rattle.fab_store_drafts.specs.Users.{AreUsers};
 use crate::nearby::beside;
 use crate::users::Users;
 use crate::uses::Used;
-use fab_mapping::{Mapping, StorageGroup};
-use fab_mapping_base::are_at_odds;
-use fab_names::Name;
 use fab_reach_base::Config;
+use fab_reach_base::mapping::base::are_at_odds;
+use fab_reach_base::mapping::{Mapping, StorageGroup};
+use fab_reach_base::names::Name;
 use fab_store_rows::{ConfigRow, GroupRow, PartRow};
 use std::alloc::{AllocError, Allocator};
 use std::collections::BTreeSet;

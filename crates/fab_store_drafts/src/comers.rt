@@ -2,22 +2,22 @@
 ghost use Rattle.std.specs.Prelude.{◌≡◌, ◌↔◌, Contains, IfSome, IsTrue};
 ghost use Rattle.std.specs.Option.{option_copied, option_map};
 ghost use Rattle.std.specs.FinMap as map;
-ghost use Rattle.fab_lemmas.specs.MapsOfSets.{seen_set};
-ghost use Rattle.fab_zoning_rows.specs.Rows.{IsPlain};
-ghost use Rattle.fab_zoning.specs.Steps.{HasAlias, HasZone};
+ghost use Rattle.fab_reach_base.specs.fab_lemmas.MapsOfSets.{seen_set};
+ghost use Rattle.fab_reach_base.specs.fab_zoning_rows.Rows.{IsPlain};
+ghost use Rattle.fab_reach_base.specs.fab_zoning.Steps.{HasAlias, HasZone};
 ghost use Rattle.fab_store_rows.specs.declared.config_row.ConfigRow.{ConfigRow as Row};
 ghost use Rattle.fab_store_rows.specs.declared.config_row.ZoningItem.TheVariants as item;
 ghost use Rattle.fab_store_rows.specs.declared.config_row.PartRow.TheVariants as parts;
 ghost use Rattle.fab_store_drafts.specs.There.{IsListable, HasSomeHost, HasFewHosts, HasFewLike, ItemMayCome, IsNameable, GroupMayCome, PartMayCome, MayCome};
 
-use fab_mapping::{
+use fab_reach_base::Config;
+use fab_reach_base::mapping::{
     HostGroup, LAST_UNIT, MOST_GROUPS_SERVED, MOST_HOSTS, MOST_TARGETS, MOST_UNITS, Mapping,
     StorageGroup,
 };
-use fab_names::{Member, Name};
-use fab_reach_base::Config;
+use fab_reach_base::names::{Member, Name};
+use fab_reach_base::zoning::{MOST_MEMBERS, Zoning};
 use fab_store_rows::{ConfigRow, GroupRow, PartRow, StoragePart, ZoningItem};
-use fab_zoning::{MOST_MEMBERS, Zoning};
 use std::alloc::Allocator;
 use std::collections::BTreeSet;
 

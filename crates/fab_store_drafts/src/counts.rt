@@ -1,15 +1,15 @@
 //! Whether there is not too much of anything, and a name is active just where there are rows.
 ghost use Rattle.std.specs.Prelude.{◌↔◌, IsTrue};
-ghost use Rattle.fab_names.specs.declared.fabric.Fabric.{Fabric as AnyFabric};
+ghost use Rattle.fab_reach_base.specs.fab_names.declared.fabric.Fabric.{Fabric as AnyFabric};
 ghost use Rattle.fab_reach_base.specs.Records.{zoning_at};
 ghost use Rattle.fab_store_drafts.specs.There.{HasSoundCounts, HasFewGroups};
 ghost use Rattle.fab_store_drafts.specs.Inner.Counting.{HasFewSets, IsActiveCounted};
 
-use fab_mapping::{MOST_HOST_GROUPS, MOST_STORAGE_GROUPS, Mapping};
-use fab_names::Fabric;
 use fab_reach_base::Config;
-use fab_zoning::{MOST_ALIASES, MOST_SETS, MOST_ZONES, Zoning};
-use fab_zoning_rows::MOST_ROWS;
+use fab_reach_base::mapping::{MOST_HOST_GROUPS, MOST_STORAGE_GROUPS, Mapping};
+use fab_reach_base::names::Fabric;
+use fab_reach_base::zoning::rows::MOST_ROWS;
+use fab_reach_base::zoning::{MOST_ALIASES, MOST_SETS, MOST_ZONES, Zoning};
 use std::alloc::Allocator;
 
 /// Whether there are not too many aliases, zones and zone sets.

@@ -10,9 +10,9 @@ ghost use Rattle.fab_store_drafts.specs.Users.{AreUsers};
 use crate::comers::has_some_host;
 use crate::users::Users;
 use crate::uses::Used;
-use fab_mapping::Mapping;
-use fab_names::{Fabric, Member, Name};
 use fab_reach_base::Config;
+use fab_reach_base::mapping::Mapping;
+use fab_reach_base::names::{Fabric, Member, Name};
 use fab_store_rows::{ConfigRow, GroupRow, HostGroupRow, PartRow, ZoningItem, ZoningRow};
 use std::alloc::Allocator;
 

@@ -1,14 +1,14 @@
 //! Which storage groups serve a host that one serves.
 ghost use Rattle.std.specs.Prelude.{◌≡◌, ◌↔◌, ℕ, List, true, OnOk, IfOk};
 ghost use Rattle.std.specs.BTreeSet.{contains};
-ghost use Rattle.fab_lemmas.specs.Adding.{Adds};
-ghost use Rattle.fab_names.specs.Orders.{name_cmp};
+ghost use Rattle.fab_reach_base.specs.fab_lemmas.Adding.{Adds};
+ghost use Rattle.fab_reach_base.specs.fab_names.Orders.{name_cmp};
 ghost use Rattle.fab_store_drafts.specs.Inner.Nearby.{SharesHost, SharesHostOf, IsNear, ServesOne, IsBeside};
 
 use crate::users::Users;
 use crate::uses::Used;
-use fab_mapping::{HostGroup, Mapping, StorageGroup};
-use fab_names::Name;
+use fab_reach_base::mapping::{HostGroup, Mapping, StorageGroup};
+use fab_reach_base::names::Name;
 use std::alloc::{AllocError, Allocator};
 use std::collections::BTreeSet;
 

@@ -1,16 +1,16 @@
 //! Who uses what in a configuration.
 ghost use Rattle.std.specs.Prelude.{◌≡◌, ◌↔◌, ℕ, List, OnOk, IfOk, IsTrue, true};
 ghost use Rattle.std.specs.BTreeSet.{contains};
-ghost use Rattle.fab_lemmas.specs.Adding.{Adds};
-ghost use Rattle.fab_names.specs.Orders.{name_cmp};
+ghost use Rattle.fab_reach_base.specs.fab_lemmas.Adding.{Adds};
+ghost use Rattle.fab_reach_base.specs.fab_names.Orders.{name_cmp};
 ghost use Rattle.fab_store_drafts.specs.Uses.{Use};
 ghost use Rattle.fab_store_drafts.specs.Users.{IsUse, AreUsers, PutsUse, TakesUse, PutsUses, TakesUses};
 
 use crate::uses::{Used, use_of};
-use fab_names::Name;
 use fab_reach_base::Config;
+use fab_reach_base::names::Name;
+use fab_reach_base::zoning::{put_in_tree, take_from};
 use fab_store_rows::{ConfigRow, config_rows};
-use fab_zoning::{put_in_tree, take_from};
 use std::alloc::{AllocError, Allocator};
 use std::collections::{BTreeMap, BTreeSet};
 

@@ -2,9 +2,9 @@
 ghost use Rattle.std.specs.Prelude.{◌≡◌};
 ghost use Rattle.fab_store_drafts.specs.Uses.{member_use, item_use, storage_use, part_use, use_of};
 
-use fab_names::{Fabric, Member, Name};
+use fab_reach_base::names::{Fabric, Member, Name};
+use fab_reach_base::zoning::Key;
 use fab_store_rows::{ConfigRow, PartRow, StoragePart, ZoningItem};
-use fab_zoning::Key;
 
 /// What rows of a configuration use by its name.
 ///

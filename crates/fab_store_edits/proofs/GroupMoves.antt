@@ -3,16 +3,16 @@ use Rattle.std.proofs.Common.{ℕ, ◌≡◌, ◌⊎◌, inl, inr, List, Option,
 use mathlib.Core.Bool.{true≢false}
 use Rattle.std.specs.FinMap as map
 use Rattle.std.specs.FinSet as set
-use Rattle.fab_names.proofs.OrderLaws.{name_total, name_exact}
-use Rattle.fab_names.specs.declared.fabric.Fabric.{Fabric}
-use Rattle.fab_names.specs.declared.fabric.Fabric.TheVariants.{A, B}
-use Rattle.fab_names.specs.Orders.{name_cmp}
+use Rattle.fab_reach_base.proofs.fab_names.OrderLaws.{name_total, name_exact}
+use Rattle.fab_reach_base.specs.fab_names.declared.fabric.Fabric.{Fabric}
+use Rattle.fab_reach_base.specs.fab_names.declared.fabric.Fabric.TheVariants.{A, B}
+use Rattle.fab_reach_base.specs.fab_names.Orders.{name_cmp}
 use Rattle.std.specs.Ordering.{nat_cmp}
-use Rattle.fab_zoning.specs.Zonings.{FabricZoning, permits}
-use Rattle.fab_lemmas.specs.Firsts.{HasAt}
-use Rattle.fab_lemmas.proofs.Adding.{adds_one}
-use Rattle.fab_mapping_base.specs.Groups.{HostGroupRows, StorageGroupRows, HaveSameHead}
-use Rattle.fab_mapping.specs.Mappings.{MappingRows}
+use Rattle.fab_reach_base.specs.fab_zoning.Zonings.{FabricZoning, permits}
+use Rattle.fab_reach_base.specs.fab_lemmas.Firsts.{HasAt}
+use Rattle.fab_reach_base.proofs.fab_lemmas.Adding.{adds_one}
+use Rattle.fab_reach_base.specs.fab_mapping_base.Groups.{HostGroupRows, StorageGroupRows, HaveSameHead}
+use Rattle.fab_reach_base.specs.fab_mapping.Mappings.{MappingRows}
 use Rattle.fab_reach_base.specs.Records.{ConfigRows, zoning_at}
 use Rattle.fab_store_rows.specs.declared.config_row.SettingRow.TheVariants.{ActiveSet, DefaultZone}
 use Rattle.fab_store_rows.specs.declared.config_row.HostGroupRow.{HostGroupRow}

@@ -3,12 +3,12 @@ use Rattle.std.proofs.Common.{ℕ, ◌≡◌, inl, inr, List, refl, sym, ap, sub
 use Rattle.std.specs.declared.cmp.Ordering.{Ordering}
 use Rattle.std.specs.Cmp.{IsTotalOrder}
 use Rattle.std.specs.FinSet as set
-use Rattle.fab_names.specs.declared.member.Member.{Member}
-use Rattle.fab_names.specs.Orders.{name_cmp, member_cmp}
-use Rattle.fab_names.proofs.OrderLaws.{name_total, name_exact, member_total, member_exact}
-use Rattle.fab_lemmas.proofs.Sizes.{holds_some, some_member}
-use Rattle.fab_zoning.specs.Edits.{Puts, Takes, IsItem, HasSome}
-use Rattle.fab_zoning.specs.Zonings.{FabricZoning, NamedSets}
+use Rattle.fab_reach_base.specs.fab_names.declared.member.Member.{Member}
+use Rattle.fab_reach_base.specs.fab_names.Orders.{name_cmp, member_cmp}
+use Rattle.fab_reach_base.proofs.fab_names.OrderLaws.{name_total, name_exact, member_total, member_exact}
+use Rattle.fab_reach_base.proofs.fab_lemmas.Sizes.{holds_some, some_member}
+use Rattle.fab_reach_base.specs.fab_zoning.Edits.{Puts, Takes, IsItem, HasSome}
+use Rattle.fab_reach_base.specs.fab_zoning.Zonings.{FabricZoning, NamedSets}
 use Rattle.fab_store_rows.specs.declared.config_row.ZoningItem.{ZoningItem}
 use Rattle.fab_store_rows.specs.declared.config_row.ZoningItem.TheVariants.{Alias, Zone, Set}
 use Rattle.fab_store_rows.specs.Standing.{HasItem}

@@ -6,9 +6,9 @@ use Rattle.std.specs.Ordering.{nat_cmp, eq_by_cmp, is_eq}
 use Rattle.std.specs.Cmp.{IsTotalOrder, Equal-is, tied_itself, nat_cmp_total}
 use Rattle.std.specs.FinMap as map
 use Rattle.std.specs.FinSet as set
-use Rattle.fab_names.proofs.OrderLaws.{name_total, name_exact}
-use Rattle.fab_lemmas.proofs.Adding.{adds_one}
-use Rattle.fab_mapping_base.specs.Groups.{StorageGroupRows, HaveSameHead, with_hosts, without_hosts, with_target, without_target, with_unit, without_unit}
+use Rattle.fab_reach_base.proofs.fab_names.OrderLaws.{name_total, name_exact}
+use Rattle.fab_reach_base.proofs.fab_lemmas.Adding.{adds_one}
+use Rattle.fab_reach_base.specs.fab_mapping_base.Groups.{StorageGroupRows, HaveSameHead, with_hosts, without_hosts, with_target, without_target, with_unit, without_unit}
 use Rattle.fab_store_rows.specs.declared.config_row.StoragePart.{StoragePart}
 use Rattle.fab_store_rows.specs.declared.config_row.StoragePart.TheVariants.{HostGroup, Target, Unit}
 use Rattle.fab_store_rows.specs.Standing.{HasPart}

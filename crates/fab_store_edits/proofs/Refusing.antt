@@ -1,10 +1,10 @@
 -- Settings put in, what refuses a row, and what is put in another's place.
 use Rattle.std.proofs.Common.{ℕ, ◌≡◌, ◌⊎◌, inl, inr, List, Option, None, Some, Bool, true, false, Result, Ok, Err, IfOk, refl, sym, ap, ◌∙◌, subst}
 use Rattle.std.specs.FinMap as map
-use Rattle.fab_names.specs.declared.fabric.Fabric.{Fabric}
-use Rattle.fab_lemmas.specs.Firsts.{HasAt}
-use Rattle.fab_zoning.specs.Zonings.{FabricZoning, permits, flag_of}
-use Rattle.fab_mapping_base.specs.Groups.{HostGroupRows, StorageGroupRows}
+use Rattle.fab_reach_base.specs.fab_names.declared.fabric.Fabric.{Fabric}
+use Rattle.fab_reach_base.specs.fab_lemmas.Firsts.{HasAt}
+use Rattle.fab_reach_base.specs.fab_zoning.Zonings.{FabricZoning, permits, flag_of}
+use Rattle.fab_reach_base.specs.fab_mapping_base.Groups.{HostGroupRows, StorageGroupRows}
 use Rattle.fab_reach_base.specs.Records.{ConfigRows, zoning_at}
 use Rattle.fab_store_rows.specs.declared.config_row.SettingRow.TheVariants.{ActiveSet, DefaultZone}
 use Rattle.fab_store_rows.specs.declared.config_row.HostGroupRow.{HostGroupRow}

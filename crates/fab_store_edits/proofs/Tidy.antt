@@ -6,13 +6,13 @@ use Rattle.std.specs.Cmp.{IsTotalOrder, nat_cmp_total}
 use Rattle.std.specs.FinMap as map
 use Rattle.std.specs.FinSet as set
 use Rattle.std.specs.Option.{is_some}
-use Rattle.fab_names.specs.declared.fabric.Fabric.{Fabric}
-use Rattle.fab_names.specs.declared.fabric.Fabric.TheVariants.{A, B}
-use Rattle.fab_names.proofs.OrderLaws.{name_total, name_exact, member_total, member_exact}
-use Rattle.fab_lemmas.specs.MapsOfSets.{has, in_set}
-use Rattle.fab_zoning.specs.Zonings.{NamedSets, permits, flag_of, flag_of-permits}
-use Rattle.fab_zoning_rows.proofs.RowSets.{row_total as active_total, row_exact as active_exact}
-use Rattle.fab_mapping_base.specs.Groups.{HostGroupRows, StorageGroupRows}
+use Rattle.fab_reach_base.specs.fab_names.declared.fabric.Fabric.{Fabric}
+use Rattle.fab_reach_base.specs.fab_names.declared.fabric.Fabric.TheVariants.{A, B}
+use Rattle.fab_reach_base.proofs.fab_names.OrderLaws.{name_total, name_exact, member_total, member_exact}
+use Rattle.fab_reach_base.specs.fab_lemmas.MapsOfSets.{has, in_set}
+use Rattle.fab_reach_base.specs.fab_zoning.Zonings.{NamedSets, permits, flag_of, flag_of-permits}
+use Rattle.fab_reach_base.proofs.fab_zoning_rows.RowSets.{row_total as active_total, row_exact as active_exact}
+use Rattle.fab_reach_base.specs.fab_mapping_base.Groups.{HostGroupRows, StorageGroupRows}
 use Rattle.fab_reach_base.specs.Records.{ConfigRows, zoning_at}
 use Rattle.fab_store_rows.specs.declared.config_row.SettingRow.TheVariants.{ActiveSet, DefaultZone}
 use Rattle.fab_store_rows.specs.declared.config_row.ZoningItem.TheVariants.{Alias, Zone, Set}
@@ -24,7 +24,7 @@ use Rattle.fab_store_rows.specs.Telling.{HaveSameRows}
 use Rattle.fab_store_rows.proofs.Determined.{same_option}
 use Rattle.fab_reach_base.proofs.Same.{same_some}
 use Rattle.fab_store_edits.specs.Tidy.{HasNoEmpty, HasNoEmptySet, IsTidy}
-use Rattle.fab_lemmas.proofs.Sizes.{some_member}
+use Rattle.fab_reach_base.proofs.fab_lemmas.Sizes.{some_member}
 
 same_bool : (a b : Bool) → (a ≡ true → b ≡ true) → (b ≡ true → a ≡ true) → a ≡ b
 same_bool true b to from = sym (to refl)

@@ -4,13 +4,13 @@ use mathlib.Core.Bool.{true≢false}
 use Rattle.std.specs.Ordering.{eq_by_cmp, is_eq}
 use Rattle.std.specs.Cmp.{Equal-is, tied_itself}
 use Rattle.std.specs.FinSet as set
-use Rattle.fab_names.specs.declared.fabric.Fabric.{Fabric}
-use Rattle.fab_names.specs.declared.fabric.Fabric.TheVariants.{A, B}
-use Rattle.fab_names.specs.declared.member.Member.{Member}
-use Rattle.fab_lemmas.proofs.Adding.{adds_one}
-use Rattle.fab_zoning_rows.specs.Rows.{Row, Rows, row_cmp}
-use Rattle.fab_zoning.specs.Zonings.{FabricZoning, permits}
-use Rattle.fab_zoning_rows.proofs.RowSets.{row_total, row_exact}
+use Rattle.fab_reach_base.specs.fab_names.declared.fabric.Fabric.{Fabric}
+use Rattle.fab_reach_base.specs.fab_names.declared.fabric.Fabric.TheVariants.{A, B}
+use Rattle.fab_reach_base.specs.fab_names.declared.member.Member.{Member}
+use Rattle.fab_reach_base.proofs.fab_lemmas.Adding.{adds_one}
+use Rattle.fab_reach_base.specs.fab_zoning_rows.Rows.{Row, Rows, row_cmp}
+use Rattle.fab_reach_base.specs.fab_zoning.Zonings.{FabricZoning, permits}
+use Rattle.fab_reach_base.proofs.fab_zoning_rows.RowSets.{row_total, row_exact}
 use Rattle.fab_reach_base.specs.Records.{ConfigRows, zoning_at}
 use Rattle.fab_store_rows.specs.declared.config_row.SettingRow.TheVariants.{ActiveSet, DefaultZone}
 use Rattle.fab_store_rows.specs.declared.config_row.ZoningItem.{ZoningItem}

@@ -1,9 +1,9 @@
 -- Rows of a configuration, by what they tell.
 use Rattle.std.specs.Prelude.{ℕ, List, true}
-use Rattle.fab_names.specs.declared.fabric.Fabric.{Fabric}
-use Rattle.fab_names.specs.declared.member.Member.{Member}
-use Rattle.fab_zoning.specs.Zonings.{permits}
-use Rattle.fab_mapping_base.specs.Groups.{StorageGroupRows}
+use Rattle.fab_reach_base.specs.fab_names.declared.fabric.Fabric.{Fabric}
+use Rattle.fab_reach_base.specs.fab_names.declared.member.Member.{Member}
+use Rattle.fab_reach_base.specs.fab_zoning.Zonings.{permits}
+use Rattle.fab_reach_base.specs.fab_mapping_base.Groups.{StorageGroupRows}
 use Rattle.fab_reach_base.specs.Records.{ConfigRows, zoning_at}
 use Rattle.fab_store_rows.specs.declared.config_row.ConfigRow.{ConfigRow}
 use Rattle.fab_store_rows.specs.declared.config_row.ConfigRow.TheVariants as config

@@ -3,8 +3,8 @@ use Rattle.std.specs.Prelude.{ℕ, ◌≡◌, ◌<◌, List, Some}
 use Rattle.std.specs.declared.cmp.Ordering.{Ordering}
 use Rattle.std.specs.FinMap as map
 use Rattle.std.specs.FinSet as set
-use Rattle.fab_names.specs.declared.fabric.Fabric.{Fabric}
-use Rattle.fab_zoning.specs.Zonings.{FabricZoning, NamedSets}
+use Rattle.fab_reach_base.specs.fab_names.declared.fabric.Fabric.{Fabric}
+use Rattle.fab_reach_base.specs.fab_zoning.Zonings.{FabricZoning, NamedSets}
 use Rattle.fab_reach_base.specs.Records.{ConfigRows, zoning_at}
 
 -- no set of the map is empty

@@ -2,8 +2,8 @@
 ghost use Rattle.std.specs.Prelude.{◌≡◌, ℕ, List, true, false, Some};
 ghost use Rattle.std.specs.FinMap as map;
 ghost use Rattle.std.specs.FinSet as set;
-ghost use Rattle.fab_mapping_base.specs.Bare.{HasNoPart};
-ghost use Rattle.fab_mapping_base.specs.Groups.{HostGroupRows, StorageGroupRows};
+ghost use Rattle.fab_reach_base.specs.fab_mapping_base.Bare.{HasNoPart};
+ghost use Rattle.fab_reach_base.specs.fab_mapping_base.Groups.{HostGroupRows, StorageGroupRows};
 ghost use Rattle.fab_store_rows.specs.declared.config_row.ConfigRow.TheVariants as config_row;
 ghost use Rattle.fab_store_rows.specs.declared.config_row.GroupRow.TheVariants as group;
 ghost use Rattle.fab_store_rows.specs.Standing.{IsGroup, Stands};
@@ -11,9 +11,9 @@ ghost use Rattle.fab_store_edits.specs.Tidy.{IsTidy};
 ghost use Rattle.fab_store_edits.specs.Inner.Edits as edits;
 ghost use Rattle.fab_store_edits.specs.Inner.Edits.{IsTaken, IsHeld};
 
-use fab_mapping::Mapping;
-use fab_names::Name;
 use fab_reach_base::Config;
+use fab_reach_base::mapping::Mapping;
+use fab_reach_base::names::Name;
 use fab_store_rows::{ConfigRow, GroupRow, HostGroupRow, StorageGroupRow};
 use std::alloc::Allocator;
 

@@ -1,7 +1,7 @@
 //! Heads of groups put in place of those that go.
 ghost use Rattle.std.specs.Prelude.{◌≡◌, true, false, Some, IfOk};
 ghost use Rattle.std.specs.FinMap as map;
-ghost use Rattle.fab_mapping_base.specs.Groups.{HostGroupRows, StorageGroupRows};
+ghost use Rattle.fab_reach_base.specs.fab_mapping_base.Groups.{HostGroupRows, StorageGroupRows};
 ghost use Rattle.fab_store_rows.specs.declared.config_row.ConfigRow.TheVariants as config_row;
 ghost use Rattle.fab_store_rows.specs.declared.config_row.GroupRow.TheVariants as group;
 ghost use Rattle.fab_store_rows.specs.Gathering.{Has};
@@ -11,9 +11,9 @@ ghost use Rattle.fab_store_edits.specs.Tidy.{IsTidy};
 ghost use Rattle.fab_store_edits.specs.Inner.Edits.{IsPut, HasRival};
 
 use crate::mapping_rows::{put_host_head, put_storage_head};
-use fab_mapping::Mapping;
-use fab_names::Name;
 use fab_reach_base::Config;
+use fab_reach_base::mapping::Mapping;
+use fab_reach_base::names::Name;
 use fab_store_rows::{ConfigRow, GroupRow, HostGroupRow, StorageGroupRow};
 use std::alloc::{AllocError, Allocator};
 use std::collections::BTreeSet;

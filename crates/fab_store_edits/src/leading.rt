@@ -15,8 +15,8 @@ ghost use Rattle.fab_store_edits.specs.Inner.Leads.{CanLead, TakesIf, PutsIf, Re
 
 use crate::drops::drop_sole;
 use crate::edits::{is_head, is_sole, put_row, take_row};
-use fab_lemmas::set_of;
 use fab_reach_base::Config;
+use fab_reach_base::lemmas::set_of;
 use fab_store_rows::{ConfigRow, has_row};
 use std::alloc::{AllocError, Allocator};
 use std::cmp::Ordering;

@@ -1,12 +1,12 @@
 //! Rows of a mapping put in and taken out.
 ghost use Rattle.std.specs.Prelude.{◌≡◌, ◌⊎◌, None, Some, true, false, OnOk, IfOk};
 ghost use Rattle.std.specs.FinMap as map;
-ghost use Rattle.fab_lemmas.specs.Firsts.{HasAt};
+ghost use Rattle.fab_reach_base.specs.fab_lemmas.Firsts.{HasAt};
 ghost use Rattle.fab_store_rows.specs.declared.config_row.StoragePart.TheVariants as part;
 ghost use Rattle.fab_store_edits.specs.Inner.MappingEdits.{HostsBecome, StorageBecomes, PutsHost, TakesHost, hosts_headed, PutsPart, TakesPart, IsTakenUnit, PutsIn, TakesOf, storage_headed};
 
-use fab_mapping::{HostGroup, Mapping, StorageGroup};
-use fab_names::Name;
+use fab_reach_base::mapping::{HostGroup, Mapping, StorageGroup};
+use fab_reach_base::names::Name;
 use fab_store_rows::{HostGroupRow, StorageGroupRow, StoragePart};
 use std::alloc::{AllocError, Allocator};
 use std::collections::BTreeSet;

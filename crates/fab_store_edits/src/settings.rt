@@ -4,15 +4,15 @@ ghost use Rattle.fab_store_rows.specs.declared.config_row.ConfigRow.TheVariants 
 ghost use Rattle.fab_store_rows.specs.declared.config_row.SettingRow.TheVariants as setting;
 ghost use Rattle.fab_store_rows.specs.Gathering.{Has};
 ghost use Rattle.fab_store_rows.specs.Standing.{IsSetting};
-ghost use Rattle.fab_zoning.specs.Zonings.{permits, flag_of};
+ghost use Rattle.fab_reach_base.specs.fab_zoning.Zonings.{permits, flag_of};
 ghost use Rattle.fab_store_edits.specs.Tidy.{IsTidy};
 ghost use Rattle.fab_store_edits.specs.Rows.{name_row, flag_row};
 ghost use Rattle.fab_store_edits.specs.Inner.Edits.{Is, IsPut, HasRival};
 
-use fab_names::{Fabric, Name};
 use fab_reach_base::Config;
+use fab_reach_base::names::{Fabric, Name};
+use fab_reach_base::zoning::DefaultFlag;
 use fab_store_rows::{ConfigRow, SettingRow};
-use fab_zoning::DefaultFlag;
 use std::alloc::Allocator;
 use std::collections::BTreeSet;
 

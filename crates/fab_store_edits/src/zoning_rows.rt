@@ -5,10 +5,10 @@ ghost use Rattle.fab_store_edits.specs.Tidy.{HasNoEmptySet, IsTidy};
 ghost use Rattle.fab_store_edits.specs.Inner.Edits.{NoRow, IsPut, IsTaken};
 ghost use Rattle.fab_store_edits.specs.Inner.ZoningEdits.{PutsItem, TakesItem};
 
-use fab_names::Fabric;
 use fab_reach_base::Config;
+use fab_reach_base::names::Fabric;
+use fab_reach_base::zoning::Zoning;
 use fab_store_rows::{ActiveRow, ZoningItem, ZoningRow};
-use fab_zoning::Zoning;
 use std::alloc::{AllocError, Allocator};
 
 /// Puts an item into an alias, a zone or a zone set.

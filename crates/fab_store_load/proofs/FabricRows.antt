@@ -14,15 +14,15 @@ use Rattle.fab_names.specs.Orders.{name_cmp, member_cmp}
 use Rattle.fab_names.proofs.OrderLaws.{name_total, name_exact, member_total, member_exact}
 use Rattle.fab_names.specs.declared.fabric.Fabric.{Fabric}
 use Rattle.fab_names.specs.declared.member.Member.{Member}
-use Rattle.fab_lemmas.specs.MapsOfSets.{MapOfSets, has, in_set, seen_sets}
-use Rattle.fab_lemmas.proofs.MapsOfSets.{get_seen, has_seen}
-use Rattle.fab_lemmas.proofs.Passing.{seen_some}
-use Rattle.fab_zoning.specs.declared.flag.DefaultFlag.{DefaultFlag}
-use Rattle.fab_zoning_rows.specs.Rows.{Rows}
-use Rattle.fab_zoning_rows.specs.Views.{seen_rows}
-use Rattle.fab_zoning.specs.Zonings.{FabricZoning, NamedSets, permits}
-use Rattle.fab_zoning.specs.Soundness.{AreListings, AreSoundDefinitions, IsSoundActive}
-use Rattle.fab_zoning_rows.proofs.RowSets.{row_total, row_exact, contains_seen}
+use Rattle.fab_reach_base.specs.fab_lemmas.MapsOfSets.{MapOfSets, has, in_set, seen_sets}
+use Rattle.fab_reach_base.proofs.fab_lemmas.MapsOfSets.{get_seen, has_seen}
+use Rattle.fab_reach_base.proofs.fab_lemmas.Passing.{seen_some}
+use Rattle.fab_reach_base.specs.fab_zoning.declared.flag.DefaultFlag.{DefaultFlag}
+use Rattle.fab_reach_base.specs.fab_zoning_rows.Rows.{Rows}
+use Rattle.fab_reach_base.specs.fab_zoning_rows.Views.{seen_rows}
+use Rattle.fab_reach_base.specs.fab_zoning.Zonings.{FabricZoning, NamedSets, permits}
+use Rattle.fab_reach_base.specs.fab_zoning.Soundness.{AreListings, AreSoundDefinitions, IsSoundActive}
+use Rattle.fab_reach_base.proofs.fab_zoning_rows.RowSets.{row_total, row_exact, contains_seen}
 use Rattle.fab_reach_base.specs.Records.{ConfigRows, zoning_at}
 use Rattle.fab_store_rows.specs.declared.config_row.ConfigRow.{ConfigRow}
 use Rattle.fab_store_load.specs.Rows.{AreRows, IsIn, HasItems, HasRepeat, StandsIn}

@@ -17,9 +17,9 @@ use Rattle.std.proofs.lemmas.List.Sums.{AllPass-from_list_all, list_all-from_All
 use Rattle.std.proofs.lemmas.Map.Views.{All-from_any, Contains-from_any, tells_apart}
 use Rattle.fab_names.specs.Orders.{name_cmp}
 use Rattle.fab_names.proofs.OrderLaws.{name_total, name_exact}
-use Rattle.fab_lemmas.specs.Firsts.{HasAt}
-use Rattle.fab_lemmas.specs.MapsOfSets.{in_tree}
-use Rattle.fab_lemmas.proofs.SeenMaps.{get_entries}
+use Rattle.fab_reach_base.specs.fab_lemmas.Firsts.{HasAt}
+use Rattle.fab_reach_base.specs.fab_lemmas.MapsOfSets.{in_tree}
+use Rattle.fab_reach_base.proofs.fab_lemmas.SeenMaps.{get_entries}
 use Rattle.fab_store_rows.specs.declared.config_row.ConfigRow.{ConfigRow}
 use Rattle.fab_store_load.specs.Rows.{AreRows, at, StandsIn}
 use Rattle.fab_store_load.specs.Kinds.{Named}

@@ -7,3 +7,4 @@ pub mod Assembling
 pub mod GroupRows
 pub mod MappingRows
 pub mod WholeRows
+pub use Rattle.fab_store_rows.proofs as fab_store_rows

@@ -17,13 +17,13 @@ use Rattle.std.proofs.lemmas.Map.Keys.{IsDistinct-from_sorted}
 use Rattle.std.proofs.lemmas.Map.Steps.{length-le_from_keys}
 use Rattle.fab_names.specs.Orders.{name_cmp}
 use Rattle.fab_names.proofs.OrderLaws.{name_total, name_exact}
-use Rattle.fab_lemmas.specs.Firsts.{HasAt}
-use Rattle.fab_lemmas.specs.MapsOfSets.{in_tree, tree_has}
-use Rattle.fab_lemmas.proofs.SeenMaps.{get_entries}
-use Rattle.fab_lemmas.proofs.Tests.{both, left, right}
-use Rattle.fab_mapping_base.specs.Groups.{HostGroupRows, StorageGroupRows}
-use Rattle.fab_mapping_base.specs.declared.nexus.Nexus.{Nexus}
-use Rattle.fab_mapping.specs.Mappings.{MappingRows, HasNoClash, IsLeastClash}
+use Rattle.fab_reach_base.specs.fab_lemmas.Firsts.{HasAt}
+use Rattle.fab_reach_base.specs.fab_lemmas.MapsOfSets.{in_tree, tree_has}
+use Rattle.fab_reach_base.proofs.fab_lemmas.SeenMaps.{get_entries}
+use Rattle.fab_reach_base.proofs.fab_lemmas.Tests.{both, left, right}
+use Rattle.fab_reach_base.specs.fab_mapping_base.Groups.{HostGroupRows, StorageGroupRows}
+use Rattle.fab_reach_base.specs.fab_mapping_base.declared.nexus.Nexus.{Nexus}
+use Rattle.fab_reach_base.specs.fab_mapping.Mappings.{MappingRows, HasNoClash, IsLeastClash}
 use Rattle.fab_reach_base.specs.Records.{ConfigRows}
 use Rattle.fab_store_rows.specs.declared.config_row.ConfigRow.{ConfigRow}
 use Rattle.fab_store_rows.specs.declared.config_row.StoragePart.TheVariants as part
@@ -35,7 +35,7 @@ use Rattle.fab_store_load.specs.Kinds.{Named, host_group_row, storage_group_row,
 use Rattle.fab_store_load.specs.Assembled.{set_at, map_at, host_group_at, storage_group_at}
 use Rattle.fab_store_load.specs.Parts.{HaveParts, are_parts_known}
 use Rattle.fab_store_load.specs.Configs.{AreConfigRows, HostGroupsSay, StorageGroupsSay}
-use Rattle.fab_lemmas.proofs.KeyTests.{key_passes, each_key_passes, any_found}
+use Rattle.fab_reach_base.proofs.fab_lemmas.KeyTests.{key_passes, each_key_passes, any_found}
 use Rattle.fab_store_load.proofs.GroupRows.{found_in_set, found_in_map, one_test, one_found, heads_of_groups, heads_alike, made_heads, made_parts, part_of_group, part_has_head, groups_are_made}
 
 -- whether a name has a head

@@ -7,10 +7,10 @@ use Rattle.std.specs.Option.{option_map, option_and_then}
 use Rattle.std.specs.Ordering.{nat_cmp}
 use Rattle.fab_names.specs.Places.{Position}
 use Rattle.fab_names.specs.declared.fabric.Fabric.{Fabric}
-use Rattle.fab_inventory.specs.declared.port.Known.{Known}
-use Rattle.fab_inventory.specs.declared.port.Seat.{Seat}
-use Rattle.fab_inventory.specs.Ports.{KnownPorts}
-use Rattle.fab_inventory.specs.Restores.{AreAddressesSound, AreSeated, seated}
+use Rattle.fab_reach_base.specs.fab_inventory.declared.port.Known.{Known}
+use Rattle.fab_reach_base.specs.fab_inventory.declared.port.Seat.{Seat}
+use Rattle.fab_reach_base.specs.fab_inventory.Ports.{KnownPorts}
+use Rattle.fab_reach_base.specs.fab_inventory.Restores.{AreAddressesSound, AreSeated, seated}
 use Rattle.fab_store_rows.specs.declared.inventory_row.PortEntry.{PortEntry}
 use Rattle.fab_store_rows.specs.declared.inventory_row.AddressRow.{AddressRow}
 use Rattle.fab_store_rows.specs.Standing.{entry_of, entry_at, address_at}

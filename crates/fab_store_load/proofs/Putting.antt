@@ -10,8 +10,8 @@ use Rattle.std.specs.Map.{lookup}
 use Rattle.std.specs.Option.{option_and_then}
 use Rattle.std.specs.Cmp.{IsTotalOrder, Equal-is, tied_itself}
 use Rattle.std.specs.FinSet as set
-use Rattle.fab_lemmas.specs.MapsOfSets.{in_tree}
-use Rattle.fab_lemmas.proofs.Adding.{tree_adds_one}
+use Rattle.fab_reach_base.specs.fab_lemmas.MapsOfSets.{in_tree}
+use Rattle.fab_reach_base.proofs.fab_lemmas.Adding.{tree_adds_one}
 use Rattle.fab_store_load.specs.Rows.{StandsIn}
 use Rattle.fab_store_load.specs.Puts.{Puts}
 

@@ -9,15 +9,15 @@ use Rattle.std.specs.FinSet as set
 use Rattle.std.specs.Ordering.{nat_cmp}
 use Rattle.fab_names.specs.Orders.{name_cmp}
 use Rattle.fab_names.proofs.OrderLaws.{name_total, name_exact}
-use Rattle.fab_inventory.specs.declared.port.Seat.{Seat}
-use Rattle.fab_inventory.specs.declared.holder.Holder.{Holder}
-use Rattle.fab_inventory.specs.declared.holder.Volume.{Volume}
-use Rattle.fab_inventory.specs.declared.fault.RestoreFault.{RestoreFault}
-use Rattle.fab_inventory.specs.declared.fault.RestoreFault.TheVariants as restore
-use Rattle.fab_inventory.specs.Inventories.{InventoryRows, IsSound}
-use Rattle.fab_inventory.specs.Restores.{ArePortsSound, AreAddressesSound, AreHoldersSound, AreVolumesSound, AreSeated, IsRestored, RestoreFails}
-use Rattle.fab_inventory.proofs.Restoring.{parts_of_sound}
-use Rattle.fab_lemmas.proofs.SeenMaps.{same_look_ups}
+use Rattle.fab_reach_base.specs.fab_inventory.declared.port.Seat.{Seat}
+use Rattle.fab_reach_base.specs.fab_inventory.declared.holder.Holder.{Holder}
+use Rattle.fab_reach_base.specs.fab_inventory.declared.holder.Volume.{Volume}
+use Rattle.fab_reach_base.specs.fab_inventory.declared.fault.RestoreFault.{RestoreFault}
+use Rattle.fab_reach_base.specs.fab_inventory.declared.fault.RestoreFault.TheVariants as restore
+use Rattle.fab_reach_base.specs.fab_inventory.Inventories.{InventoryRows, IsSound}
+use Rattle.fab_reach_base.specs.fab_inventory.Restores.{ArePortsSound, AreAddressesSound, AreHoldersSound, AreVolumesSound, AreSeated, IsRestored, RestoreFails}
+use Rattle.fab_reach_base.proofs.fab_inventory.Restoring.{parts_of_sound}
+use Rattle.fab_reach_base.proofs.fab_lemmas.SeenMaps.{same_look_ups}
 use Rattle.fab_store_rows.specs.declared.inventory_row.PortEntry.{PortEntry}
 use Rattle.fab_store_rows.specs.declared.inventory_row.AddressRow.{AddressRow}
 use Rattle.fab_store_rows.specs.declared.inventory_row.HolderRow.{HolderRow}

@@ -3,9 +3,9 @@ use Rattle.std.proofs.Common.{ℕ, ◌≡◌, ◌↔◌, List, Contains}
 use Rattle.fab_names.specs.declared.fabric.Fabric.{Fabric}
 use Rattle.fab_names.specs.declared.fabric.Fabric.TheVariants.{A, B}
 use Rattle.fab_names.specs.declared.member.Member.{Member}
-use Rattle.fab_zoning.specs.Soundness as zonings
-use Rattle.fab_mapping.specs.Mappings.{HasNoClash}
-use Rattle.fab_mapping.specs.Soundness as mappings
+use Rattle.fab_reach_base.specs.fab_zoning.Soundness as zonings
+use Rattle.fab_reach_base.specs.fab_mapping.Mappings.{HasNoClash}
+use Rattle.fab_reach_base.specs.fab_mapping.Soundness as mappings
 use Rattle.fab_reach_base.specs.Records.{ConfigRows, zoning_at}
 use Rattle.fab_reach_base.specs.Soundness.{IsSoundAlone}
 use Rattle.fab_store_rows.specs.declared.config_row.SettingRow.TheVariants.{ActiveSet, DefaultZone}

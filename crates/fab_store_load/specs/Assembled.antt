@@ -7,8 +7,8 @@ use Rattle.std.specs.BTreeSet.{BTreeSet}
 use Rattle.std.specs.FinMap as map
 use Rattle.std.specs.FinSet as set
 use Rattle.fab_names.specs.Orders.{name_cmp}
-use Rattle.fab_lemmas.specs.MapsOfSets.{seen_set}
-use Rattle.fab_mapping_base.specs.Groups.{HostGroupRows, StorageGroupRows}
+use Rattle.fab_reach_base.specs.fab_lemmas.MapsOfSets.{seen_set}
+use Rattle.fab_reach_base.specs.fab_mapping_base.Groups.{HostGroupRows, StorageGroupRows}
 use Rattle.fab_store_load.specs.declared.kinds.Head.{Head}
 use Rattle.fab_store_load.specs.declared.groups.Parts.{Parts}
 

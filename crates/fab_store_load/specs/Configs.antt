@@ -5,15 +5,15 @@ use Rattle.std.specs.FinMap as map
 use Rattle.std.specs.FinSet as set
 use Rattle.fab_names.specs.declared.fabric.Fabric.{Fabric}
 use Rattle.fab_names.specs.Orders.{name_cmp}
-use Rattle.fab_lemmas.specs.Firsts.{HasAt}
-use Rattle.fab_lemmas.specs.MapsOfSets.{MapOfSets, has}
-use Rattle.fab_mapping_base.specs.Groups.{HostGroupRows, StorageGroupRows}
-use Rattle.fab_zoning.specs.declared.flag.DefaultFlag.{DefaultFlag}
-use Rattle.fab_zoning.specs.Zonings.{FabricZoning, permits}
-use Rattle.fab_zoning.specs.Soundness as zoning
-use Rattle.fab_mapping.specs.Mappings.{MappingRows, HasNoClash}
-use Rattle.fab_mapping.specs.Soundness as mapping
-use Rattle.fab_mapping_base.specs.declared.limits.TheConstants.{MOST_HOST_GROUPS, MOST_STORAGE_GROUPS}
+use Rattle.fab_reach_base.specs.fab_lemmas.Firsts.{HasAt}
+use Rattle.fab_reach_base.specs.fab_lemmas.MapsOfSets.{MapOfSets, has}
+use Rattle.fab_reach_base.specs.fab_mapping_base.Groups.{HostGroupRows, StorageGroupRows}
+use Rattle.fab_reach_base.specs.fab_zoning.declared.flag.DefaultFlag.{DefaultFlag}
+use Rattle.fab_reach_base.specs.fab_zoning.Zonings.{FabricZoning, permits}
+use Rattle.fab_reach_base.specs.fab_zoning.Soundness as zoning
+use Rattle.fab_reach_base.specs.fab_mapping.Mappings.{MappingRows, HasNoClash}
+use Rattle.fab_reach_base.specs.fab_mapping.Soundness as mapping
+use Rattle.fab_reach_base.specs.fab_mapping_base.declared.limits.TheConstants.{MOST_HOST_GROUPS, MOST_STORAGE_GROUPS}
 use Rattle.fab_reach_base.specs.Records.{ConfigRows}
 use Rattle.fab_store_rows.specs.declared.config_row.ConfigRow.{ConfigRow}
 use Rattle.fab_store_rows.specs.declared.config_row.StoragePart.TheVariants as part

@@ -1,9 +1,9 @@
 -- The rows of an inventory.
 use Rattle.std.specs.Prelude.{◌↔◌, List, Contains}
-use Rattle.fab_inventory.specs.declared.fault.RestoreFault.{RestoreFault}
-use Rattle.fab_inventory.specs.declared.fault.RestoreFault.TheVariants as restore
-use Rattle.fab_inventory.specs.Inventories.{InventoryRows}
-use Rattle.fab_inventory.specs.Restores.{ArePortsSound, AreAddressesSound, AreHoldersSound, AreVolumesSound}
+use Rattle.fab_reach_base.specs.fab_inventory.declared.fault.RestoreFault.{RestoreFault}
+use Rattle.fab_reach_base.specs.fab_inventory.declared.fault.RestoreFault.TheVariants as restore
+use Rattle.fab_reach_base.specs.fab_inventory.Inventories.{InventoryRows}
+use Rattle.fab_reach_base.specs.fab_inventory.Restores.{ArePortsSound, AreAddressesSound, AreHoldersSound, AreVolumesSound}
 use Rattle.fab_store_rows.specs.declared.inventory_row.PortEntry.{PortEntry}
 use Rattle.fab_store_rows.specs.declared.inventory_row.AddressRow.{AddressRow}
 use Rattle.fab_store_rows.specs.declared.inventory_row.HolderRow.{HolderRow}

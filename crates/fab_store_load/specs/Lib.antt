@@ -8,3 +8,4 @@ pub mod Inventories
 pub mod Configs
 pub mod Assembled
 pub mod Parts
+pub use Rattle.fab_store_rows.specs as fab_store_rows

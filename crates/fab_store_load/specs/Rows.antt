@@ -4,7 +4,7 @@ use Rattle.std.specs.declared.cmp.Ordering.{Ordering}
 use Rattle.std.specs.Option.{option_and_then}
 use Rattle.std.specs.BTreeMap.{BTreeMap, get}
 use Rattle.std.specs.BTreeSet.{BTreeSet, contains}
-use Rattle.fab_lemmas.specs.MapsOfSets.{tree_has}
+use Rattle.fab_reach_base.specs.fab_lemmas.MapsOfSets.{tree_has}
 
 -- the rows say all that has P, and nothing else: an entry's row is among them exactly where the entry
 -- has P

@@ -12,15 +12,15 @@ use Rattle.fab_names.specs.declared.fabric.Fabric.{Fabric}
 use Rattle.fab_names.specs.declared.fabric.Fabric.TheVariants.{A, B}
 use Rattle.fab_names.specs.contracts.fabric.FabricPartialEq.TheImpl as fabrics
 use Rattle.fab_names.specs.contracts.place.PlacePartialEq.TheImpl as places
-use Rattle.fab_inventory.specs.declared.port.Seat.{Seat}
-use Rattle.fab_inventory.specs.declared.holder.Holder.{Holder}
-use Rattle.fab_inventory.specs.declared.holder.Volume.{Volume}
-use Rattle.fab_inventory.specs.declared.holder.HolderKind.{HolderKind}
-use Rattle.fab_inventory.specs.declared.holder.HolderKind.TheVariants.{Host, Array}
-use Rattle.fab_inventory.specs.contracts.holder.HolderKindPartialEq.TheImpl as kinds
-use Rattle.fab_inventory.specs.contracts.port.SeatPartialEq.TheImpl as seat
-use Rattle.fab_inventory.specs.contracts.holder.HolderPartialEq.TheImpl as holder
-use Rattle.fab_inventory.specs.contracts.holder.VolumePartialEq.TheImpl as volume
+use Rattle.fab_reach_base.specs.fab_inventory.declared.port.Seat.{Seat}
+use Rattle.fab_reach_base.specs.fab_inventory.declared.holder.Holder.{Holder}
+use Rattle.fab_reach_base.specs.fab_inventory.declared.holder.Volume.{Volume}
+use Rattle.fab_reach_base.specs.fab_inventory.declared.holder.HolderKind.{HolderKind}
+use Rattle.fab_reach_base.specs.fab_inventory.declared.holder.HolderKind.TheVariants.{Host, Array}
+use Rattle.fab_reach_base.specs.fab_inventory.contracts.holder.HolderKindPartialEq.TheImpl as kinds
+use Rattle.fab_reach_base.specs.fab_inventory.contracts.port.SeatPartialEq.TheImpl as seat
+use Rattle.fab_reach_base.specs.fab_inventory.contracts.holder.HolderPartialEq.TheImpl as holder
+use Rattle.fab_reach_base.specs.fab_inventory.contracts.holder.VolumePartialEq.TheImpl as volume
 use Rattle.fab_store_load.specs.declared.kinds.Head.{Head}
 use Rattle.fab_store_load.specs.contracts.kinds.HeadPartialEq.TheImpl as head
 

@@ -5,14 +5,14 @@ ghost use Rattle.std.specs.Ordering.{nat_cmp};
 ghost use Rattle.std.specs.BTreeMap.{get, is_at};
 ghost use Rattle.std.specs.FinMap as map;
 ghost use Rattle.fab_names.specs.Orders.{name_cmp};
-ghost use Rattle.fab_lemmas.specs.MapsOfSets.{seen_set};
+ghost use Rattle.fab_reach_base.specs.fab_lemmas.MapsOfSets.{seen_set};
 ghost use Rattle.fab_store_load.specs.declared.kinds.Head.{Head};
 ghost use Rattle.fab_store_load.specs.Assembled.{set_at, map_at, host_group_at, storage_group_at};
 
 use crate::kind::Key;
 use crate::kinds::Head;
-use fab_mapping::{HostGroup, StorageGroup};
 use fab_names::{Name, Wwn};
+use fab_reach_base::mapping::{HostGroup, StorageGroup};
 use std::alloc::{AllocError, Allocator};
 use std::collections::{BTreeMap, BTreeSet};
 

@@ -1,13 +1,13 @@
 //! An inventory from its rows.
 ghost use Rattle.std.specs.Prelude.{◌≡◌, IfOk, IfErr};
-ghost use Rattle.fab_inventory.specs.Inventories.{InventoryRows, IsSound};
+ghost use Rattle.fab_reach_base.specs.fab_inventory.Inventories.{InventoryRows, IsSound};
 ghost use Rattle.fab_store_load.specs.Faults.{OfTable};
 ghost use Rattle.fab_store_load.specs.Inventories.{AreInventoryRows, InventoryPartIsSound, load_fault};
 
 use crate::kinds::{Addresses, Holders, Ports, Volumes};
 use crate::maps::map_of;
 use crate::{LoadFault, Table};
-use fab_inventory::{Inventory, RestoreFault};
+use fab_reach_base::inventory::{Inventory, RestoreFault};
 use fab_store_rows::{AddressRow, HolderRow, PortEntry, VolumeRow};
 use std::alloc::Allocator;
 

@@ -1,8 +1,8 @@
 //! Keys and values of the maps that rows are gathered into.
 use crate::kind::{Key, Value};
 use crate::kinds::Head;
-use fab_inventory::{Holder, Seat, Volume};
 use fab_names::{Address, Fabric, Member, Name, Wwn};
+use fab_reach_base::inventory::{Holder, Seat, Volume};
 use fab_store_rows::ConfigRow;
 
 impl Key for Wwn {

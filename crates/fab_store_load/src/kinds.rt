@@ -3,8 +3,8 @@ ghost use Rattle.std.specs.Prelude.{◌≡◌};
 ghost use Rattle.fab_store_load.specs.Kinds as spec;
 
 use crate::kind::Kind;
-use fab_inventory::{Holder, Seat, Volume};
 use fab_names::{Address, Fabric, Member, Name, Wwn};
+use fab_reach_base::inventory::{Holder, Seat, Volume};
 use fab_store_rows::{
     AddressRow, ConfigRow, GroupRow, HolderRow, PartRow, PortEntry, SettingRow, StoragePart,
     VolumeRow, ZoningItem,

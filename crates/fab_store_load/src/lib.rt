@@ -16,6 +16,7 @@ mod settings;
 mod zonings;
 
 pub use config::config_of;
+pub use fab_store_rows as rows;
 pub use fault::{LoadFault, Table};
 pub use inventory::inventory_of;
 pub use kind::{Key, Kind, Value};

@@ -4,9 +4,9 @@ ghost use Rattle.std.specs.List.{list_all};
 ghost use Rattle.std.specs.BTreeMap.{get, keys};
 ghost use Rattle.std.specs.FinMap as map;
 ghost use Rattle.fab_names.specs.Orders.{name_cmp};
-ghost use Rattle.fab_mapping_base.specs.Groups.{HostGroupRows, StorageGroupRows};
-ghost use Rattle.fab_mapping.specs.Mappings.{MappingRows, HasNoClash};
-ghost use Rattle.fab_mapping.specs.Soundness.{IsSound};
+ghost use Rattle.fab_reach_base.specs.fab_mapping_base.Groups.{HostGroupRows, StorageGroupRows};
+ghost use Rattle.fab_reach_base.specs.fab_mapping.Mappings.{MappingRows, HasNoClash};
+ghost use Rattle.fab_reach_base.specs.fab_mapping.Soundness.{IsSound};
 ghost use Rattle.fab_reach_base.specs.Records.{ConfigRows};
 ghost use Rattle.fab_store_load.specs.Rows.{AreRows, StandsIn};
 ghost use Rattle.fab_store_load.specs.Kinds.{host_group_row, storage_group_row};
@@ -21,8 +21,10 @@ use crate::maps::map_of;
 use crate::nested::maps_of;
 use crate::sets::sets_of;
 use crate::{LoadFault, Table};
-use fab_mapping::{HostGroup, MOST_HOST_GROUPS, MOST_STORAGE_GROUPS, Mapping, StorageGroup};
 use fab_names::Name;
+use fab_reach_base::mapping::{
+    HostGroup, MOST_HOST_GROUPS, MOST_STORAGE_GROUPS, Mapping, StorageGroup,
+};
 use fab_store_rows::ConfigRow;
 use std::alloc::{AllocError, Allocator};
 use std::collections::BTreeMap;

@@ -2,7 +2,7 @@
 ghost use Rattle.std.specs.Prelude.{◌≡◌, ◌⊎◌, None, Some, MatchOption, IfOk};
 ghost use Rattle.std.specs.BTreeMap.{get};
 ghost use Rattle.fab_names.specs.Orders.{fabric_cmp};
-ghost use Rattle.fab_zoning.specs.Zonings as zonings;
+ghost use Rattle.fab_reach_base.specs.fab_zoning.Zonings as zonings;
 ghost use Rattle.fab_reach_base.specs.Records.{ConfigRows};
 ghost use Rattle.fab_names.specs.declared.fabric.Fabric.TheVariants as fabric;
 ghost use Rattle.fab_store_load.specs.Configs.{AreConfigRows, SettingSays};
@@ -10,8 +10,8 @@ ghost use Rattle.fab_store_load.specs.Configs.{AreConfigRows, SettingSays};
 use crate::kinds::{ActiveSets, DefaultZones};
 use crate::maps::map_of;
 use fab_names::{Fabric, Name};
+use fab_reach_base::zoning::DefaultFlag;
 use fab_store_rows::ConfigRow;
-use fab_zoning::DefaultFlag;
 use std::alloc::{AllocError, Allocator};
 use std::collections::BTreeMap;
 

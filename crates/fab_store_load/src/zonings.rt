@@ -1,7 +1,7 @@
 //! The zoning of both fabrics from its rows.
 ghost use Rattle.std.specs.Prelude.{◌≡◌, IfOk, IfErr};
 ghost use Rattle.fab_names.specs.declared.fabric.Fabric.TheVariants as fabrics;
-ghost use Rattle.fab_zoning.specs.Soundness.{IsSound};
+ghost use Rattle.fab_reach_base.specs.fab_zoning.Soundness.{IsSound};
 ghost use Rattle.fab_reach_base.specs.Records.{ConfigRows};
 ghost use Rattle.fab_store_load.specs.Faults.{OfTable};
 ghost use Rattle.fab_store_load.specs.Configs.{AreConfigRows, ConfigPartIsSound, SettingSays, ZoningSays, HasNoEmptySet};
@@ -11,8 +11,8 @@ use crate::sets::sets_of;
 use crate::settings::{Setting, settings_of};
 use crate::{LoadFault, Table};
 use fab_names::Fabric;
+use fab_reach_base::zoning::{Zoning, ZoningParts};
 use fab_store_rows::ConfigRow;
-use fab_zoning::{Zoning, ZoningParts};
 use std::alloc::{AllocError, Allocator};
 
 /// The zoning of a fabric that has just these rows. Nothing is tested.

@@ -8,21 +8,21 @@ use Rattle.std.specs.FinSet as set
 use Rattle.std.specs.Option.{option_map, option_and_then, is_some}
 use Rattle.std.specs.List.Sorted.{IsStrictlySortedBy}
 use Rattle.std.proofs.lemmas.Map.Made.{is_member-Decides}
-use Rattle.fab_names.specs.declared.fabric.Fabric.{Fabric}
-use Rattle.fab_names.specs.declared.fabric.Fabric.TheVariants.{A, B}
-use Rattle.fab_names.proofs.OrderLaws.{name_total, name_exact, member_total, member_exact}
-use Rattle.fab_inventory.specs.declared.port.Known.{Known}
-use Rattle.fab_inventory.specs.declared.holder.Holder.{Holder}
-use Rattle.fab_inventory.specs.declared.holder.Volume.{Volume}
-use Rattle.fab_inventory.specs.Inventories.{InventoryRows}
-use Rattle.fab_lemmas.specs.MapsOfSets.{has, in_set}
-use Rattle.fab_lemmas.specs.Lists.{IsListOf}
-use Rattle.fab_lemmas.proofs.SeenSets.{tie_decides}
-use Rattle.fab_zoning.specs.Soundness.{AreListings, IsSound}
-use Rattle.fab_zoning.specs.Zonings.{NamedSets, permits, flag_of, flag_of-permits}
-use Rattle.fab_zoning_rows.proofs.RowSets.{row_total as active_total, row_exact as active_exact}
-use Rattle.fab_zoning.proofs.Keeping.{set_at}
-use Rattle.fab_mapping_base.specs.Groups.{HostGroupRows, StorageGroupRows}
+use Rattle.fab_reach_base.specs.fab_names.declared.fabric.Fabric.{Fabric}
+use Rattle.fab_reach_base.specs.fab_names.declared.fabric.Fabric.TheVariants.{A, B}
+use Rattle.fab_reach_base.proofs.fab_names.OrderLaws.{name_total, name_exact, member_total, member_exact}
+use Rattle.fab_reach_base.specs.fab_inventory.declared.port.Known.{Known}
+use Rattle.fab_reach_base.specs.fab_inventory.declared.holder.Holder.{Holder}
+use Rattle.fab_reach_base.specs.fab_inventory.declared.holder.Volume.{Volume}
+use Rattle.fab_reach_base.specs.fab_inventory.Inventories.{InventoryRows}
+use Rattle.fab_reach_base.specs.fab_lemmas.MapsOfSets.{has, in_set}
+use Rattle.fab_reach_base.specs.fab_lemmas.Lists.{IsListOf}
+use Rattle.fab_reach_base.proofs.fab_lemmas.SeenSets.{tie_decides}
+use Rattle.fab_reach_base.specs.fab_zoning.Soundness.{AreListings, IsSound}
+use Rattle.fab_reach_base.specs.fab_zoning.Zonings.{NamedSets, permits, flag_of, flag_of-permits}
+use Rattle.fab_reach_base.proofs.fab_zoning_rows.RowSets.{row_total as active_total, row_exact as active_exact}
+use Rattle.fab_reach_base.proofs.fab_zoning.Keeping.{set_at}
+use Rattle.fab_reach_base.specs.fab_mapping_base.Groups.{HostGroupRows, StorageGroupRows}
 use Rattle.fab_reach_base.specs.Records.{ConfigRows, zoning_at}
 use Rattle.fab_reach_base.specs.Soundness.{HasSoundZonings}
 use Rattle.fab_reach_base.proofs.SameLists.{same_sorted}

@@ -6,9 +6,9 @@ use Rattle.std.specs.Cmp.{IsTotalOrder}
 use Rattle.std.specs.FinSet as set
 use Rattle.std.specs.Option.{option_map}
 use Rattle.std.proofs.lemmas.Map.Views.{btree_set_contains_iff}
-use Rattle.fab_lemmas.specs.MapsOfSets.{in_set, in_tree, seen_set}
-use Rattle.fab_lemmas.proofs.SeenSets.{contains_seen}
-use Rattle.fab_mapping_base.specs.Groups.{HostGroupRows, StorageGroupRows}
+use Rattle.fab_reach_base.specs.fab_lemmas.MapsOfSets.{in_set, in_tree, seen_set}
+use Rattle.fab_reach_base.proofs.fab_lemmas.SeenSets.{contains_seen}
+use Rattle.fab_reach_base.specs.fab_mapping_base.Groups.{HostGroupRows, StorageGroupRows}
 use Rattle.fab_reach_base.specs.Adding.{Adds}
 use Rattle.fab_reach_base.specs.Records.{ConfigRows}
 use Rattle.fab_reach_base.proofs.Adding.{adds_none}

@@ -8,16 +8,16 @@ use Rattle.std.specs.FinMap as map
 use Rattle.std.specs.FinSet as set
 use Rattle.std.specs.Option.{option_map}
 use Rattle.std.proofs.lemmas.Map.Views.{btree_set_contains_iff}
-use Rattle.fab_names.specs.declared.fabric.Fabric.{Fabric}
-use Rattle.fab_names.specs.declared.member.Member.{Member}
-use Rattle.fab_names.specs.Orders.{name_cmp, member_cmp}
-use Rattle.fab_names.proofs.OrderLaws.{name_total, name_exact, member_total, member_exact}
-use Rattle.fab_lemmas.specs.Lists.{IsListOf}
-use Rattle.fab_lemmas.specs.MapsOfSets.{has, in_set, seen_set}
-use Rattle.fab_lemmas.proofs.Filters.{list_as}
-use Rattle.fab_lemmas.proofs.SeenSets.{listed_decides}
-use Rattle.fab_zoning.specs.Zonings.{FabricZoning}
-use Rattle.fab_mapping.specs.Mappings.{MappingRows}
+use Rattle.fab_reach_base.specs.fab_names.declared.fabric.Fabric.{Fabric}
+use Rattle.fab_reach_base.specs.fab_names.declared.member.Member.{Member}
+use Rattle.fab_reach_base.specs.fab_names.Orders.{name_cmp, member_cmp}
+use Rattle.fab_reach_base.proofs.fab_names.OrderLaws.{name_total, name_exact, member_total, member_exact}
+use Rattle.fab_reach_base.specs.fab_lemmas.Lists.{IsListOf}
+use Rattle.fab_reach_base.specs.fab_lemmas.MapsOfSets.{has, in_set, seen_set}
+use Rattle.fab_reach_base.proofs.fab_lemmas.Filters.{list_as}
+use Rattle.fab_reach_base.proofs.fab_lemmas.SeenSets.{listed_decides}
+use Rattle.fab_reach_base.specs.fab_zoning.Zonings.{FabricZoning}
+use Rattle.fab_reach_base.specs.fab_mapping.Mappings.{MappingRows}
 use Rattle.fab_reach_base.specs.Adding.{Adds}
 use Rattle.fab_reach_base.specs.Records.{ConfigRows, zoning_at}
 use Rattle.fab_reach_base.proofs.Same.{same_some}

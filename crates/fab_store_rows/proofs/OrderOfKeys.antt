@@ -4,11 +4,11 @@ use Rattle.std.specs.declared.cmp.Ordering.{Ordering}
 use Rattle.std.specs.declared.cmp.Ordering.TheVariants.{Equal}
 use Rattle.std.specs.Cmp.{IsTotalOrder}
 use Rattle.std.specs.FinSet as set
-use Rattle.fab_names.specs.declared.fabric.Fabric.{Fabric}
-use Rattle.fab_names.specs.contracts.fabric.FabricOrd.TheImpl as fabric
-use Rattle.fab_names.specs.Orders.{name_cmp}
-use Rattle.fab_names.proofs.InOrder.{fabrics}
-use Rattle.fab_names.proofs.OrderLaws.{name_exact}
+use Rattle.fab_reach_base.specs.fab_names.declared.fabric.Fabric.{Fabric}
+use Rattle.fab_reach_base.specs.fab_names.contracts.fabric.FabricOrd.TheImpl as fabric
+use Rattle.fab_reach_base.specs.fab_names.Orders.{name_cmp}
+use Rattle.fab_reach_base.proofs.fab_names.InOrder.{fabrics}
+use Rattle.fab_reach_base.proofs.fab_names.OrderLaws.{name_exact}
 use Rattle.fab_store_rows.specs.declared.row_key.RowKey.{RowKey}
 use Rattle.fab_store_rows.specs.declared.row_key.RowKey.TheVariants.{Alias, Zone, ZoneSet, ActiveSet, DefaultZone, HostGroup, StorageGroup}
 use Rattle.fab_store_rows.specs.contracts.row_key.RowKeyOrd.TheImpl.Laws.{total-law}

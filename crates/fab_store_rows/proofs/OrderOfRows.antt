@@ -6,10 +6,10 @@ use Rattle.std.specs.Ordering.{nat_cmp, bool_cmp, ordering_then}
 use Rattle.std.specs.Option.{option_cmp}
 use Rattle.std.specs.Cmp.{IsTotalOrder}
 use Rattle.std.specs.FinSet as set
-use Rattle.fab_names.specs.declared.fabric.Fabric.{Fabric}
-use Rattle.fab_names.specs.declared.fabric.Fabric.TheVariants.{A, B}
-use Rattle.fab_names.specs.declared.member.Member.{Member}
-use Rattle.fab_names.specs.Orders.{name_cmp, fabric_order, member_order}
+use Rattle.fab_reach_base.specs.fab_names.declared.fabric.Fabric.{Fabric}
+use Rattle.fab_reach_base.specs.fab_names.declared.fabric.Fabric.TheVariants.{A, B}
+use Rattle.fab_reach_base.specs.fab_names.declared.member.Member.{Member}
+use Rattle.fab_reach_base.specs.fab_names.Orders.{name_cmp, fabric_order, member_order}
 use Rattle.fab_names.proofs.InOrder.{fabrics, members}
 use Rattle.fab_names.proofs.OrderLaws as names
 use Rattle.fab_names.proofs.OrderLaws.{name_exact}

@@ -15,13 +15,13 @@ use Rattle.std.proofs.lemmas.Map.Keys.{IsDistinct-from_sorted}
 use Rattle.std.proofs.lemmas.List.Elements.{Contains-append_cases, Contains-append_left, Contains-append_right}
 use Rattle.std.proofs.lemmas.Map.Made.{lookup-map_values}
 use Rattle.std.proofs.lemmas.Map.Views.{Contains-from_lookup, lookup-from_Contains}
-use Rattle.fab_names.specs.declared.member.Member.{Member}
-use Rattle.fab_lemmas.specs.MapsOfSets.{MapOfSets, seen_set, seen_sets, has, in_set}
-use Rattle.fab_lemmas.proofs.SeenMaps.{get_entries}
-use Rattle.fab_lemmas.proofs.SeenSets.{listed_decides}
-use Rattle.fab_zoning_rows.specs.Rows.{Row, Rows}
-use Rattle.fab_zoning_rows.specs.Views.{listed_rows, seen_rows}
-use Rattle.fab_zoning_rows.proofs.RowSets.{row_total, row_exact}
+use Rattle.fab_reach_base.specs.fab_names.declared.member.Member.{Member}
+use Rattle.fab_reach_base.specs.fab_lemmas.MapsOfSets.{MapOfSets, seen_set, seen_sets, has, in_set}
+use Rattle.fab_reach_base.proofs.fab_lemmas.SeenMaps.{get_entries}
+use Rattle.fab_reach_base.proofs.fab_lemmas.SeenSets.{listed_decides}
+use Rattle.fab_reach_base.specs.fab_zoning_rows.Rows.{Row, Rows}
+use Rattle.fab_reach_base.specs.fab_zoning_rows.Views.{listed_rows, seen_rows}
+use Rattle.fab_reach_base.proofs.fab_zoning_rows.RowSets.{row_total, row_exact}
 
 module _ {Q K : Type 0} {O : Q → Q → Ordering} (o : IsTotalOrder O) (exact : set.IsAntisymmetric O) where
   -- an entry is what is found at its key

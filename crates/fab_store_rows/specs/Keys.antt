@@ -3,7 +3,7 @@
 use Rattle.std.specs.Prelude.{◌↔◌, IsTrue}
 use Rattle.std.specs.declared.cmp.Ordering.{Ordering}
 use Rattle.std.specs.BTreeSet.{BTreeSet, contains}
-use Rattle.fab_names.specs.declared.fabric.Fabric.{Fabric}
+use Rattle.fab_reach_base.specs.fab_names.declared.fabric.Fabric.{Fabric}
 use Rattle.fab_reach_base.specs.Records.{ConfigRows}
 use Rattle.fab_store_rows.specs.declared.config_row.ConfigRow.{ConfigRow}
 use Rattle.fab_store_rows.specs.declared.config_row.ConfigRow.TheVariants as config

@@ -4,7 +4,7 @@ use Rattle.std.specs.declared.cmp.Ordering.{Ordering}
 use Rattle.std.specs.declared.cmp.Ordering.TheVariants.{Less, Equal, Greater}
 use Rattle.std.specs.Ordering.{nat_cmp, bool_cmp, ordering_then}
 use Rattle.std.specs.Option.{option_cmp}
-use Rattle.fab_names.specs.Orders.{name_cmp, fabric_order, member_order}
+use Rattle.fab_reach_base.specs.fab_names.Orders.{name_cmp, fabric_order, member_order}
 use Rattle.fab_store_rows.specs.declared.config_row.SettingRow.{SettingRow}
 use Rattle.fab_store_rows.specs.declared.config_row.SettingRow.TheVariants.{ActiveSet, DefaultZone}
 use Rattle.fab_store_rows.specs.declared.config_row.ZoningItem.{ZoningItem}

@@ -1,6 +1,6 @@
 -- Which configurations and inventories their rows tell whole.
 use Rattle.std.specs.Prelude.{◌↔◌}
-use Rattle.fab_inventory.specs.Inventories.{InventoryRows}
+use Rattle.fab_reach_base.specs.fab_inventory.Inventories.{InventoryRows}
 use Rattle.fab_reach_base.specs.Records.{ConfigRows}
 use Rattle.fab_store_rows.specs.declared.config_row.ConfigRow.{ConfigRow}
 use Rattle.fab_store_rows.specs.declared.inventory_row.InventoryRow.{InventoryRow}

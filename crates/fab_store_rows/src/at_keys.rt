@@ -2,7 +2,7 @@
 //! differ at no other.
 ghost use Rattle.std.specs.Prelude.{Some, OnOk, IfOk};
 ghost use Rattle.std.specs.Option.{option_copied};
-ghost use Rattle.fab_lemmas.specs.Lists.{IsListOf};
+ghost use Rattle.fab_reach_base.specs.fab_lemmas.Lists.{IsListOf};
 ghost use Rattle.fab_reach_base.specs.Adding.{Adds};
 ghost use Rattle.fab_store_rows.specs.RowOrder.{row_order};
 ghost use Rattle.fab_store_rows.specs.Gathering.{Has, Lacking};
@@ -17,10 +17,10 @@ use crate::listing::{RowDifference, listed};
 use crate::makers::{Aliases, Maker, ZoneSets, Zones};
 use crate::standing::is_permit;
 use crate::{ConfigRow, RowKey, SettingRow};
-use fab_mapping::Mapping;
-use fab_names::{Fabric, Name};
 use fab_reach_base::Config;
-use fab_zoning::Zoning;
+use fab_reach_base::mapping::Mapping;
+use fab_reach_base::names::{Fabric, Name};
+use fab_reach_base::zoning::Zoning;
 use std::alloc::{AllocError, Allocator};
 use std::collections::BTreeSet;
 

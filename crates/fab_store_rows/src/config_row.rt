@@ -1,6 +1,6 @@
 //! Rows of a configuration, one type a table.
 
-use fab_names::{Fabric, Member, Name, Wwn};
+use fab_reach_base::names::{Fabric, Member, Name, Wwn};
 
 /// A setting of a fabric's zoning: what the zone server has beside its zones (FC-GS, active zone
 /// set and default zone).

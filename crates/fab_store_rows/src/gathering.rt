@@ -9,10 +9,10 @@ ghost use Rattle.fab_store_rows.specs.declared.config_row.ConfigRow.{ConfigRow};
 use crate::makers::{ActiveZones, Aliases, HostGroups, Hosts, Maker, Targets, ZoneSets, Zones};
 use crate::standing::{has_row, is_permit};
 use crate::{ConfigRow, GroupRow, HostGroupRow, PartRow, SettingRow, StorageGroupRow, StoragePart};
-use fab_mapping::{HostGroup, Mapping, StorageGroup};
-use fab_names::{Fabric, Name};
 use fab_reach_base::Config;
-use fab_zoning::Zoning;
+use fab_reach_base::mapping::{HostGroup, Mapping, StorageGroup};
+use fab_reach_base::names::{Fabric, Name};
+use fab_reach_base::zoning::Zoning;
 use std::alloc::{AllocError, Allocator};
 use std::collections::{BTreeSet, btree_map, btree_set};
 

@@ -1,8 +1,8 @@
 //! Rows of an inventory, one type a table. A port with its address is a `Port`: in the tables it is a
 //! `PortEntry`, and an `AddressRow` if it has an address.
 
-use fab_inventory::{HolderKind, Port};
-use fab_names::{Address, Fabric, Name, Place, Wwn};
+use fab_reach_base::inventory::{HolderKind, Port};
+use fab_reach_base::names::{Address, Fabric, Name, Place, Wwn};
 
 /// A port without its address: its N_Port_Name, the Node_Name of its node, where it is logged in if
 /// anywhere, and who holds it if anybody.

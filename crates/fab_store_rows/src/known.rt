@@ -4,8 +4,8 @@ ghost use Rattle.fab_store_rows.specs.Standing.{IsKnown, entry_at, address_at, w
 ghost use Rattle.fab_store_rows.specs.declared.inventory_row.InventoryRow.TheVariants as kind;
 
 use crate::{AddressRow, PortEntry};
-use fab_inventory::{Inventory, Port};
-use fab_names::{Address, Wwn};
+use fab_reach_base::inventory::{Inventory, Port};
+use fab_reach_base::names::{Address, Wwn};
 use std::alloc::Allocator;
 
 /// The port without its address.

@@ -1,7 +1,7 @@
 //! Laws of rows: each is the contract of a function that does nothing.
 ghost use Rattle.std.specs.Prelude.{◌≡◌, List};
-ghost use Rattle.fab_inventory.specs.Inventories.{InventoryRows};
-ghost use Rattle.fab_lemmas.specs.Lists.{IsListOf};
+ghost use Rattle.fab_reach_base.specs.fab_inventory.Inventories.{InventoryRows};
+ghost use Rattle.fab_reach_base.specs.fab_lemmas.Lists.{IsListOf};
 ghost use Rattle.fab_reach_base.specs.Records.{ConfigRows};
 ghost use Rattle.fab_reach_base.specs.Soundness.{HasSoundZonings};
 ghost use Rattle.fab_store_rows.specs.RowOrder.{row_cmp, row_order};

@@ -4,8 +4,8 @@ ghost use Rattle.std.specs.Option.{option_copied};
 ghost use Rattle.fab_store_rows.specs.Gathering.{HasAll, alias_row, zone_row, set_row, active_row, host_row, host_group_row, target_row};
 
 use crate::{ActiveRow, ConfigRow, PartRow, StoragePart, ZoningItem, ZoningRow};
-use fab_names::{Fabric, Member, Name, Wwn};
 use fab_reach_base::Config;
+use fab_reach_base::names::{Fabric, Member, Name, Wwn};
 use std::alloc::Allocator;
 use std::collections::BTreeSet;
 

@@ -1,8 +1,8 @@
 //! Rows of the tables of plans, approvals, changes to undo, and paths.
 
 use crate::ConfigRow;
-use fab_names::Name;
 use fab_reach_base::Path;
+use fab_reach_base::names::Name;
 use std::alloc::Allocator;
 use std::marker::Model;
 

@@ -1,6 +1,6 @@
 //! At which keys the rows of a configuration stand.
 
-use fab_names::{Fabric, Name};
+use fab_reach_base::names::{Fabric, Name};
 
 /// Where rows of a configuration stand: under a name of a kind in a fabric, in a fabric's active zone
 /// set, in what its default zone is (FC-GS), or under the name of a host group or of a storage group

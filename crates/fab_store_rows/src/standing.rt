@@ -1,7 +1,7 @@
 //! Whether a row stands in a configuration.
 ghost use Rattle.std.specs.Prelude.{◌≡◌, ◌↔◌, IsTrue};
-ghost use Rattle.fab_lemmas.specs.MapsOfSets.{has};
-ghost use Rattle.fab_zoning.specs.Zonings.{permits};
+ghost use Rattle.fab_reach_base.specs.fab_lemmas.MapsOfSets.{has};
+ghost use Rattle.fab_reach_base.specs.fab_zoning.Zonings.{permits};
 ghost use Rattle.fab_store_rows.specs.Standing.{IsSetting, HasItem, IsStorageHead, IsGroup, HasPart, IsPart, Stands};
 ghost use Rattle.fab_store_rows.specs.declared.config_row.GroupRow.TheVariants as group;
 ghost use Rattle.fab_store_rows.specs.declared.config_row.PartRow.TheVariants as parts;
@@ -10,10 +10,10 @@ use crate::{
     ConfigRow, GroupRow, HostGroupRow, PartRow, SettingRow, StorageGroupRow, StoragePart,
     ZoningItem,
 };
-use fab_mapping::{Mapping, StorageGroup};
-use fab_names::{Member, Name};
 use fab_reach_base::Config;
-use fab_zoning::{DefaultFlag, Zoning};
+use fab_reach_base::mapping::{Mapping, StorageGroup};
+use fab_reach_base::names::{Member, Name};
+use fab_reach_base::zoning::{DefaultFlag, Zoning};
 use std::alloc::Allocator;
 
 /// Whether the flag permits.

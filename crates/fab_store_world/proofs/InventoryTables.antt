@@ -6,23 +6,23 @@ use Rattle.std.specs.FinMap as map
 use Rattle.std.specs.FinSet as set
 use Rattle.std.specs.Option.{option_map, option_and_then}
 use Rattle.std.proofs.lemmas.Cmp.{on_total}
-use Rattle.fab_lemmas.specs.Lists.{IsListOf}
-use Rattle.fab_lemmas.proofs.Filters.{list_as}
-use Rattle.fab_lemmas.proofs.SeenEntries.{entry_decides}
-use Rattle.fab_names.proofs.OrderLaws.{name_total, name_exact}
-use Rattle.fab_inventory.specs.declared.holder.Holder.{Holder}
-use Rattle.fab_inventory.specs.declared.holder.Volume.{Volume}
-use Rattle.fab_inventory.specs.declared.port.Known.{Known}
-use Rattle.fab_inventory.specs.declared.port.Port.{Port}
-use Rattle.fab_inventory.specs.Inventories.{InventoryRows}
-use Rattle.fab_inventory.specs.Ports.{port_at, port_of}
-use Rattle.fab_store_rows.specs.declared.inventory_row.PortEntry.{PortEntry}
-use Rattle.fab_store_rows.specs.declared.inventory_row.AddressRow.{AddressRow}
-use Rattle.fab_store_rows.specs.declared.inventory_row.HolderRow.{HolderRow}
-use Rattle.fab_store_rows.specs.declared.inventory_row.InventoryRow.{InventoryRow}
-use Rattle.fab_store_rows.specs.declared.inventory_row.InventoryRow.TheVariants as row
-use Rattle.fab_store_rows.specs.declared.inventory_row.VolumeRow.{VolumeRow}
-use Rattle.fab_store_rows.specs.Standing.{IsKnown, entry_of, entry_at, address_at, holder_of, volume_of}
+use Rattle.fab_reach_base.specs.fab_lemmas.Lists.{IsListOf}
+use Rattle.fab_reach_base.proofs.fab_lemmas.Filters.{list_as}
+use Rattle.fab_reach_base.proofs.fab_lemmas.SeenEntries.{entry_decides}
+use Rattle.fab_reach_base.proofs.fab_names.OrderLaws.{name_total, name_exact}
+use Rattle.fab_reach_base.specs.fab_inventory.declared.holder.Holder.{Holder}
+use Rattle.fab_reach_base.specs.fab_inventory.declared.holder.Volume.{Volume}
+use Rattle.fab_reach_base.specs.fab_inventory.declared.port.Known.{Known}
+use Rattle.fab_reach_base.specs.fab_inventory.declared.port.Port.{Port}
+use Rattle.fab_reach_base.specs.fab_inventory.Inventories.{InventoryRows}
+use Rattle.fab_reach_base.specs.fab_inventory.Ports.{port_at, port_of}
+use Rattle.fab_world.specs.fab_store_rows.declared.inventory_row.PortEntry.{PortEntry}
+use Rattle.fab_world.specs.fab_store_rows.declared.inventory_row.AddressRow.{AddressRow}
+use Rattle.fab_world.specs.fab_store_rows.declared.inventory_row.HolderRow.{HolderRow}
+use Rattle.fab_world.specs.fab_store_rows.declared.inventory_row.InventoryRow.{InventoryRow}
+use Rattle.fab_world.specs.fab_store_rows.declared.inventory_row.InventoryRow.TheVariants as row
+use Rattle.fab_world.specs.fab_store_rows.declared.inventory_row.VolumeRow.{VolumeRow}
+use Rattle.fab_world.specs.fab_store_rows.Standing.{IsKnown, entry_of, entry_at, address_at, holder_of, volume_of}
 use Rattle.fab_store_world.specs.Inventories.{IsKnownOnlyIn, port_order, port_row, entry_order, entry_row, address_order, address_row, holder_order, holder_row, volume_order, volume_row}
 use Rattle.fab_store_world.specs.InventoryGathering.{IsRowOfEntries}
 

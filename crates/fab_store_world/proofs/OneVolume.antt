@@ -7,20 +7,20 @@ use Rattle.std.specs.FinMap as map
 use Rattle.std.specs.Option.{option_map}
 use Rattle.std.specs.List.Sorted.{IsStrictlySortedBy}
 use Rattle.std.proofs.lemmas.List.Elements.{Contains-push_cases, Contains-push}
-use Rattle.fab_lemmas.specs.Lists.{IsListOf}
-use Rattle.fab_lemmas.proofs.SeenSets.{tie_decides}
-use Rattle.fab_names.specs.Orders.{name_cmp}
-use Rattle.fab_names.proofs.OrderLaws.{name_total, name_exact}
-use Rattle.fab_inventory.specs.declared.holder.Volume.{Volume}
-use Rattle.fab_inventory.specs.declared.port.Port.{Port}
-use Rattle.fab_inventory.specs.Inventories.{InventoryRows}
-use Rattle.fab_store_rows.specs.declared.inventory_row.AddressRow.{AddressRow}
-use Rattle.fab_store_rows.specs.declared.inventory_row.HolderRow.{HolderRow}
-use Rattle.fab_store_rows.specs.declared.inventory_row.InventoryRow.TheVariants as row
-use Rattle.fab_store_rows.specs.declared.inventory_row.PortEntry.{PortEntry}
-use Rattle.fab_store_rows.specs.declared.inventory_row.VolumeRow.{VolumeRow}
-use Rattle.fab_store_rows.specs.Standing.{IsKnown, volume_of, holder_of, entry_at, address_at}
-use Rattle.fab_inventory.specs.Ports.{port_at}
+use Rattle.fab_reach_base.specs.fab_lemmas.Lists.{IsListOf}
+use Rattle.fab_reach_base.proofs.fab_lemmas.SeenSets.{tie_decides}
+use Rattle.fab_reach_base.specs.fab_names.Orders.{name_cmp}
+use Rattle.fab_reach_base.proofs.fab_names.OrderLaws.{name_total, name_exact}
+use Rattle.fab_reach_base.specs.fab_inventory.declared.holder.Volume.{Volume}
+use Rattle.fab_reach_base.specs.fab_inventory.declared.port.Port.{Port}
+use Rattle.fab_reach_base.specs.fab_inventory.Inventories.{InventoryRows}
+use Rattle.fab_world.specs.fab_store_rows.declared.inventory_row.AddressRow.{AddressRow}
+use Rattle.fab_world.specs.fab_store_rows.declared.inventory_row.HolderRow.{HolderRow}
+use Rattle.fab_world.specs.fab_store_rows.declared.inventory_row.InventoryRow.TheVariants as row
+use Rattle.fab_world.specs.fab_store_rows.declared.inventory_row.PortEntry.{PortEntry}
+use Rattle.fab_world.specs.fab_store_rows.declared.inventory_row.VolumeRow.{VolumeRow}
+use Rattle.fab_world.specs.fab_store_rows.Standing.{IsKnown, volume_of, holder_of, entry_at, address_at}
+use Rattle.fab_reach_base.specs.fab_inventory.Ports.{port_at}
 use Rattle.fab_store_world.specs.Inventories.{AreOneButVolume, IsKnownOnlyIn, volume_order, volume_row}
 use Rattle.fab_store_world.specs.InventoryGathering.{IsPushed}
 use Rattle.fab_store_world.proofs.NamedRows.{sorted_none}

@@ -1,26 +1,26 @@
 -- The rows of all tables tell a world.
 use Rattle.std.proofs.Common.{◌≡◌, ℕ, List, Contains, Option, Some, refl, sym, ap, ◌∙◌, subst}
 use Rattle.std.specs.FinMap as map
-use Rattle.fab_lemmas.specs.Firsts.{HasAt}
-use Rattle.fab_names.proofs.OrderLaws.{name_total, name_exact}
-use Rattle.fab_inventory.specs.Inventories.{InventoryRows}
-use Rattle.fab_store_load.specs.Inventories.{AreInventoryRows}
+use Rattle.fab_reach_base.specs.fab_lemmas.Firsts.{HasAt}
+use Rattle.fab_reach_base.proofs.fab_names.OrderLaws.{name_total, name_exact}
+use Rattle.fab_reach_base.specs.fab_inventory.Inventories.{InventoryRows}
+use Rattle.fab_world.specs.fab_store_load.Inventories.{AreInventoryRows}
 use Rattle.fab_store_world.specs.Paths.{ArePathRows}
-use Rattle.fab_plans_text.proofs.Unique.{one_plan}
+use Rattle.fab_world.proofs.fab_plans_text.Unique.{one_plan}
 use Rattle.fab_reach_base.specs.Soundness.{HasSoundZonings}
-use Rattle.fab_store_rows.proofs.Determined.{one_list, one_config, one_inventory, same_option}
-use Rattle.fab_store_rows.specs.PlanEntries.{PlanEntry}
-use Rattle.fab_store_rows.specs.Telling.{IsOfTable}
-use Rattle.fab_store_rows.specs.Standing.{IsKnown}
-use Rattle.fab_store_rows.specs.declared.config_row.ConfigRow.{ConfigRow}
-use Rattle.fab_store_rows.specs.declared.inventory_row.InventoryRow.{InventoryRow}
-use Rattle.fab_store_rows.specs.declared.inventory_row.InventoryRow.TheVariants as row
-use Rattle.fab_store_rows.specs.declared.record_row.ApprovalRow.{ApprovalRow}
-use Rattle.fab_store_rows.specs.declared.record_row.Sign.{Sign}
-use Rattle.fab_store_rows.specs.declared.record_row.Sign.TheVariants.{Taken, Added}
-use Rattle.fab_store_rows.specs.declared.record_row.UndoRow.{UndoRow}
-use Rattle.fab_store_rows.specs.declared.table_rows.CountRow.TheVariants.{Revision}
-use Rattle.fab_store_rows.specs.declared.table_rows.TableRows.{TableRows}
+use Rattle.fab_world.proofs.fab_store_rows.Determined.{one_list, one_config, one_inventory, same_option}
+use Rattle.fab_world.specs.fab_store_rows.PlanEntries.{PlanEntry}
+use Rattle.fab_world.specs.fab_store_rows.Telling.{IsOfTable}
+use Rattle.fab_world.specs.fab_store_rows.Standing.{IsKnown}
+use Rattle.fab_world.specs.fab_store_rows.declared.config_row.ConfigRow.{ConfigRow}
+use Rattle.fab_world.specs.fab_store_rows.declared.inventory_row.InventoryRow.{InventoryRow}
+use Rattle.fab_world.specs.fab_store_rows.declared.inventory_row.InventoryRow.TheVariants as row
+use Rattle.fab_world.specs.fab_store_rows.declared.record_row.ApprovalRow.{ApprovalRow}
+use Rattle.fab_world.specs.fab_store_rows.declared.record_row.Sign.{Sign}
+use Rattle.fab_world.specs.fab_store_rows.declared.record_row.Sign.TheVariants.{Taken, Added}
+use Rattle.fab_world.specs.fab_store_rows.declared.record_row.UndoRow.{UndoRow}
+use Rattle.fab_world.specs.fab_store_rows.declared.table_rows.CountRow.TheVariants.{Revision}
+use Rattle.fab_world.specs.fab_store_rows.declared.table_rows.TableRows.{TableRows}
 use Rattle.fab_store_world.proofs.Orders.{one_order}
 use Rattle.fab_store_world.proofs.SoundOrder.{sound_in_order}
 use Rattle.fab_store_world.specs.PlanRows.{IsRowOf, IsChanged, IsInOrder, ChangesInOrder, ListInOrder, ArePlans}

@@ -9,11 +9,11 @@ use Rattle.std.specs.FinSet as set
 use Rattle.std.specs.List.Sorted.{IsStrictlySortedBy}
 use Rattle.std.proofs.lemmas.Map.Lookups.{exact_pairs}
 use Rattle.std.proofs.lemmas.Map.Made.{is_member-Decides}
-use Rattle.fab_names.specs.Orders.{name_cmp}
-use Rattle.fab_names.proofs.OrderLaws.{name_total, name_exact}
-use Rattle.fab_lemmas.specs.Lists.{IsListOf}
-use Rattle.fab_lemmas.proofs.SeenSets.{tie_decides}
-use Rattle.fab_lemmas.proofs.Walks.{walked, walk_end}
+use Rattle.fab_reach_base.specs.fab_names.Orders.{name_cmp}
+use Rattle.fab_reach_base.proofs.fab_names.OrderLaws.{name_total, name_exact}
+use Rattle.fab_reach_base.specs.fab_lemmas.Lists.{IsListOf}
+use Rattle.fab_reach_base.proofs.fab_lemmas.SeenSets.{tie_decides}
+use Rattle.fab_reach_base.proofs.fab_lemmas.Walks.{walked, walk_end}
 use Rattle.fab_reach_base.proofs.SameLists.{same_sorted}
 use Rattle.fab_reach_base.specs.Adding.{Adds}
 use Rattle.fab_reach_base.proofs.Adding.{Before, before_last, adds_none, adds_as, from_none}
@@ -21,7 +21,7 @@ use Rattle.fab_reach_base.proofs.Sets.{adds_insert, none_in}
 use Rattle.std.specs.BTreeSet.{BTreeSet, contains, IsOrdered}
 use Rattle.std.specs.BTreeMap.{is_at}
 use Rattle.std.proofs.lemmas.Map.Views.{btree_set_contains_iff}
-use Rattle.fab_store_rows.specs.PlanEntries.{PlanEntry}
+use Rattle.fab_world.specs.fab_store_rows.PlanEntries.{PlanEntry}
 use Rattle.fab_store_world.specs.Orders.{IsOrderOf, IsActive, IsPlaced, IsAt, HasPlace, HaveNoPlace, numbered, place_cmp}
 
 pub place_total : IsTotalOrder place_cmp

@@ -10,8 +10,8 @@ use Rattle.std.specs.Ordering.{eq_by_cmp}
 use Rattle.std.proofs.lemmas.Map.Keys.{IsDistinct-from_sorted}
 use Rattle.std.proofs.lemmas.Map.Made.{is_member-Decides, length-le_from_is_member}
 use Rattle.std.proofs.lemmas.Map.Views.{btree_set_contains_iff}
-use Rattle.fab_lemmas.specs.Lists.{IsListOf}
-use Rattle.fab_lemmas.proofs.SeenSets.{tie_decides}
+use Rattle.fab_reach_base.specs.fab_lemmas.Lists.{IsListOf}
+use Rattle.fab_reach_base.proofs.fab_lemmas.SeenSets.{tie_decides}
 use Rattle.fab_reach_base.specs.declared.path.Path.{Path}
 use Rattle.fab_reach_base.specs.Adding.{Adds}
 use Rattle.fab_reach_base.specs.Limits.{MoreThan}
@@ -22,7 +22,7 @@ use Rattle.fab_reach_base.proofs.Adding.{adds_as, adds_none, from_none}
 use Rattle.fab_reach_base.proofs.PathOrder.{path_total, path_exact}
 use Rattle.fab_reach_base.proofs.Same.{same_some}
 use Rattle.fab_reach_base.proofs.Sets.{adds_insert, none_in}
-use Rattle.fab_store_rows.specs.declared.record_row.PathRow.{PathRow}
+use Rattle.fab_world.specs.fab_store_rows.declared.record_row.PathRow.{PathRow}
 use Rattle.fab_store_world.specs.PathGathering.{Has, HaveSame, IsRowOf, IsRowOfSome, HasPathRows}
 use Rattle.fab_store_world.specs.Paths.{ArePathRows, path_row_cmp, path_row_order}
 use Rattle.fab_store_world.proofs.PathRowOrder.{row_total, row_exact, same_order}

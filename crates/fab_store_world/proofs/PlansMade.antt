@@ -7,13 +7,13 @@ use Rattle.std.specs.BTreeMap.{BTreeMap, get, is_at}
 use Rattle.std.specs.Map.{lookup}
 use Rattle.std.proofs.lemmas.Option.{slice_get_read, slice_get_within, get_or_from_slice_get, same_Some}
 use Rattle.std.proofs.lemmas.Bool.{cases_lt}
-use Rattle.fab_lemmas.specs.Firsts.{HasAt}
-use Rattle.fab_names.specs.Orders.{name_cmp}
-use Rattle.fab_names.proofs.OrderLaws.{name_total, name_exact}
-use Rattle.fab_store_rows.specs.PlanEntries.{PlanEntry}
+use Rattle.fab_reach_base.specs.fab_lemmas.Firsts.{HasAt}
+use Rattle.fab_reach_base.specs.fab_names.Orders.{name_cmp}
+use Rattle.fab_reach_base.proofs.fab_names.OrderLaws.{name_total, name_exact}
+use Rattle.fab_world.specs.fab_store_rows.PlanEntries.{PlanEntry}
 use Rattle.fab_world.specs.PlanRecords.{PlanRecord}
 use Rattle.fab_store_world.specs.declared.plans.PlanParts.{PlanParts}
-use Rattle.fab_plans_kept.specs.Texts.{IsTextOf}
+use Rattle.fab_world.specs.fab_plans_kept.Texts.{IsTextOf}
 use Rattle.fab_store_world.specs.PlanRows.{ArePlanRows}
 use Rattle.fab_store_world.specs.Parts.{IsMadeOf, AreMadeOf}
 

@@ -8,22 +8,22 @@ use Rattle.std.specs.BTreeSet.{BTreeSet}
 use Rattle.std.specs.FinMap as map
 use Rattle.std.proofs.lemmas.List.Elements.{All-contains, Contains-get_or}
 use Rattle.std.proofs.lemmas.Map.Views.{btree_set_contains_iff}
-use Rattle.fab_lemmas.specs.Firsts.{HasAt}
-use Rattle.fab_lemmas.specs.MapsOfSets.{in_tree}
-use Rattle.fab_names.specs.Orders.{name_cmp}
-use Rattle.fab_names.proofs.OrderLaws.{name_total}
-use Rattle.fab_store_load.specs.Rows.{HasRepeat}
-use Rattle.fab_store_load.proofs.GroupRows.{found_in_map}
-use Rattle.fab_store_rows.specs.RowOrder.{row_cmp}
-use Rattle.fab_store_rows.proofs.OrderOfRows.{row_total, row_exact}
-use Rattle.fab_store_rows.specs.declared.config_row.ConfigRow.{ConfigRow}
-use Rattle.fab_store_rows.specs.declared.record_row.PlanState.{PlanState}
-use Rattle.fab_store_rows.specs.declared.record_row.PlanState.TheVariants as state
-use Rattle.fab_store_rows.specs.PlanEntries.{PlanEntry}
-use Rattle.fab_store_rows.specs.declared.record_row.ApprovalRow.{ApprovalRow}
-use Rattle.fab_store_rows.specs.declared.record_row.UndoRow.{UndoRow}
-use Rattle.fab_store_rows.specs.declared.record_row.Sign.{Sign}
-use Rattle.fab_store_rows.specs.declared.record_row.Sign.TheVariants.{Taken, Added}
+use Rattle.fab_reach_base.specs.fab_lemmas.Firsts.{HasAt}
+use Rattle.fab_reach_base.specs.fab_lemmas.MapsOfSets.{in_tree}
+use Rattle.fab_reach_base.specs.fab_names.Orders.{name_cmp}
+use Rattle.fab_reach_base.proofs.fab_names.OrderLaws.{name_total}
+use Rattle.fab_world.specs.fab_store_load.Rows.{HasRepeat}
+use Rattle.fab_world.proofs.fab_store_load.GroupRows.{found_in_map}
+use Rattle.fab_world.specs.fab_store_rows.RowOrder.{row_cmp}
+use Rattle.fab_world.proofs.fab_store_rows.OrderOfRows.{row_total, row_exact}
+use Rattle.fab_world.specs.fab_store_rows.declared.config_row.ConfigRow.{ConfigRow}
+use Rattle.fab_world.specs.fab_store_rows.declared.record_row.PlanState.{PlanState}
+use Rattle.fab_world.specs.fab_store_rows.declared.record_row.PlanState.TheVariants as state
+use Rattle.fab_world.specs.fab_store_rows.PlanEntries.{PlanEntry}
+use Rattle.fab_world.specs.fab_store_rows.declared.record_row.ApprovalRow.{ApprovalRow}
+use Rattle.fab_world.specs.fab_store_rows.declared.record_row.UndoRow.{UndoRow}
+use Rattle.fab_world.specs.fab_store_rows.declared.record_row.Sign.{Sign}
+use Rattle.fab_world.specs.fab_store_rows.declared.record_row.Sign.TheVariants.{Taken, Added}
 use Rattle.fab_world.specs.PlanRecords.{Standing, staged, active, rolled_back, withdrawn, PlanRecord}
 use Rattle.fab_world.specs.Plans.{IsActive, state_of, undo_of}
 use Rattle.fab_store_world.specs.declared.plans.PlanParts.{PlanParts}

@@ -2,27 +2,27 @@
 use Rattle.std.proofs.Common.{◌≡◌, ℕ, List, Option, refl, sym, subst}
 use Rattle.std.specs.BTreeMap.{BTreeMap, get}
 use Rattle.std.specs.FinMap as map
-use Rattle.fab_inventory.specs.Inventories.{InventoryRows}
-use Rattle.fab_store_load.specs.Configs.{AreConfigRows}
-use Rattle.fab_store_load.specs.Faults.{OfTable}
-use Rattle.fab_store_load.specs.Inventories.{AreAll, AreInventoryRows}
-use Rattle.fab_store_load.specs.declared.fault.LoadFault.{LoadFault}
-use Rattle.fab_store_load.specs.declared.fault.LoadFault.TheVariants.{Damaged, Memory}
-use Rattle.fab_lemmas.proofs.SeenMaps.{same_look_ups}
-use Rattle.fab_names.specs.Orders.{name_cmp}
-use Rattle.fab_names.proofs.OrderLaws.{name_total}
+use Rattle.fab_reach_base.specs.fab_inventory.Inventories.{InventoryRows}
+use Rattle.fab_world.specs.fab_store_load.Configs.{AreConfigRows}
+use Rattle.fab_world.specs.fab_store_load.Faults.{OfTable}
+use Rattle.fab_world.specs.fab_store_load.Inventories.{AreAll, AreInventoryRows}
+use Rattle.fab_world.specs.fab_store_load.declared.fault.LoadFault.{LoadFault}
+use Rattle.fab_world.specs.fab_store_load.declared.fault.LoadFault.TheVariants.{Damaged, Memory}
+use Rattle.fab_reach_base.proofs.fab_lemmas.SeenMaps.{same_look_ups}
+use Rattle.fab_reach_base.specs.fab_names.Orders.{name_cmp}
+use Rattle.fab_reach_base.proofs.fab_names.OrderLaws.{name_total}
 use Rattle.fab_reach_base.specs.Records.{ConfigRows}
 use Rattle.fab_reach_base.specs.Soundness.{HasSoundZonings, IsSoundAlone}
-use Rattle.fab_store_rows.specs.PlanEntries.{PlanEntry}
-use Rattle.fab_store_rows.specs.declared.config_row.ConfigRow.{ConfigRow}
-use Rattle.fab_store_rows.specs.declared.inventory_row.PortEntry.{PortEntry}
-use Rattle.fab_store_rows.specs.declared.inventory_row.AddressRow.{AddressRow}
-use Rattle.fab_store_rows.specs.declared.inventory_row.HolderRow.{HolderRow}
-use Rattle.fab_store_rows.specs.declared.inventory_row.VolumeRow.{VolumeRow}
-use Rattle.fab_store_rows.specs.declared.record_row.ApprovalRow.{ApprovalRow}
-use Rattle.fab_store_rows.specs.declared.record_row.UndoRow.{UndoRow}
-use Rattle.fab_store_rows.specs.declared.table_rows.CountRow.{CountRow}
-use Rattle.fab_store_rows.specs.declared.table_rows.TableRows.{TableRows}
+use Rattle.fab_world.specs.fab_store_rows.PlanEntries.{PlanEntry}
+use Rattle.fab_world.specs.fab_store_rows.declared.config_row.ConfigRow.{ConfigRow}
+use Rattle.fab_world.specs.fab_store_rows.declared.inventory_row.PortEntry.{PortEntry}
+use Rattle.fab_world.specs.fab_store_rows.declared.inventory_row.AddressRow.{AddressRow}
+use Rattle.fab_world.specs.fab_store_rows.declared.inventory_row.HolderRow.{HolderRow}
+use Rattle.fab_world.specs.fab_store_rows.declared.inventory_row.VolumeRow.{VolumeRow}
+use Rattle.fab_world.specs.fab_store_rows.declared.record_row.ApprovalRow.{ApprovalRow}
+use Rattle.fab_world.specs.fab_store_rows.declared.record_row.UndoRow.{UndoRow}
+use Rattle.fab_world.specs.fab_store_rows.declared.table_rows.CountRow.{CountRow}
+use Rattle.fab_world.specs.fab_store_rows.declared.table_rows.TableRows.{TableRows}
 use Rattle.fab_store_world.specs.PlanRows.{ArePlans, ListInOrder}
 use Rattle.fab_world.specs.PlanRecords.{PlanRecord}
 use Rattle.fab_store_world.specs.OpenedTables.{IsCount, IsMadeOfTables, HasNoWorld}

@@ -2,14 +2,14 @@
 use Rattle.std.specs.Prelude.{ℕ, List, Bool, true, false}
 use Rattle.std.specs.declared.cmp.Ordering.{Ordering}
 use Rattle.std.specs.Ordering.{nat_cmp, bool_cmp, then_cmp, on}
-use Rattle.fab_names.specs.Orders.{name_cmp}
-use Rattle.fab_store_rows.specs.PlanEntries.{PlanEntry}
-use Rattle.fab_store_rows.specs.RowOrder.{row_cmp}
-use Rattle.fab_store_rows.specs.declared.config_row.ConfigRow.{ConfigRow}
-use Rattle.fab_store_rows.specs.declared.record_row.ApprovalRow.{ApprovalRow}
-use Rattle.fab_store_rows.specs.declared.record_row.UndoRow.{UndoRow}
-use Rattle.fab_store_rows.specs.declared.record_row.Sign.{Sign}
-use Rattle.fab_store_rows.specs.declared.record_row.Sign.TheVariants.{Taken, Added}
+use Rattle.fab_reach_base.specs.fab_names.Orders.{name_cmp}
+use Rattle.fab_world.specs.fab_store_rows.PlanEntries.{PlanEntry}
+use Rattle.fab_world.specs.fab_store_rows.RowOrder.{row_cmp}
+use Rattle.fab_world.specs.fab_store_rows.declared.config_row.ConfigRow.{ConfigRow}
+use Rattle.fab_world.specs.fab_store_rows.declared.record_row.ApprovalRow.{ApprovalRow}
+use Rattle.fab_world.specs.fab_store_rows.declared.record_row.UndoRow.{UndoRow}
+use Rattle.fab_world.specs.fab_store_rows.declared.record_row.Sign.{Sign}
+use Rattle.fab_world.specs.fab_store_rows.declared.record_row.Sign.TheVariants.{Taken, Added}
 
 -- rows of plans: by name
 abbrev pub plan_order : PlanEntry → PlanEntry → Ordering

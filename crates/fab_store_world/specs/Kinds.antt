@@ -1,10 +1,10 @@
 -- The kinds of rows of approvals and of changes to undo: what a row says, and the row that says it.
 use Rattle.std.proofs.Common.{ℕ, ◌≡◌, List, Option, None, Some, refl, ap}
-use Rattle.fab_store_rows.specs.declared.config_row.ConfigRow.{ConfigRow}
-use Rattle.fab_store_rows.specs.declared.record_row.ApprovalRow.{ApprovalRow}
-use Rattle.fab_store_rows.specs.declared.record_row.UndoRow.{UndoRow}
-use Rattle.fab_store_rows.specs.declared.record_row.Sign.{Sign}
-use Rattle.fab_store_rows.specs.declared.record_row.Sign.TheVariants.{Taken, Added}
+use Rattle.fab_world.specs.fab_store_rows.declared.config_row.ConfigRow.{ConfigRow}
+use Rattle.fab_world.specs.fab_store_rows.declared.record_row.ApprovalRow.{ApprovalRow}
+use Rattle.fab_world.specs.fab_store_rows.declared.record_row.UndoRow.{UndoRow}
+use Rattle.fab_world.specs.fab_store_rows.declared.record_row.Sign.{Sign}
+use Rattle.fab_world.specs.fab_store_rows.declared.record_row.Sign.TheVariants.{Taken, Added}
 
 -- the plan and the caller of an approval, and its revision
 abbrev pub approval_said : ApprovalRow → Option ((List ℕ × List ℕ) × ℕ)

@@ -1,12 +1,12 @@
 -- The rows of all tables of a world.
 use Rattle.std.specs.Prelude.{ℕ, ◌≡◌}
 use Rattle.std.specs.FinMap as map
-use Rattle.fab_store_load.specs.Configs.{AreConfigRows}
-use Rattle.fab_store_load.specs.Inventories.{AreAll, AreInventoryRows}
-use Rattle.fab_store_rows.specs.declared.table_rows.CountRow.{CountRow}
-use Rattle.fab_store_rows.specs.declared.table_rows.CountRow.TheVariants.{Schema, Revision}
-use Rattle.fab_store_rows.specs.declared.table_rows.TableRows.{TableRows}
-use Rattle.fab_store_rows.specs.declared.table_rows.TheConstants.{SCHEMA}
+use Rattle.fab_world.specs.fab_store_load.Configs.{AreConfigRows}
+use Rattle.fab_world.specs.fab_store_load.Inventories.{AreAll, AreInventoryRows}
+use Rattle.fab_world.specs.fab_store_rows.declared.table_rows.CountRow.{CountRow}
+use Rattle.fab_world.specs.fab_store_rows.declared.table_rows.CountRow.TheVariants.{Schema, Revision}
+use Rattle.fab_world.specs.fab_store_rows.declared.table_rows.TableRows.{TableRows}
+use Rattle.fab_world.specs.fab_store_rows.declared.table_rows.TheConstants.{SCHEMA}
 use Rattle.fab_store_world.specs.Paths.{ArePathRows}
 use Rattle.fab_reach_base.specs.Soundness.{HasSoundZonings}
 use Rattle.fab_store_world.specs.PlanRows.{ArePlans, ListInOrder}

@@ -3,9 +3,9 @@ use Rattle.std.specs.Prelude.{ℕ, ◌≡◌, ◌+◌, List, [], ◌∷◌, Cont
 use Rattle.std.specs.BTreeSet.{BTreeSet, contains}
 use Rattle.std.specs.declared.cmp.Ordering.{Ordering}
 use Rattle.std.specs.Ordering.{nat_cmp, then_cmp, on}
-use Rattle.fab_names.specs.Orders.{name_cmp}
-use Rattle.fab_store_rows.specs.PlanEntries.{PlanEntry}
-use Rattle.fab_store_rows.specs.declared.record_row.PlanState.TheVariants.{Active}
+use Rattle.fab_reach_base.specs.fab_names.Orders.{name_cmp}
+use Rattle.fab_world.specs.fab_store_rows.PlanEntries.{PlanEntry}
+use Rattle.fab_world.specs.fab_store_rows.declared.record_row.PlanState.TheVariants.{Active}
 
 -- the names with their positions, from this one on
 abbrev pub numbered : ℕ → List (List ℕ) → List (ℕ × List ℕ)

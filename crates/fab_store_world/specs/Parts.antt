@@ -4,20 +4,20 @@ use Rattle.std.specs.Prelude.{ℕ, ◌≡◌, List, [], Contains, Option, None, 
 use Rattle.std.specs.BTreeMap.{BTreeMap, get}
 use Rattle.std.specs.BTreeSet.{BTreeSet}
 use Rattle.std.specs.FinMap as map
-use Rattle.fab_lemmas.specs.Firsts.{HasAt}
-use Rattle.fab_names.specs.Orders.{name_cmp}
-use Rattle.fab_store_rows.specs.declared.config_row.ConfigRow.{ConfigRow}
-use Rattle.fab_store_rows.specs.declared.record_row.PlanState.{PlanState}
-use Rattle.fab_store_rows.specs.declared.record_row.PlanState.TheVariants as state
+use Rattle.fab_reach_base.specs.fab_lemmas.Firsts.{HasAt}
+use Rattle.fab_reach_base.specs.fab_names.Orders.{name_cmp}
+use Rattle.fab_world.specs.fab_store_rows.declared.config_row.ConfigRow.{ConfigRow}
+use Rattle.fab_world.specs.fab_store_rows.declared.record_row.PlanState.{PlanState}
+use Rattle.fab_world.specs.fab_store_rows.declared.record_row.PlanState.TheVariants as state
 use Rattle.fab_store_world.specs.declared.plans.PlanParts.{PlanParts}
-use Rattle.fab_plans_kept.specs.Texts.{IsTextOf}
+use Rattle.fab_world.specs.fab_plans_kept.Texts.{IsTextOf}
 use Rattle.fab_store_world.specs.PlanRows.{HaveNames, ChangesInOrder}
-use Rattle.fab_store_rows.specs.PlanEntries.{PlanEntry}
-use Rattle.fab_store_rows.specs.declared.record_row.ApprovalRow.{ApprovalRow}
-use Rattle.fab_store_rows.specs.declared.record_row.UndoRow.{UndoRow}
-use Rattle.fab_store_rows.specs.RowOrder.{row_cmp}
-use Rattle.fab_store_load.specs.Rows.{AreRows, IsAt, IsIn}
-use Rattle.fab_store_load.specs.Assembled.{map_at}
+use Rattle.fab_world.specs.fab_store_rows.PlanEntries.{PlanEntry}
+use Rattle.fab_world.specs.fab_store_rows.declared.record_row.ApprovalRow.{ApprovalRow}
+use Rattle.fab_world.specs.fab_store_rows.declared.record_row.UndoRow.{UndoRow}
+use Rattle.fab_world.specs.fab_store_rows.RowOrder.{row_cmp}
+use Rattle.fab_world.specs.fab_store_load.Rows.{AreRows, IsAt, IsIn}
+use Rattle.fab_world.specs.fab_store_load.Assembled.{map_at}
 use Rattle.fab_store_world.specs.Kinds.{approval_row, taken_row, added_row}
 use Rattle.fab_world.specs.PlanRecords.{Standing, staged, active, rolled_back, withdrawn, PlanRecord}
 

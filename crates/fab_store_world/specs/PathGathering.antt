@@ -5,7 +5,7 @@ use Rattle.std.specs.BTreeSet.{BTreeSet, contains}
 use Rattle.fab_reach_base.specs.declared.path.Path.{Path}
 use Rattle.fab_reach_base.specs.Reach.{IsInitiatorOf}
 use Rattle.fab_reach_base.specs.Records.{Records}
-use Rattle.fab_store_rows.specs.declared.record_row.PathRow.{PathRow}
+use Rattle.fab_world.specs.fab_store_rows.declared.record_row.PathRow.{PathRow}
 use Rattle.fab_store_world.specs.Paths.{IsPathRow, path_row_cmp}
 
 -- the set has the row

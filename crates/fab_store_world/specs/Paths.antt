@@ -2,16 +2,16 @@
 use Rattle.std.specs.Prelude.{List, Contains, ◌↔◌}
 use Rattle.std.specs.declared.cmp.Ordering.{Ordering}
 use Rattle.std.specs.Ordering.{ordering_then}
-use Rattle.fab_lemmas.specs.Lists.{IsListOf}
-use Rattle.fab_names.specs.Orders.{name_cmp}
+use Rattle.fab_reach_base.specs.fab_lemmas.Lists.{IsListOf}
+use Rattle.fab_reach_base.specs.fab_names.Orders.{name_cmp}
 use Rattle.fab_reach_base.specs.Orders.{path_order}
 use Rattle.fab_reach_base.specs.Limits.{MoreThan, IsPathsFault}
 use Rattle.fab_reach_base.specs.Reach.{Reaches, ReachesFrom}
 use Rattle.fab_reach_base.specs.declared.listing.PathsFault.{PathsFault}
 use Rattle.fab_reach_base.specs.declared.listing.TheConstants.{MOST_PATHS}
 use Rattle.fab_reach_base.specs.Records.{Records}
-use Rattle.fab_store_rows.specs.declared.record_row.PathRow.{PathRow}
-use Rattle.fab_store_rows.specs.contracts.record_row.PathRowOrd.TheImpl as rows
+use Rattle.fab_world.specs.fab_store_rows.declared.record_row.PathRow.{PathRow}
+use Rattle.fab_world.specs.fab_store_rows.contracts.record_row.PathRowOrd.TheImpl as rows
 
 -- the path is there, and the host holds its initiator
 abbrev pub IsPathRow : Records → PathRow → Type 0

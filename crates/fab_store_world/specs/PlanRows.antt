@@ -2,16 +2,16 @@
 use Rattle.std.specs.Prelude.{ℕ, ◌≡◌, List, slice_get, Contains, Option, Some}
 use Rattle.std.specs.FinMap as map
 use Rattle.std.specs.List.Sorted.{IsStrictlySortedBy}
-use Rattle.fab_lemmas.specs.Firsts.{HasAt}
-use Rattle.fab_store_load.specs.Inventories.{AreAll}
-use Rattle.fab_plans_kept.specs.Texts.{IsTextOf}
-use Rattle.fab_store_rows.specs.declared.config_row.ConfigRow.{ConfigRow}
-use Rattle.fab_store_rows.specs.PlanEntries.{PlanEntry}
-use Rattle.fab_store_rows.specs.RowOrder.{row_order}
-use Rattle.fab_store_rows.specs.declared.record_row.ApprovalRow.{ApprovalRow}
-use Rattle.fab_store_rows.specs.declared.record_row.UndoRow.{UndoRow}
-use Rattle.fab_store_rows.specs.declared.record_row.Sign.{Sign}
-use Rattle.fab_store_rows.specs.declared.record_row.Sign.TheVariants.{Taken, Added}
+use Rattle.fab_reach_base.specs.fab_lemmas.Firsts.{HasAt}
+use Rattle.fab_world.specs.fab_store_load.Inventories.{AreAll}
+use Rattle.fab_world.specs.fab_plans_kept.Texts.{IsTextOf}
+use Rattle.fab_world.specs.fab_store_rows.declared.config_row.ConfigRow.{ConfigRow}
+use Rattle.fab_world.specs.fab_store_rows.PlanEntries.{PlanEntry}
+use Rattle.fab_world.specs.fab_store_rows.RowOrder.{row_order}
+use Rattle.fab_world.specs.fab_store_rows.declared.record_row.ApprovalRow.{ApprovalRow}
+use Rattle.fab_world.specs.fab_store_rows.declared.record_row.UndoRow.{UndoRow}
+use Rattle.fab_world.specs.fab_store_rows.declared.record_row.Sign.{Sign}
+use Rattle.fab_world.specs.fab_store_rows.declared.record_row.Sign.TheVariants.{Taken, Added}
 use Rattle.fab_store_world.specs.Orders.{IsOrderOf}
 use Rattle.fab_world.specs.PlanRecords.{Standing, active, PlanRecord}
 use Rattle.fab_world.specs.Plans.{state_of}

@@ -1,12 +1,12 @@
 -- Which rows of plans, of approvals and of changes to undo stand in a world.
 use Rattle.std.specs.Prelude.{ℕ, ◌≡◌, List, Some}
 use Rattle.std.specs.FinMap as map
-use Rattle.fab_lemmas.specs.Firsts.{HasAt}
-use Rattle.fab_store_rows.specs.PlanEntries.{PlanEntry}
-use Rattle.fab_store_rows.specs.declared.record_row.ApprovalRow.{ApprovalRow}
-use Rattle.fab_store_rows.specs.declared.record_row.UndoRow.{UndoRow}
+use Rattle.fab_reach_base.specs.fab_lemmas.Firsts.{HasAt}
+use Rattle.fab_world.specs.fab_store_rows.PlanEntries.{PlanEntry}
+use Rattle.fab_world.specs.fab_store_rows.declared.record_row.ApprovalRow.{ApprovalRow}
+use Rattle.fab_world.specs.fab_store_rows.declared.record_row.UndoRow.{UndoRow}
 use Rattle.fab_store_world.specs.Positions.{IsPosition, IsOrder}
-use Rattle.fab_plans_base.specs.Plans.{Spells, IsWithinLimits, plan_text}
+use Rattle.fab_world.specs.fab_plans_base.Plans.{Spells, IsWithinLimits, plan_text}
 use Rattle.fab_store_world.specs.PlanRows.{IsRowOf, IsApprovalOf, IsChanged}
 use Rattle.fab_world.specs.PlanRecords.{PlanRecord}
 use Rattle.fab_world.specs.Plans.{state_of}

@@ -3,20 +3,20 @@ use Rattle.std.specs.Prelude.{◌≡◌}
 use Rattle.std.specs.declared.cmp.Ordering.{Ordering}
 use Rattle.std.specs.declared.cmp.Ordering.TheVariants.{Less, Greater}
 use Rattle.std.specs.Ordering.{nat_cmp}
-use Rattle.fab_lemmas.specs.Lists.{IsListOf}
-use Rattle.fab_store_rows.specs.declared.config_row.ConfigRow.{ConfigRow}
-use Rattle.fab_store_rows.specs.declared.inventory_row.PortEntry.{PortEntry}
-use Rattle.fab_store_rows.specs.declared.inventory_row.AddressRow.{AddressRow}
-use Rattle.fab_store_rows.specs.declared.inventory_row.HolderRow.{HolderRow}
-use Rattle.fab_store_rows.specs.declared.inventory_row.VolumeRow.{VolumeRow}
-use Rattle.fab_store_rows.specs.declared.inventory_row.InventoryRow.TheVariants as row
-use Rattle.fab_store_rows.specs.declared.record_row.PathRow.{PathRow}
-use Rattle.fab_store_rows.specs.declared.table_rows.CountRow.{CountRow}
-use Rattle.fab_store_rows.specs.declared.table_rows.CountRow.TheVariants.{Schema, Revision}
-use Rattle.fab_store_rows.specs.declared.table_rows.TableRows.{TableRows}
-use Rattle.fab_store_rows.specs.declared.table_rows.TheConstants.{SCHEMA}
-use Rattle.fab_store_rows.specs.RowOrder.{row_order}
-use Rattle.fab_store_rows.specs.Standing.{IsKnown, Stands}
+use Rattle.fab_reach_base.specs.fab_lemmas.Lists.{IsListOf}
+use Rattle.fab_world.specs.fab_store_rows.declared.config_row.ConfigRow.{ConfigRow}
+use Rattle.fab_world.specs.fab_store_rows.declared.inventory_row.PortEntry.{PortEntry}
+use Rattle.fab_world.specs.fab_store_rows.declared.inventory_row.AddressRow.{AddressRow}
+use Rattle.fab_world.specs.fab_store_rows.declared.inventory_row.HolderRow.{HolderRow}
+use Rattle.fab_world.specs.fab_store_rows.declared.inventory_row.VolumeRow.{VolumeRow}
+use Rattle.fab_world.specs.fab_store_rows.declared.inventory_row.InventoryRow.TheVariants as row
+use Rattle.fab_world.specs.fab_store_rows.declared.record_row.PathRow.{PathRow}
+use Rattle.fab_world.specs.fab_store_rows.declared.table_rows.CountRow.{CountRow}
+use Rattle.fab_world.specs.fab_store_rows.declared.table_rows.CountRow.TheVariants.{Schema, Revision}
+use Rattle.fab_world.specs.fab_store_rows.declared.table_rows.TableRows.{TableRows}
+use Rattle.fab_world.specs.fab_store_rows.declared.table_rows.TheConstants.{SCHEMA}
+use Rattle.fab_world.specs.fab_store_rows.RowOrder.{row_order}
+use Rattle.fab_world.specs.fab_store_rows.Standing.{IsKnown, Stands}
 use Rattle.fab_store_world.specs.Inventories.{entry_order, address_order, holder_order, volume_order}
 use Rattle.fab_store_world.specs.Paths.{IsPathRow, path_row_order}
 use Rattle.fab_world.specs.Worlds.{WorldRows, records_of}

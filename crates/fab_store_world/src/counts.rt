@@ -1,11 +1,11 @@
 //! The schema and the revision from their rows.
 ghost use Rattle.std.specs.Prelude.{◌≡◌, ◌↔◌, ℕ, All, Contains, IsTrue, MatchOption};
-ghost use Rattle.fab_store_load.specs.Inventories.{AreAll};
-ghost use Rattle.fab_store_rows.specs.declared.table_rows.CountRow.TheVariants.{Schema, Revision};
-ghost use Rattle.fab_store_rows.specs.declared.table_rows.TheConstants.{SCHEMA};
+ghost use Rattle.fab_world.specs.fab_store_load.Inventories.{AreAll};
+ghost use Rattle.fab_world.specs.fab_store_rows.declared.table_rows.CountRow.TheVariants.{Schema, Revision};
+ghost use Rattle.fab_world.specs.fab_store_rows.declared.table_rows.TheConstants.{SCHEMA};
 ghost use Rattle.fab_store_world.specs.OpenedTables.{IsCount};
 
-use fab_store_rows::{CountRow, SCHEMA};
+use fab_world::load::rows::{CountRow, SCHEMA};
 
 /// Whether the rows tell this schema of the tables.
 fn has_schema(rows: &[CountRow]) -> bool

@@ -4,9 +4,9 @@
 use crate::counts::revision_of;
 use crate::made::made_of;
 use crate::plans_of;
-use fab_inventory::{HolderKind, Inventory};
-use fab_store_load::{LoadFault, Table, config_of, inventory_of};
-use fab_store_rows::{ApprovalRow, ConfigRow, CountRow, GroupRow, TableRows, UndoRow};
+use fab_reach_base::inventory::{HolderKind, Inventory};
+use fab_world::load::rows::{ApprovalRow, ConfigRow, CountRow, GroupRow, TableRows, UndoRow};
+use fab_world::load::{LoadFault, Table, config_of, inventory_of};
 use fab_world::{MOST_CHANGES, MOST_PLANS, has_sound_history};
 use std::alloc::{AllocError, Allocator};
 

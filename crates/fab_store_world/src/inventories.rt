@@ -3,17 +3,17 @@ ghost use Rattle.std.specs.Prelude.{◌≡◌, ◌↔◌, [], IsTrue, OnOk, IfOk
 ghost use Rattle.std.specs.FinMap as map;
 ghost use Rattle.std.specs.List.Sorted.{IsStrictlySortedBy};
 ghost use Rattle.std.specs.Map.{keys_of};
-ghost use Rattle.fab_lemmas.specs.Lists.{IsListOf};
-ghost use Rattle.fab_inventory.specs.Ports.{port_of};
-ghost use Rattle.fab_store_rows.specs.Standing.{IsKnown};
-ghost use Rattle.fab_store_rows.specs.declared.inventory_row.InventoryRow.TheVariants as row;
+ghost use Rattle.fab_reach_base.specs.fab_lemmas.Lists.{IsListOf};
+ghost use Rattle.fab_reach_base.specs.fab_inventory.Ports.{port_of};
+ghost use Rattle.fab_world.specs.fab_store_rows.Standing.{IsKnown};
+ghost use Rattle.fab_world.specs.fab_store_rows.declared.inventory_row.InventoryRow.TheVariants as row;
 ghost use Rattle.fab_store_world.specs.Inventories.{AreListsOf, IsKnownOnlyIn, IsInventoryDifference, port_order, port_row, entry_order, entry_row, address_order, address_row};
 ghost use Rattle.fab_store_world.specs.InventoryGathering.{IsPushed, IsRowOfEntries};
 
 use crate::row_tables::{Addresses, Entries, Holders, Ports, Table, Volumes};
-use fab_inventory::{Inventory, Known, Port};
-use fab_names::Wwn;
-use fab_store_rows::{AddressRow, HolderRow, PortEntry, VolumeRow, has_port};
+use fab_reach_base::inventory::{Inventory, Known, Port};
+use fab_reach_base::names::Wwn;
+use fab_world::load::rows::{AddressRow, HolderRow, PortEntry, VolumeRow, has_port};
 use std::alloc::{AllocError, Allocator};
 use std::collections::btree_map;
 

@@ -2,9 +2,9 @@
 ghost use Rattle.std.specs.Prelude.{◌≡◌};
 ghost use Rattle.fab_store_world.specs.Kinds as spec;
 
-use fab_names::Name;
-use fab_store_load::Kind;
-use fab_store_rows::{ApprovalRow, ConfigRow, Sign, UndoRow};
+use fab_reach_base::names::Name;
+use fab_world::load::Kind;
+use fab_world::load::rows::{ApprovalRow, ConfigRow, Sign, UndoRow};
 
 /// The approvals of plans, by plan and then by caller.
 #[derive(Clone, Copy)]

@@ -1,13 +1,13 @@
 //! A world that is made of rows, sound or not.
 ghost use Rattle.std.specs.Prelude.{IfOk, IfErr};
-ghost use Rattle.fab_store_load.specs.Faults.{OfTable};
+ghost use Rattle.fab_world.specs.fab_store_load.Faults.{OfTable};
 ghost use Rattle.fab_store_world.specs.OpenedTables.{IsMadeOfTables, HasNoWorld};
 
 use crate::counts::revision_of;
 use crate::plans_of;
-use fab_store_load::{LoadFault, Table, config_of, inventory_of};
-use fab_store_rows::TableRows;
 use fab_world::World;
+use fab_world::load::rows::TableRows;
+use fab_world::load::{LoadFault, Table, config_of, inventory_of};
 use std::alloc::Allocator;
 
 /// A world of the rows, but for those of paths; it may be unsound.

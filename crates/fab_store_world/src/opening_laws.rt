@@ -4,7 +4,7 @@ ghost use Rattle.fab_store_world.specs.OpenedTables.{AreTableRows};
 ghost use Rattle.fab_world.specs.Soundness.{IsSound};
 ghost use Rattle.fab_world.specs.Worlds.{WorldRows};
 
-use fab_store_rows::TableRows;
+use fab_world::load::rows::TableRows;
 use std::alloc::Allocator;
 
 /// Sound worlds with equal rows are equal.

@@ -1,11 +1,11 @@
 //! The order of the activations in force, from the positions that rows of plans have.
 ghost use Rattle.std.specs.Prelude.{◌≡◌, ◌≢◌, ◌↔◌, List, ℕ, IsTrue, MatchOption, IfOk, OnOk};
-ghost use Rattle.fab_lemmas.specs.Lists.{IsListOf};
+ghost use Rattle.fab_reach_base.specs.fab_lemmas.Lists.{IsListOf};
 ghost use Rattle.fab_reach_base.specs.Adding.{Adds};
 ghost use Rattle.fab_store_world.specs.Orders.{IsOrderOf, IsActive, IsPlaced, IsAt, HasPlace, HaveNoPlace, numbered, place_cmp};
 
-use fab_names::Name;
-use fab_store_rows::{PlanRow, PlanState};
+use fab_reach_base::names::Name;
+use fab_world::load::rows::{PlanRow, PlanState};
 use std::alloc::{AllocError, Allocator};
 use std::collections::BTreeSet;
 

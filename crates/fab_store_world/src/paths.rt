@@ -6,11 +6,11 @@ ghost use Rattle.fab_reach_base.specs.Views.{seen};
 ghost use Rattle.fab_store_world.specs.Paths.{ArePathRows, HasFewPaths, PathsFail};
 ghost use Rattle.fab_store_world.specs.PathGathering.{Has, HaveSame, IsRowOf, IsRowOfSome, HasPathRows};
 
-use fab_inventory::{HolderKind, Inventory};
-use fab_lemmas::set_of;
-use fab_names::{Name, Wwn};
+use fab_reach_base::inventory::{HolderKind, Inventory};
+use fab_reach_base::lemmas::set_of;
+use fab_reach_base::names::{Name, Wwn};
 use fab_reach_base::{Config, Path, PathsFault, View, few_paths};
-use fab_store_rows::PathRow;
+use fab_world::load::rows::PathRow;
 use std::alloc::{AllocError, Allocator};
 use std::collections::BTreeSet;
 

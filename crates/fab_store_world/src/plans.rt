@@ -2,15 +2,15 @@
 ghost use Rattle.std.specs.Prelude.{◌≡◌, ℕ, List, Option, Some, cond, MatchOption, IfOk, OnOk};
 ghost use Rattle.std.specs.BTreeMap.{get, is_at};
 ghost use Rattle.std.specs.FinMap as map;
-ghost use Rattle.fab_names.specs.Orders.{name_cmp};
+ghost use Rattle.fab_reach_base.specs.fab_names.Orders.{name_cmp};
 ghost use Rattle.fab_world.specs.PlanRecords.{PlanRecord};
 ghost use Rattle.fab_store_world.specs.Parts.{rows_at, approvals_at, standing_in, IsMadeOf, AreMadeOf};
-ghost use Rattle.fab_plans_kept.specs.Texts.{IsTextOf};
+ghost use Rattle.fab_world.specs.fab_plans_kept.Texts.{IsTextOf};
 ghost use Rattle.fab_store_world.specs.PlanRows.{IsInOrder, ChangesInOrder, ArePlanRows};
 
-use fab_names::Name;
-use fab_plans::{Active, Plan, PlanText, RolledBack, Staged, Withdrawn};
-use fab_store_rows::{ConfigRow, PlanRow, PlanState, RowDifference};
+use fab_reach_base::names::Name;
+use fab_world::load::rows::{ConfigRow, PlanRow, PlanState, RowDifference};
+use fab_world::plans::{Active, Plan, PlanText, RolledBack, Staged, Withdrawn};
 use fab_world::{AnyPlan, KeptPlan};
 use std::alloc::{AllocError, Allocator};
 use std::collections::{BTreeMap, BTreeSet};

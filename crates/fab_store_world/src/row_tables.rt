@@ -1,9 +1,9 @@
 //! The tables of an inventory, and its whole ports: the row of each entry, and whether a row stands.
 ghost use Rattle.std.specs.Prelude.{◌≡◌, ◌↔◌, IsTrue};
 
-use fab_inventory::{Holder, Inventory, Known, Port, Volume};
-use fab_names::{Name, Wwn};
-use fab_store_rows::{
+use fab_reach_base::inventory::{Holder, Inventory, Known, Port, Volume};
+use fab_reach_base::names::{Name, Wwn};
+use fab_world::load::rows::{
     AddressRow, HolderRow, PortEntry, VolumeRow, has_address, has_entry, has_port,
 };
 use std::alloc::Allocator;
@@ -12,7 +12,7 @@ use std::alloc::Allocator;
 pub trait Table<K: Ord, V, R> {
     ghost use Rattle.std.specs.Prelude.{Option, Some};
     ghost use Rattle.std.specs.declared.cmp.Ordering.{Ordering};
-    ghost use Rattle.fab_inventory.specs.Inventories.{InventoryRows};
+    ghost use Rattle.fab_reach_base.specs.fab_inventory.Inventories.{InventoryRows};
 
     // the row of an entry, if it has one
     ghost row_of: { K → V → Option R };
@@ -39,8 +39,8 @@ pub trait Table<K: Ord, V, R> {
 pub struct Ports;
 
 impl Table<Wwn, Known, Port> for Ports {
-    ghost use Rattle.fab_store_rows.specs.declared.inventory_row.InventoryRow.TheVariants as row;
-    ghost use Rattle.fab_store_rows.specs.Standing.{IsKnown};
+    ghost use Rattle.fab_world.specs.fab_store_rows.declared.inventory_row.InventoryRow.TheVariants as row;
+    ghost use Rattle.fab_world.specs.fab_store_rows.Standing.{IsKnown};
     ghost use Rattle.fab_store_world.specs.Inventories.{port_order, port_row};
     ghost use Rattle.fab_store_world.specs.InventoryKeys.{port_by_key};
 
@@ -72,8 +72,8 @@ impl Table<Wwn, Known, Port> for Ports {
 pub struct Entries;
 
 impl Table<Wwn, Known, PortEntry> for Entries {
-    ghost use Rattle.fab_store_rows.specs.declared.inventory_row.InventoryRow.TheVariants as row;
-    ghost use Rattle.fab_store_rows.specs.Standing.{IsKnown};
+    ghost use Rattle.fab_world.specs.fab_store_rows.declared.inventory_row.InventoryRow.TheVariants as row;
+    ghost use Rattle.fab_world.specs.fab_store_rows.Standing.{IsKnown};
     ghost use Rattle.fab_store_world.specs.Inventories.{entry_order, entry_row};
     ghost use Rattle.fab_store_world.specs.InventoryKeys.{entry_by_key};
 
@@ -104,8 +104,8 @@ impl Table<Wwn, Known, PortEntry> for Entries {
 pub struct Addresses;
 
 impl Table<Wwn, Known, AddressRow> for Addresses {
-    ghost use Rattle.fab_store_rows.specs.declared.inventory_row.InventoryRow.TheVariants as row;
-    ghost use Rattle.fab_store_rows.specs.Standing.{IsKnown};
+    ghost use Rattle.fab_world.specs.fab_store_rows.declared.inventory_row.InventoryRow.TheVariants as row;
+    ghost use Rattle.fab_world.specs.fab_store_rows.Standing.{IsKnown};
     ghost use Rattle.fab_store_world.specs.Inventories.{address_order, address_row};
     ghost use Rattle.fab_store_world.specs.InventoryKeys.{address_by_key};
 
@@ -138,8 +138,8 @@ pub struct Holders;
 
 impl Table<Name, Holder, HolderRow> for Holders {
     ghost use Rattle.std.specs.Prelude.{Some};
-    ghost use Rattle.fab_store_rows.specs.declared.inventory_row.InventoryRow.TheVariants as row;
-    ghost use Rattle.fab_store_rows.specs.Standing.{IsKnown};
+    ghost use Rattle.fab_world.specs.fab_store_rows.declared.inventory_row.InventoryRow.TheVariants as row;
+    ghost use Rattle.fab_world.specs.fab_store_rows.Standing.{IsKnown};
     ghost use Rattle.fab_store_world.specs.Inventories.{holder_order, holder_row};
     ghost use Rattle.fab_store_world.specs.InventoryKeys.{holder_by_key};
 
@@ -174,8 +174,8 @@ pub struct Volumes;
 
 impl Table<Name, Volume, VolumeRow> for Volumes {
     ghost use Rattle.std.specs.Prelude.{Some};
-    ghost use Rattle.fab_store_rows.specs.declared.inventory_row.InventoryRow.TheVariants as row;
-    ghost use Rattle.fab_store_rows.specs.Standing.{IsKnown};
+    ghost use Rattle.fab_world.specs.fab_store_rows.declared.inventory_row.InventoryRow.TheVariants as row;
+    ghost use Rattle.fab_world.specs.fab_store_rows.Standing.{IsKnown};
     ghost use Rattle.fab_store_world.specs.Inventories.{volume_order, volume_row};
     ghost use Rattle.fab_store_world.specs.InventoryKeys.{volume_by_key};
 

@@ -1,6 +1,6 @@
 //! The rows of all tables in which two worlds differ.
 
-use fab_store_rows::TableRows;
+use fab_world::load::rows::TableRows;
 use std::alloc::Allocator;
 
 /// What leads from one world to another, as rows of tables. A row that is changed is removed and

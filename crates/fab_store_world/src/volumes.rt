@@ -6,9 +6,9 @@ ghost use Rattle.fab_store_world.specs.Inventories.{AreListsOf, AreOneButVolume,
 
 use crate::inventories::{InventoryDifference, InventoryLists, push_lacking};
 use crate::row_tables::{Table, Volumes};
-use fab_inventory::Inventory;
-use fab_names::Name;
-use fab_store_rows::VolumeRow;
+use fab_reach_base::inventory::Inventory;
+use fab_reach_base::names::Name;
+use fab_world::load::rows::VolumeRow;
 use std::alloc::{AllocError, Allocator};
 
 /// The row of the volume of this name, if there is one.

@@ -1,10 +1,10 @@
 //! All plans from their rows, their approvals and their changes.
 ghost use Rattle.std.specs.Prelude.{◌≡◌, ◌↔◌, ℕ, List, Option, All, IsSome, IsTrue, MatchOption, IfOk, IfErr};
 ghost use Rattle.std.specs.BTreeMap.{get};
-ghost use Rattle.fab_names.specs.Orders.{name_cmp};
-ghost use Rattle.fab_lemmas.specs.Firsts.{HasAt};
-ghost use Rattle.fab_store_load.specs.Rows.{HasRepeat};
-ghost use Rattle.fab_store_load.specs.Faults.{OfTable};
+ghost use Rattle.fab_reach_base.specs.fab_names.Orders.{name_cmp};
+ghost use Rattle.fab_reach_base.specs.fab_lemmas.Firsts.{HasAt};
+ghost use Rattle.fab_world.specs.fab_store_load.Rows.{HasRepeat};
+ghost use Rattle.fab_world.specs.fab_store_load.Faults.{OfTable};
 ghost use Rattle.fab_world.specs.PlanRecords.{PlanRecord};
 ghost use Rattle.fab_world.specs.Plans.{IsActive};
 ghost use Rattle.fab_store_world.specs.Kinds.{approval_row};
@@ -14,9 +14,9 @@ ghost use Rattle.fab_store_world.specs.PlanRows.{ArePlans, ListInOrder};
 use crate::kinds::{AddedRows, Approvals, TakenRows};
 use crate::order::order_of;
 use crate::plans::{PlanParts, plans_from};
-use fab_names::Name;
-use fab_store_load::{LoadFault, Table, maps_of, sets_of};
-use fab_store_rows::{ApprovalRow, PlanRow, UndoRow};
+use fab_reach_base::names::Name;
+use fab_world::load::rows::{ApprovalRow, PlanRow, UndoRow};
+use fab_world::load::{LoadFault, Table, maps_of, sets_of};
 use fab_world::{KeptPlan, is_active_at};
 use std::alloc::{AllocError, Allocator};
 use std::collections::BTreeMap;

@@ -1,6 +1,6 @@
 //! The world from the rows of all tables.
 ghost use Rattle.std.specs.Prelude.{◌↔◌, IsTrue, IfOk, IfErr};
-ghost use Rattle.fab_store_load.specs.Faults.{OfTable};
+ghost use Rattle.fab_world.specs.fab_store_load.Faults.{OfTable};
 ghost use Rattle.fab_reach_base.specs.Limits.{MoreThan};
 ghost use Rattle.fab_reach_base.specs.Reach.{Reaches};
 ghost use Rattle.fab_reach_base.specs.declared.listing.TheConstants.{MOST_PATHS};
@@ -13,9 +13,9 @@ use crate::are_path_rows;
 use crate::faulty::first_faulty;
 use crate::made::made_of;
 use fab_reach_base::PathsFault;
-use fab_store_load::{LoadFault, Table};
-use fab_store_rows::{PathRow, TableRows};
 use fab_world::World;
+use fab_world::load::rows::{PathRow, TableRows};
+use fab_world::load::{LoadFault, Table};
 use std::alloc::{AllocError, Allocator};
 
 /// Whether the rows are those of the world's paths, where it has not too many.

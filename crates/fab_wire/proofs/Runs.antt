@@ -11,7 +11,7 @@ use Rattle.fab_desk.specs.Handled.{Handles, policy_of, world_of, serving_of, asi
 use Rattle.fab_desk.specs.declared.desk.Desk.{Desk}
 use Rattle.fab_desk.proofs.AnsweredByDesk.{goes}
 use Rattle.fab_policy_base.specs.Policies.{PolicyRows}
-use Rattle.fab_desk.specs.fab_world.Worlds.{WorldRows}
+use Rattle.fab_world.specs.Worlds.{WorldRows}
 use Rattle.fab_wire_base.specs.Spelling.{Spelling, nothing, refused, asked, Spells}
 use Rattle.fab_wire_base.specs.Spelling as wire
 use Rattle.fab_wire_requests.specs.Meanings.{Meaning, asks, unnamed, bad_body, Means}

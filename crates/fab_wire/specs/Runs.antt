@@ -6,7 +6,7 @@ use Rattle.fab_desk.specs.fab_desk_base.Commands.{IsGiven}
 use Rattle.fab_desk.specs.fab_desk_base.declared.reply.Reply.{Reply}
 use Rattle.fab_desk.specs.Desks.{IsAnsweredByDesk}
 use Rattle.fab_policy_base.specs.Policies.{PolicyRows}
-use Rattle.fab_desk.specs.fab_world.Worlds.{WorldRows}
+use Rattle.fab_world.specs.Worlds.{WorldRows}
 use Rattle.fab_wire_base.specs.Spelling.{Spelling, nothing, refused, asked, Spells}
 use Rattle.fab_wire_base.specs.Spelling as wire
 use Rattle.fab_wire_requests.specs.Commands.{Order, order_of}

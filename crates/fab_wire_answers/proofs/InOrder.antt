@@ -3,10 +3,10 @@ use Rattle.std.proofs.Common.{ℕ, ◌≡◌, List, [], ◌∷◌, Option, None,
 use Rattle.serde_json.specs.Data.{Data}
 use Rattle.serde_json.specs.View.{items_of}
 use Rattle.fab_wire_streams.specs.Values.{address_data, wwn_data, or_null}
-use Rattle.fab_plans.specs.declared.fault.Item.{Item}
-use Rattle.fab_plans.specs.declared.fault.Item.TheVariants as item
-use Rattle.fab_plans.specs.declared.fault.Refusal as plan
-use Rattle.fab_plans.specs.declared.fault.Refusal.TheVariants as refusal
+use Rattle.fab_world.specs.fab_plans.declared.fault.Item.{Item}
+use Rattle.fab_world.specs.fab_plans.declared.fault.Item.TheVariants as item
+use Rattle.fab_world.specs.fab_plans.declared.fault.Refusal as plan
+use Rattle.fab_world.specs.fab_plans.declared.fault.Refusal.TheVariants as refusal
 use Rattle.fab_reach_base.specs.declared.path.Path.{Path}
 use Rattle.fab_wire_base.specs.declared.requests.Refusal as wire
 use Rattle.fab_wire_base.specs.declared.requests.Refusal.TheVariants as no

@@ -1,20 +1,20 @@
 -- The bodies of answers, as JSON (RFC 8259): keys in the order of their bytes.
 use Rattle.std.specs.Prelude.{ℕ, List, [], ◌∷◌, true, false, Option, None, Some, codes, string_bytes}
 use Rattle.serde_json.specs.Data.{Data, boolean, object, Members, no_members, member}
-use Rattle.fab_names.specs.Fabrics.{fabric_text}
-use Rattle.fab_names.specs.Places.{Position}
-use Rattle.fab_names.specs.declared.fabric.Fabric.{Fabric}
-use Rattle.fab_names.specs.declared.member.Member.{Member}
-use Rattle.fab_inventory.specs.declared.holder.Volume.{Volume}
-use Rattle.fab_zoning.specs.declared.flag.DefaultFlag.{DefaultFlag}
+use Rattle.fab_reach_base.specs.fab_names.Fabrics.{fabric_text}
+use Rattle.fab_reach_base.specs.fab_names.Places.{Position}
+use Rattle.fab_reach_base.specs.fab_names.declared.fabric.Fabric.{Fabric}
+use Rattle.fab_reach_base.specs.fab_names.declared.member.Member.{Member}
+use Rattle.fab_reach_base.specs.fab_inventory.declared.holder.Volume.{Volume}
+use Rattle.fab_reach_base.specs.fab_zoning.declared.flag.DefaultFlag.{DefaultFlag}
 use Rattle.fab_store_columns_base.specs.Columns.{kind_text}
 use Rattle.fab_store_columns.specs.PlanLines.{state_text}
 use Rattle.fab_store_rows.specs.declared.record_row.PlanState.TheVariants.{Withdrawn}
-use Rattle.fab_plans_base.specs.Values.{flag_text}
+use Rattle.fab_world.specs.fab_plans_base.Values.{flag_text}
 use Rattle.fab_policy.specs.Needs.{need_word}
 use Rattle.fab_reach_base.specs.declared.path.Path.{Path}
-use Rattle.fab_plans.specs.declared.fault.Refusal as plan
-use Rattle.fab_plans.specs.declared.fault.Refusal.TheVariants as refusal
+use Rattle.fab_world.specs.fab_plans.declared.fault.Refusal as plan
+use Rattle.fab_world.specs.fab_plans.declared.fault.Refusal.TheVariants as refusal
 use Rattle.fab_wire_base.specs.declared.requests.Refusal as wire
 use Rattle.fab_wire_base.specs.declared.requests.Refusal.TheVariants as no
 use Rattle.fab_desk_base.specs.declared.fault.DeskFault.{DeskFault}

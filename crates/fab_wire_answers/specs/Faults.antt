@@ -1,8 +1,8 @@
 -- Which line of the table of refusals a refusal is.
 use Rattle.fab_desk_base.specs.declared.fault.DeskFault.{DeskFault}
 use Rattle.fab_desk_base.specs.declared.fault.DeskFault.TheVariants as fault
-use Rattle.fab_plans.specs.declared.fault.Refusal as plan
-use Rattle.fab_plans.specs.declared.fault.Refusal.TheVariants as refusal
+use Rattle.fab_world.specs.fab_plans.declared.fault.Refusal as plan
+use Rattle.fab_world.specs.fab_plans.declared.fault.Refusal.TheVariants as refusal
 use Rattle.fab_wire_base.specs.declared.requests.Refusal as wire
 use Rattle.fab_wire_base.specs.declared.requests.Refusal.TheVariants as no
 use Rattle.fab_wire_answers.specs.declared.codes.Code.{Code}

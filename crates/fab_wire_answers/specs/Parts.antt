@@ -1,15 +1,15 @@
 -- Parts of the bodies of answers, as JSON (RFC 8259).
 use Rattle.std.specs.Prelude.{ℕ, List, [], ◌∷◌, Option, codes, decimal}
 use Rattle.serde_json.specs.Data.{Data, string}
-use Rattle.fab_names.specs.Fabrics.{fabric_text}
-use Rattle.fab_names.specs.Members.{member_text}
-use Rattle.fab_names.specs.Places.{Position}
-use Rattle.fab_names.specs.declared.fabric.Fabric.{Fabric}
-use Rattle.fab_names.specs.declared.member.Member.{Member}
-use Rattle.fab_mapping_base.specs.declared.gone.Gone.{Gone}
-use Rattle.fab_mapping_base.specs.declared.gone.Gone.TheVariants as gone
-use Rattle.fab_plans.specs.declared.fault.Item.{Item}
-use Rattle.fab_plans.specs.declared.fault.Item.TheVariants as item
+use Rattle.fab_reach_base.specs.fab_names.Fabrics.{fabric_text}
+use Rattle.fab_reach_base.specs.fab_names.Members.{member_text}
+use Rattle.fab_reach_base.specs.fab_names.Places.{Position}
+use Rattle.fab_reach_base.specs.fab_names.declared.fabric.Fabric.{Fabric}
+use Rattle.fab_reach_base.specs.fab_names.declared.member.Member.{Member}
+use Rattle.fab_reach_base.specs.fab_mapping_base.declared.gone.Gone.{Gone}
+use Rattle.fab_reach_base.specs.fab_mapping_base.declared.gone.Gone.TheVariants as gone
+use Rattle.fab_world.specs.fab_plans.declared.fault.Item.{Item}
+use Rattle.fab_world.specs.fab_plans.declared.fault.Item.TheVariants as item
 use Rattle.fab_policy.specs.declared.act.Approval.{Approval}
 use Rattle.fab_reach_base.specs.declared.path.Path.{Path}
 use Rattle.fab_desk_base.specs.declared.reply.ZoneMembers.{ZoneMembers}

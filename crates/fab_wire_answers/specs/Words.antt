@@ -2,8 +2,8 @@
 use Rattle.std.specs.Prelude.{ℕ, List, codes}
 use Rattle.fab_desk_base.specs.declared.fault.DeskLimit.{DeskLimit}
 use Rattle.fab_desk_base.specs.declared.fault.DeskLimit.TheVariants as limit
-use Rattle.fab_plans.specs.declared.fault.StepLimit.{StepLimit}
-use Rattle.fab_plans.specs.declared.fault.StepLimit.TheVariants as step
+use Rattle.fab_world.specs.fab_plans.declared.fault.StepLimit.{StepLimit}
+use Rattle.fab_world.specs.fab_plans.declared.fault.StepLimit.TheVariants as step
 
 -- for the desk
 abbrev pub limit_word : DeskLimit → List ℕ

@@ -5,8 +5,8 @@ ghost use Rattle.fab_wire_answers.specs.Codes.{line_of};
 ghost use Rattle.fab_wire_answers.specs.Faults.{code_of_wire, code_of_step, code_of_fault};
 
 use fab_desk_base::DeskFault;
-use fab_plans as plans;
 use fab_wire_base::requests as wire;
+use fab_world::plans;
 use http::StatusCode;
 
 /// What a request is refused with: a line of the table of refusals.

@@ -10,17 +10,17 @@ ghost use Rattle.fab_wire_streams.specs.Values.{list_data, or_null};
 ghost use Rattle.fab_wire_answers.specs.Parts.{path_data, unit_data, approval_data, place_data, zone_data, item_data, gone_item};
 
 use fab_desk_base::ZoneMembers;
-use fab_mapping::Gone;
-use fab_names::{Address, Fabric, Name, Place};
-use fab_plans::Item;
 use fab_policy::Approval;
 use fab_reach_base::Path;
+use fab_reach_base::mapping::Gone;
+use fab_reach_base::names::{Address, Fabric, Name, Place};
 use fab_wire_streams::escapes::put_string;
 use fab_wire_streams::object;
 use fab_wire_streams::sink::Sink;
 use fab_wire_streams::streams::WriteFailed;
 use fab_wire_streams::structures::Array;
 use fab_wire_streams::values::Json;
+use fab_world::plans::Item;
 use itoa::Buffer;
 use std::alloc::Allocator;
 

@@ -2,7 +2,7 @@
 
 ghost use Rattle.std.specs.Prelude.{◌≡◌, List, [], ◌∷◌, None, Some, codes};
 ghost use Rattle.fab_policy.specs.Needs.{need_word};
-ghost use Rattle.fab_plans.specs.declared.fault.Refusal.TheVariants as refusal;
+ghost use Rattle.fab_world.specs.fab_plans.declared.fault.Refusal.TheVariants as refusal;
 ghost use Rattle.fab_wire_streams.specs.Taking.{Takes};
 ghost use Rattle.fab_wire_streams.specs.JsonText.{json_text};
 ghost use Rattle.fab_wire_streams.specs.Values.{whole, wwn_data};
@@ -13,17 +13,17 @@ use crate::codes::{Code, code_of_wire};
 use crate::parts::{About, item_of};
 use crate::words::{limit_word, state_word, step_limit_word};
 use fab_desk_base::DeskFault;
-use fab_mapping::Nexus;
-use fab_names::{Name, Wwn};
-use fab_plans as plans;
-use fab_plans::Item;
 use fab_policy::Need;
+use fab_reach_base::mapping::Nexus;
+use fab_reach_base::names::{Name, Wwn};
 use fab_store_rows::PlanState;
 use fab_wire_base::requests as wire;
 use fab_wire_streams::object;
 use fab_wire_streams::sink::Sink;
 use fab_wire_streams::streams::WriteFailed;
 use fab_wire_streams::values::{Json, Text};
+use fab_world::plans;
+use fab_world::plans::Item;
 
 /// Puts the body of a refusal before the desk is asked.
 pub fn put_wire_refusal<S: Sink>(sink: &mut S, why: wire::Refusal) -> Result<(), WriteFailed>

@@ -8,16 +8,16 @@ ghost use Rattle.fab_wire_answers.specs.Bodies.{joined_body, joint_body, paths_b
 use crate::parts::{At, Part, Parts};
 use crate::words::{flag_word, state_word};
 use fab_desk_base::{Joint, Shown, ShownGroup, ShownHolder, ShownPlan, ZoneMembers};
-use fab_inventory::Volume;
-use fab_names::{Address, Fabric, Member, Name, Place, Wwn};
 use fab_reach_base::Path;
+use fab_reach_base::inventory::Volume;
+use fab_reach_base::names::{Address, Fabric, Member, Name, Place, Wwn};
+use fab_reach_base::zoning::DefaultFlag;
 use fab_store_columns_base::kind_word;
 use fab_wire_streams::object;
 use fab_wire_streams::sink::Sink;
 use fab_wire_streams::streams::WriteFailed;
 use fab_wire_streams::structures::Array;
 use fab_wire_streams::values::{Json, Text};
-use fab_zoning::DefaultFlag;
 use std::alloc::Allocator;
 
 /// Puts the body of what a read shows.

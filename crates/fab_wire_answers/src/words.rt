@@ -2,13 +2,13 @@
 
 ghost use Rattle.std.specs.Prelude.{◌≡◌};
 ghost use Rattle.fab_store_columns.specs.PlanLines.{state_text};
-ghost use Rattle.fab_plans_base.specs.Values.{flag_text};
+ghost use Rattle.fab_world.specs.fab_plans_base.Values.{flag_text};
 ghost use Rattle.fab_wire_answers.specs.Words.{limit_word, step_limit_word};
 
 use fab_desk_base::DeskLimit;
-use fab_plans::StepLimit;
+use fab_reach_base::zoning::DefaultFlag;
 use fab_store_rows::PlanState;
-use fab_zoning::DefaultFlag;
+use fab_world::plans::StepLimit;
 
 /// The word of a plan's state: `staged`, `active`, `rolled-back` or `withdrawn`.
 pub fn state_word(state: PlanState) -> &'static str

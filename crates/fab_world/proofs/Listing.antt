@@ -12,11 +12,11 @@ use Rattle.std.specs.Set.{distinct_count}
 use Rattle.std.proofs.lemmas.List.Elements.{All-contains, All-contains_itself, All-weaker}
 use Rattle.std.proofs.lemmas.Map.Keys.{IsDistinct-from_sorted}
 use Rattle.std.proofs.lemmas.Map.Made.{length-from_keys, IsDistinct-from_count, distinct_count-from_IsDistinct, is_member-Decides}
-use Rattle.fab_lemmas.proofs.SeenEntries.{entry_decides}
-use Rattle.fab_lemmas.proofs.SeenMaps.{get_entries, entries_made}
-use Rattle.fab_lemmas.proofs.SeenSets.{tie_decides}
-use Rattle.fab_names.specs.Orders.{name_cmp}
-use Rattle.fab_names.proofs.OrderLaws.{name_total, name_exact}
+use Rattle.fab_reach_base.proofs.fab_lemmas.SeenEntries.{entry_decides}
+use Rattle.fab_reach_base.proofs.fab_lemmas.SeenMaps.{get_entries, entries_made}
+use Rattle.fab_reach_base.proofs.fab_lemmas.SeenSets.{tie_decides}
+use Rattle.fab_reach_base.specs.fab_names.Orders.{name_cmp}
+use Rattle.fab_reach_base.proofs.fab_names.OrderLaws.{name_total, name_exact}
 use Rattle.fab_reach_base.proofs.Scanning.{AllSoFar, is_in_map}
 
 module _ {X : Type 0} (es : List (List ℕ × X)) (sorted : IsStrictlySortedBy name_cmp (keys_of es)) where

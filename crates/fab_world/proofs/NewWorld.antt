@@ -5,16 +5,16 @@ use Rattle.std.specs.FinMap as map
 use Rattle.std.specs.Option.{option_map}
 use Rattle.std.specs.Ordering.{nat_cmp}
 use Rattle.std.proofs.lemmas.Map.Made.{IsDistinct-from_count}
-use Rattle.fab_names.specs.Orders.{name_cmp}
-use Rattle.fab_names.proofs.OrderLaws.{name_total}
-use Rattle.fab_names.specs.declared.fabric.Fabric.{Fabric}
-use Rattle.fab_names.specs.declared.fabric.Fabric.TheVariants.{A, B}
-use Rattle.fab_inventory.specs.Inventories as inventories
-use Rattle.fab_inventory.specs.Ports.{port_of}
-use Rattle.fab_zoning.proofs.Keeping.{new_is_sound}
-use Rattle.fab_zoning.specs.Soundness as zonings
-use Rattle.fab_mapping.specs.Mappings.{no_groups, HasNoClash}
-use Rattle.fab_mapping.specs.Soundness as mappings
+use Rattle.fab_reach_base.specs.fab_names.Orders.{name_cmp}
+use Rattle.fab_reach_base.proofs.fab_names.OrderLaws.{name_total}
+use Rattle.fab_reach_base.specs.fab_names.declared.fabric.Fabric.{Fabric}
+use Rattle.fab_reach_base.specs.fab_names.declared.fabric.Fabric.TheVariants.{A, B}
+use Rattle.fab_reach_base.specs.fab_inventory.Inventories as inventories
+use Rattle.fab_reach_base.specs.fab_inventory.Ports.{port_of}
+use Rattle.fab_reach_base.proofs.fab_zoning.Keeping.{new_is_sound}
+use Rattle.fab_reach_base.specs.fab_zoning.Soundness as zonings
+use Rattle.fab_reach_base.specs.fab_mapping.Mappings.{no_groups, HasNoClash}
+use Rattle.fab_reach_base.specs.fab_mapping.Soundness as mappings
 use Rattle.fab_reach_base.specs.Reach.{Reaches}
 use Rattle.fab_reach_base.specs.Records.{zoning_at}
 use Rattle.fab_reach_base.specs.declared.path.Path.{Path}

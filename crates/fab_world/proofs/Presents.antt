@@ -4,12 +4,12 @@ use mathlib.Core.Bool.{true≢false}
 use Rattle.std.specs.Cmp.{eq_by_cmp_equiv}
 use Rattle.std.proofs.lemmas.Map.Keys.{IsDistinct-from_sorted}
 use Rattle.std.proofs.lemmas.Map.Made.{length-le_from_is_member, is_member-Decides}
-use Rattle.fab_lemmas.proofs.SeenSets.{tie_decides}
-use Rattle.fab_names.specs.declared.fabric.Fabric.{Fabric}
-use Rattle.fab_names.specs.declared.fabric.Fabric.TheVariants.{A, B}
-use Rattle.fab_zoning.specs.Soundness as zonings
-use Rattle.fab_mapping_base.specs.declared.nexus.Nexus.{Nexus}
-use Rattle.fab_mapping.specs.Mappings.{MappingRows, HasNoClash, IsLeastClash}
+use Rattle.fab_reach_base.proofs.fab_lemmas.SeenSets.{tie_decides}
+use Rattle.fab_reach_base.specs.fab_names.declared.fabric.Fabric.{Fabric}
+use Rattle.fab_reach_base.specs.fab_names.declared.fabric.Fabric.TheVariants.{A, B}
+use Rattle.fab_reach_base.specs.fab_zoning.Soundness as zonings
+use Rattle.fab_reach_base.specs.fab_mapping_base.declared.nexus.Nexus.{Nexus}
+use Rattle.fab_reach_base.specs.fab_mapping.Mappings.{MappingRows, HasNoClash, IsLeastClash}
 use Rattle.fab_reach_base.specs.Limits.{MoreThan}
 use Rattle.fab_reach_base.specs.Orders.{path_order, IsListOf}
 use Rattle.fab_reach_base.specs.Records.{ConfigRows, zoning_at}

@@ -1,15 +1,15 @@
 -- Earlier configurations: what rows tell of them, and how changes lead back.
 use Rattle.std.proofs.Common.{ℕ, ◌≡◌, ◌↔◌, List, [], ◌∷◌, ◌++◌, Option, None, Some, MatchOption, Result, Ok, Err, IfOk, sym, ap, ◌∙◌, subst, reverse}
 use Rattle.std.proofs.lemmas.List.{reverse-append}
-use Rattle.fab_lemmas.specs.Lists.{IsListOf}
+use Rattle.fab_reach_base.specs.fab_lemmas.Lists.{IsListOf}
 use Rattle.fab_reach_base.specs.Records.{ConfigRows}
 use Rattle.fab_reach_base.specs.Soundness.{IsSoundAlone}
-use Rattle.fab_store_rows.specs.declared.config_row.ConfigRow.{ConfigRow}
-use Rattle.fab_store_rows.specs.Differences.{IsDifference}
-use Rattle.fab_store_rows.specs.RowOrder.{row_order}
-use Rattle.fab_store_rows.specs.Standing.{Stands}
-use Rattle.fab_store_rows.specs.Telling.{HaveSameRows}
-use Rattle.fab_store_rows.proofs.Determined.{one_config}
+use Rattle.fab_store_load.specs.fab_store_rows.declared.config_row.ConfigRow.{ConfigRow}
+use Rattle.fab_store_load.specs.fab_store_rows.Differences.{IsDifference}
+use Rattle.fab_store_load.specs.fab_store_rows.RowOrder.{row_order}
+use Rattle.fab_store_load.specs.fab_store_rows.Standing.{Stands}
+use Rattle.fab_store_load.specs.fab_store_rows.Telling.{HaveSameRows}
+use Rattle.fab_store_load.proofs.fab_store_rows.Determined.{one_config}
 use Rattle.fab_store_drafts.proofs.fab_store_edits.Differing.{led_back, same_rows, difference_of_rows}
 use Rattle.fab_store_load.specs.Configs.{AreConfigRows}
 use Rattle.fab_world.specs.History.{IsEarlier, IsOnlyEarlier, LeadsBack, changes_at, changes_of}

@@ -2,11 +2,11 @@
 use Rattle.std.proofs.Common.{ℕ, ◌≡◌, ◌≤◌, List, Result, Ok, Err, IfOk, refl, sym, ◌∙◌, subst, reverse, length}
 use Rattle.std.specs.BTreeMap.{BTreeMap, IsOrdered, get}
 use Rattle.std.specs.FinMap as map
-use Rattle.fab_names.specs.Orders.{name_cmp}
-use Rattle.fab_names.proofs.OrderLaws.{name_total}
-use Rattle.fab_inventory.specs.Inventories.{InventoryRows}
-use Rattle.fab_lemmas.proofs.SeenMaps.{len_entries, same_look_ups}
-use Rattle.fab_mapping.specs.Soundness.{Each}
+use Rattle.fab_reach_base.specs.fab_names.Orders.{name_cmp}
+use Rattle.fab_reach_base.proofs.fab_names.OrderLaws.{name_total}
+use Rattle.fab_reach_base.specs.fab_inventory.Inventories.{InventoryRows}
+use Rattle.fab_reach_base.proofs.fab_lemmas.SeenMaps.{len_entries, same_look_ups}
+use Rattle.fab_reach_base.specs.fab_mapping.Soundness.{Each}
 use Rattle.fab_reach_base.specs.Records.{ConfigRows}
 use Rattle.fab_world.specs.History.{LeadsBack, changes_of}
 use Rattle.fab_world.specs.PlanRecords.{PlanRecord}

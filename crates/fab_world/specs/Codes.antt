@@ -3,20 +3,20 @@ use Rattle.std.specs.Prelude.{ℕ, ◌≡◌, ◌⊎◌, List, Option, None, Som
 use Rattle.std.specs.Coded.{Coded, code_by, coded×, coded⊎, coded_ℕ, coded_bool, coded_list, coded_option}
 use Rattle.std.specs.FinMap as map
 use mathlib.Core.Logic.{inl, inr}
-use Rattle.fab_names.specs.Codes.{name_code, fabric_code, member_code}
-use Rattle.fab_names.specs.Orders.{name_cmp}
-use Rattle.fab_names.specs.declared.fabric.Fabric.{Fabric}
-use Rattle.fab_names.specs.declared.member.Member.{Member}
-use Rattle.fab_plans_base.specs.Steps.{PlanStep}
-use Rattle.fab_plans_kept.specs.Codes.{step_code}
-use Rattle.fab_store_rows.specs.declared.config_row.SettingRow.TheVariants.{ActiveSet, DefaultZone}
-use Rattle.fab_store_rows.specs.declared.config_row.ZoningItem.{ZoningItem}
-use Rattle.fab_store_rows.specs.declared.config_row.ZoningItem.TheVariants.{Alias, Zone, Set}
-use Rattle.fab_store_rows.specs.declared.config_row.GroupRow.TheVariants as group
-use Rattle.fab_store_rows.specs.declared.config_row.StoragePart.TheVariants as part
-use Rattle.fab_store_rows.specs.declared.config_row.PartRow.TheVariants as parts
-use Rattle.fab_store_rows.specs.declared.config_row.ConfigRow.{ConfigRow}
-use Rattle.fab_store_rows.specs.declared.config_row.ConfigRow.TheVariants as config
+use Rattle.fab_reach_base.specs.fab_names.Codes.{name_code, fabric_code, member_code}
+use Rattle.fab_reach_base.specs.fab_names.Orders.{name_cmp}
+use Rattle.fab_reach_base.specs.fab_names.declared.fabric.Fabric.{Fabric}
+use Rattle.fab_reach_base.specs.fab_names.declared.member.Member.{Member}
+use Rattle.fab_plans.specs.fab_plans_base.Steps.{PlanStep}
+use Rattle.fab_plans.specs.fab_plans_kept.Codes.{step_code}
+use Rattle.fab_store_load.specs.fab_store_rows.declared.config_row.SettingRow.TheVariants.{ActiveSet, DefaultZone}
+use Rattle.fab_store_load.specs.fab_store_rows.declared.config_row.ZoningItem.{ZoningItem}
+use Rattle.fab_store_load.specs.fab_store_rows.declared.config_row.ZoningItem.TheVariants.{Alias, Zone, Set}
+use Rattle.fab_store_load.specs.fab_store_rows.declared.config_row.GroupRow.TheVariants as group
+use Rattle.fab_store_load.specs.fab_store_rows.declared.config_row.StoragePart.TheVariants as part
+use Rattle.fab_store_load.specs.fab_store_rows.declared.config_row.PartRow.TheVariants as parts
+use Rattle.fab_store_load.specs.fab_store_rows.declared.config_row.ConfigRow.{ConfigRow}
+use Rattle.fab_store_load.specs.fab_store_rows.declared.config_row.ConfigRow.TheVariants as config
 use Rattle.fab_world.specs.PlanRecords.{Standing, staged, active, rolled_back, withdrawn, PlanRecord}
 
 abbrev pub Name : Type 0

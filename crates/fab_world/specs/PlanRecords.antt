@@ -1,9 +1,9 @@
 -- What contracts see of a plan that a world keeps.
 use Rattle.std.specs.Prelude.{ℕ, List}
 use Rattle.std.specs.FinMap as map
-use Rattle.fab_names.specs.Orders.{name_cmp}
-use Rattle.fab_plans_base.specs.Steps.{PlanStep}
-use Rattle.fab_store_rows.specs.declared.config_row.ConfigRow.{ConfigRow}
+use Rattle.fab_reach_base.specs.fab_names.Orders.{name_cmp}
+use Rattle.fab_plans.specs.fab_plans_base.Steps.{PlanStep}
+use Rattle.fab_store_load.specs.fab_store_rows.declared.config_row.ConfigRow.{ConfigRow}
 
 -- where a plan stands; of an active one the rows that its activation took away, and those that it
 -- added

@@ -3,10 +3,10 @@ use Rattle.std.specs.Prelude.{List, Option, None, Some, IsSome}
 use Rattle.std.specs.FinMap as map
 use Rattle.fab_plans.specs.Plans.{PlanRows}
 use Rattle.fab_plans.specs.declared.plan.Plan.{Plan}
-use Rattle.fab_store_rows.specs.declared.config_row.ConfigRow.{ConfigRow}
-use Rattle.fab_store_rows.specs.declared.listing.RowDifference.{RowDifference}
-use Rattle.fab_store_rows.specs.declared.record_row.PlanState.{PlanState}
-use Rattle.fab_store_rows.specs.declared.record_row.PlanState.TheVariants as state
+use Rattle.fab_store_load.specs.fab_store_rows.declared.config_row.ConfigRow.{ConfigRow}
+use Rattle.fab_store_load.specs.fab_store_rows.declared.listing.RowDifference.{RowDifference}
+use Rattle.fab_store_load.specs.fab_store_rows.declared.record_row.PlanState.{PlanState}
+use Rattle.fab_store_load.specs.fab_store_rows.declared.record_row.PlanState.TheVariants as state
 use Rattle.fab_world.specs.PlanRecords.{Standing, staged, active, rolled_back, withdrawn, PlanRecord}
 use Rattle.fab_world.specs.declared.any_plan.AnyPlan.{AnyPlan}
 use Rattle.fab_world.specs.declared.any_plan.AnyPlan.TheVariants.{Staged, Active, RolledBack, Withdrawn}

@@ -3,16 +3,16 @@ use Rattle.std.specs.Prelude.{ℕ, ◌≤◌, ◌↔◌, List, Contains, Option,
 use Rattle.std.specs.FinMap as map
 use Rattle.std.specs.List.{IsDistinct}
 use Rattle.std.specs.Ordering.{eq_by_cmp}
-use Rattle.fab_lemmas.specs.Firsts.{HasAt}
-use Rattle.fab_names.specs.Orders.{name_cmp}
-use Rattle.fab_inventory.specs.Inventories as inventories
-use Rattle.fab_mapping.specs.Soundness.{Each, Fits}
+use Rattle.fab_reach_base.specs.fab_lemmas.Firsts.{HasAt}
+use Rattle.fab_reach_base.specs.fab_names.Orders.{name_cmp}
+use Rattle.fab_reach_base.specs.fab_inventory.Inventories as inventories
+use Rattle.fab_reach_base.specs.fab_mapping.Soundness.{Each, Fits}
 use Rattle.fab_reach_base.specs.Limits.{MoreThan}
 use Rattle.fab_reach_base.specs.Reach.{Reaches}
 use Rattle.fab_reach_base.specs.Records.{ConfigRows}
 use Rattle.fab_reach_base.specs.Soundness.{IsSoundAlone}
 use Rattle.fab_reach_base.specs.declared.listing.TheConstants.{MOST_PATHS}
-use Rattle.fab_plans_base.specs.Plans.{IsWithinLimits}
+use Rattle.fab_plans.specs.fab_plans_base.Plans.{IsWithinLimits}
 use Rattle.fab_world.specs.declared.limits.TheConstants.{MOST_PLANS, MOST_CHANGES}
 use Rattle.fab_world.specs.History.{changes_of, LeadsBack}
 use Rattle.fab_world.specs.PlanRecords.{PlanRecord}

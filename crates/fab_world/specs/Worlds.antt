@@ -2,13 +2,13 @@
 use Rattle.std.specs.Prelude.{ℕ, List, [], refl}
 use Rattle.std.specs.Coded.{Coded, code_by, coded×, coded_ℕ, coded_list}
 use Rattle.std.specs.FinMap as map
-use Rattle.fab_names.specs.Orders.{name_cmp}
-use Rattle.fab_names.specs.Codes.{name_code}
-use Rattle.fab_names.specs.declared.fabric.Fabric.TheVariants.{A, B}
-use Rattle.fab_inventory.specs.Codes.{rows_code}
-use Rattle.fab_inventory.specs.Inventories.{InventoryRows, no_rows}
-use Rattle.fab_zoning.specs.Zonings.{new_zoning}
-use Rattle.fab_mapping.specs.Mappings.{no_groups}
+use Rattle.fab_reach_base.specs.fab_names.Orders.{name_cmp}
+use Rattle.fab_reach_base.specs.fab_names.Codes.{name_code}
+use Rattle.fab_reach_base.specs.fab_names.declared.fabric.Fabric.TheVariants.{A, B}
+use Rattle.fab_reach_base.specs.fab_inventory.Codes.{rows_code}
+use Rattle.fab_reach_base.specs.fab_inventory.Inventories.{InventoryRows, no_rows}
+use Rattle.fab_reach_base.specs.fab_zoning.Zonings.{new_zoning}
+use Rattle.fab_reach_base.specs.fab_mapping.Mappings.{no_groups}
 use Rattle.fab_reach_base.specs.Records.{ConfigRows, config_code, Records}
 use Rattle.fab_world.specs.PlanRecords.{PlanRecord}
 use Rattle.fab_world.specs.Codes.{plan_code}

@@ -4,7 +4,7 @@ ghost use Rattle.fab_plans.specs.Plans.{seen_plan};
 ghost use Rattle.fab_world.specs.Plans.{plan_record, plan_rows, state_of, undo_of, change_in, IsActive};
 
 use fab_plans::{Active, Plan, RolledBack, Staged, Withdrawn};
-use fab_store_rows::{PlanState, RowDifference};
+use fab_store_load::rows::{PlanState, RowDifference};
 use std::alloc::Allocator;
 use std::marker::Model;
 

@@ -1,21 +1,21 @@
 //! The configurations before the activations that are in force.
 ghost use Rattle.std.specs.Prelude.{◌≡◌, ◌↔◌, ◌++◌, List, [], ◌∷◌, reverse, IsTrue, IfOk, MatchOption, true, false};
 ghost use Rattle.std.specs.BTreeMap.{get};
-ghost use Rattle.fab_names.specs.Orders.{name_cmp};
+ghost use Rattle.fab_reach_base.specs.fab_names.Orders.{name_cmp};
 ghost use Rattle.fab_reach_base.specs.Records.{ConfigRows};
 ghost use Rattle.fab_reach_base.specs.Soundness.{IsSoundAlone};
 ghost use Rattle.fab_store_load.specs.Configs.{AreConfigRows};
-ghost use Rattle.fab_store_rows.specs.Telling.{HaveSameRows};
+ghost use Rattle.fab_store_load.specs.fab_store_rows.Telling.{HaveSameRows};
 ghost use Rattle.fab_world.specs.History.{IsEarlier, IsOnlyEarlier, LeadsBack, changes_at, changes_of};
 ghost use Rattle.fab_world.specs.Plans.{Change, change_in};
 
 use crate::KeptPlan;
-use fab_names::Name;
 use fab_reach_base::Config;
+use fab_reach_base::names::Name;
 use fab_store_drafts::Draft;
 use fab_store_drafts::edits::lead;
+use fab_store_load::rows::{ConfigRow, RowDifference, config_rows};
 use fab_store_load::{LoadFault, config_of};
-use fab_store_rows::{ConfigRow, RowDifference, config_rows};
 use std::alloc::{AllocError, Allocator};
 use std::collections::BTreeMap;
 

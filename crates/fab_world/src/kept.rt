@@ -2,16 +2,16 @@
 ghost use Rattle.std.specs.Prelude.{◌≡◌, ◌≤◌, ◌↔◌, ℕ, List, All, IsTrue, true, IfOk};
 ghost use Rattle.std.specs.BTreeMap.{get};
 ghost use Rattle.std.specs.BTreeSet.{contains};
-ghost use Rattle.fab_lemmas.specs.Firsts.{HasAt};
-ghost use Rattle.fab_names.specs.Orders.{name_cmp};
-ghost use Rattle.fab_mapping.specs.Soundness.{Each};
+ghost use Rattle.fab_reach_base.specs.fab_lemmas.Firsts.{HasAt};
+ghost use Rattle.fab_reach_base.specs.fab_names.Orders.{name_cmp};
+ghost use Rattle.fab_reach_base.specs.fab_mapping.Soundness.{Each};
 ghost use Rattle.fab_world.specs.Plans.{IsActive};
 ghost use Rattle.fab_world.specs.Soundness.{IsSoundPlan, ListsActive};
 ghost use Rattle.fab_world.specs.declared.limits.TheConstants.{MOST_CHANGES};
 
 use crate::{KeptPlan, MOST_CHANGES};
-use fab_lemmas::set_of;
-use fab_names::Name;
+use fab_reach_base::lemmas::set_of;
+use fab_reach_base::names::Name;
 use std::alloc::{AllocError, Allocator};
 use std::collections::{BTreeMap, BTreeSet};
 

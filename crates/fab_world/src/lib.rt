@@ -11,6 +11,8 @@ mod sound;
 mod world;
 
 pub use any_plan::{AnyPlan, KeptPlan};
+pub use fab_plans as plans;
+pub use fab_store_load as load;
 pub use history::{earlier, has_sound_history};
 pub use kept::is_active_at;
 pub use limits::{MOST_CHANGES, MOST_PLANS};

@@ -1,7 +1,7 @@
 //! Whether an inventory and a configuration are sound together.
 ghost use Rattle.std.specs.Prelude.{◌≡◌, ◌↔◌, false, IsTrue, IfOk};
-ghost use Rattle.fab_inventory.specs.Inventories.{IsSound as IsSoundInventory};
-ghost use Rattle.fab_zoning.specs.Soundness.{IsSound as IsSoundZoning};
+ghost use Rattle.fab_reach_base.specs.fab_inventory.Inventories.{IsSound as IsSoundInventory};
+ghost use Rattle.fab_reach_base.specs.fab_zoning.Soundness.{IsSound as IsSoundZoning};
 ghost use Rattle.fab_reach_base.specs.Limits.{MoreThan};
 ghost use Rattle.fab_reach_base.specs.Reach.{Reaches};
 ghost use Rattle.fab_reach_base.specs.Records.{zoning_at};
@@ -9,8 +9,8 @@ ghost use Rattle.fab_reach_base.specs.Soundness.{HasSoundZonings, IsSoundAlone};
 ghost use Rattle.fab_reach_base.specs.declared.listing.TheConstants.{MOST_PATHS};
 ghost use Rattle.fab_world.specs.Soundness.{IsSoundNow};
 
-use fab_inventory::Inventory;
-use fab_names::{Fabric, Wwn};
+use fab_reach_base::inventory::Inventory;
+use fab_reach_base::names::{Fabric, Wwn};
 use fab_reach_base::{Config, PathsFault, few_paths};
 use std::alloc::{AllocError, Allocator};
 

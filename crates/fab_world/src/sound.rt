@@ -7,9 +7,9 @@ use crate::history::has_sound_history;
 use crate::kept::{are_sound_plans, lists_active};
 use crate::present::is_sound_now;
 use crate::{KeptPlan, MOST_CHANGES, MOST_PLANS};
-use fab_inventory::Inventory;
-use fab_names::Name;
 use fab_reach_base::Config;
+use fab_reach_base::inventory::Inventory;
+use fab_reach_base::names::Name;
 use std::alloc::{AllocError, Allocator};
 use std::collections::BTreeMap;
 

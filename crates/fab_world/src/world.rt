@@ -5,11 +5,11 @@ ghost use Rattle.fab_world.specs.Worlds.{new_world};
 
 use crate::KeptPlan;
 use crate::sound::are_sound;
-use fab_inventory::Inventory;
-use fab_mapping::Mapping;
-use fab_names::{Fabric, Name, Wwn};
 use fab_reach_base::Config;
-use fab_zoning::Zoning;
+use fab_reach_base::inventory::Inventory;
+use fab_reach_base::mapping::Mapping;
+use fab_reach_base::names::{Fabric, Name, Wwn};
+use fab_reach_base::zoning::Zoning;
 use std::alloc::{AllocError, Allocator};
 use std::collections::BTreeMap;
 use std::marker::Model;

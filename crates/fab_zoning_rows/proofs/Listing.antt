@@ -8,9 +8,9 @@ use Rattle.std.specs.BTreeSet.{BTreeSet, contains, IsOrdered}
 use Rattle.std.specs.FinSet as set
 use Rattle.std.proofs.lemmas.List.{map-append}
 use Rattle.std.proofs.lemmas.List.Folds.{list_any-append}
-use Rattle.fab_names.specs.declared.member.Member.{Member}
-use Rattle.fab_lemmas.specs.Lists.{IsListOf}
-use Rattle.fab_lemmas.proofs.SeenSets.{set_of_list, listed_decides}
+use Rattle.fab_inventory.specs.fab_names.declared.member.Member.{Member}
+use Rattle.fab_inventory.specs.fab_lemmas.Lists.{IsListOf}
+use Rattle.fab_inventory.proofs.fab_lemmas.SeenSets.{set_of_list, listed_decides}
 use Rattle.fab_zoning_rows.specs.Rows.{Row, Rows, row_cmp, IsRowOf}
 use Rattle.fab_zoning_rows.specs.Views.{listed_rows, seen_rows}
 use Rattle.fab_zoning_rows.specs.Inner.ByZone.{rows_of_member, AddsListed}

@@ -3,14 +3,14 @@ use Rattle.std.proofs.Common.{◌≡◌, ℕ, List, Option, Some, None, Bool, tr
 use mathlib.Core.Bool.{true≢false}
 use Rattle.std.specs.Option.{option_map}
 use Rattle.std.specs.FinSet as set
-use Rattle.fab_names.specs.Places.{Position}
-use Rattle.fab_names.specs.declared.fabric.Fabric.{Fabric}
-use Rattle.fab_names.specs.declared.member.Member.{Member}
-use Rattle.fab_names.specs.declared.member.Member.TheVariants as member
+use Rattle.fab_inventory.specs.fab_names.Places.{Position}
+use Rattle.fab_inventory.specs.fab_names.declared.fabric.Fabric.{Fabric}
+use Rattle.fab_inventory.specs.fab_names.declared.member.Member.{Member}
+use Rattle.fab_inventory.specs.fab_names.declared.member.Member.TheVariants as member
 use Rattle.fab_inventory.specs.declared.port.Port.{Port}
 use Rattle.fab_zoning_rows.specs.Rows.{Rows}
 use Rattle.fab_zoning_rows.specs.Holding.{Matches, Holds, place_member, address_member, has_row}
-use Rattle.fab_lemmas.proofs.Tests.{or_true, or_right, or_left}
+use Rattle.fab_inventory.proofs.fab_lemmas.Tests.{or_true, or_right, or_left}
 
 module _ (rows : Rows) (p : Port) (z : List ℕ) where
   by_place : (o : Option (Fabric × Position)) → p.at ≡ o → has_row rows z (option_map (λ at. member.Place at.1) o) ≡ true → Holds rows p z

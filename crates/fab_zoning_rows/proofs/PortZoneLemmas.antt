@@ -7,10 +7,10 @@ use Rattle.std.specs.declared.cmp.Ordering.TheVariants.{Less, Equal, Greater}
 use Rattle.std.specs.Cmp.{tied_itself}
 use Rattle.std.specs.List.{list_any}
 use Rattle.std.specs.BTreeSet.{BTreeSet, contains}
-use Rattle.fab_names.specs.Orders.{name_cmp}
+use Rattle.fab_inventory.specs.fab_names.Orders.{name_cmp}
 use Rattle.std.proofs.lemmas.Cmp.{upto}
-use Rattle.fab_names.proofs.OrderLaws.{name_total}
-use Rattle.fab_lemmas.proofs.Tests.{or_true, or_right, or_left}
+use Rattle.fab_inventory.proofs.fab_names.OrderLaws.{name_total}
+use Rattle.fab_inventory.proofs.fab_lemmas.Tests.{or_true, or_right, or_left}
 use Rattle.fab_zoning_rows.specs.PortZones.{HasNoCommon, IsLeastCommon}
 use Rattle.fab_zoning_rows.specs.Inner.PortZones.{IsLesser}
 

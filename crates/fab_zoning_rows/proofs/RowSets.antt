@@ -16,15 +16,15 @@ use Rattle.std.proofs.lemmas.List.{append-nil}
 use Rattle.std.proofs.lemmas.List.Folds.{list_any-append}
 use Rattle.std.proofs.lemmas.Map.Keys.{sorted_head, sorted_tail}
 use Rattle.std.proofs.lemmas.Map.Lookups.{exact_pairs}
-use Rattle.fab_names.specs.declared.member.Member.{Member}
-use Rattle.fab_names.specs.Orders.{name_cmp, member_cmp}
-use Rattle.fab_names.proofs.OrderLaws.{name_total, name_exact, member_total, member_exact}
-use Rattle.fab_lemmas.proofs.Tests.{or_true, or_left, or_right}
-use Rattle.fab_lemmas.proofs.Walks.{walked}
+use Rattle.fab_inventory.specs.fab_names.declared.member.Member.{Member}
+use Rattle.fab_inventory.specs.fab_names.Orders.{name_cmp, member_cmp}
+use Rattle.fab_inventory.proofs.fab_names.OrderLaws.{name_total, name_exact, member_total, member_exact}
+use Rattle.fab_inventory.proofs.fab_lemmas.Tests.{or_true, or_left, or_right}
+use Rattle.fab_inventory.proofs.fab_lemmas.Walks.{walked}
 use Rattle.fab_zoning_rows.specs.Limits.{most_rows}
 use Rattle.fab_zoning_rows.specs.Rows.{Row, Rows, row_cmp, IsPlain}
 use Rattle.fab_zoning_rows.specs.Views.{listed_rows, seen_rows}
-use Rattle.fab_lemmas.specs.MapsOfSets.{in_tree, tree_has}
+use Rattle.fab_inventory.specs.fab_lemmas.MapsOfSets.{in_tree, tree_has}
 
 abbrev pub ByMember : Type 0
 ByMember = BTreeMap Member (BTreeSet (List ℕ))

@@ -9,11 +9,11 @@ use Rattle.std.specs.BTreeMap as tree
 use Rattle.std.specs.BTreeMap.{is_at}
 use Rattle.std.specs.BTreeSet.{BTreeSet, contains}
 use Rattle.std.specs.FinSet as set
-use Rattle.fab_names.specs.declared.member.Member.{Member}
-use Rattle.fab_names.specs.Orders.{name_cmp, member_cmp}
-use Rattle.fab_names.proofs.OrderLaws.{name_total, member_total, member_exact}
-use Rattle.fab_lemmas.specs.MapsOfSets.{in_tree, tree_has}
-use Rattle.fab_lemmas.proofs.Sizes.{holds_some}
+use Rattle.fab_inventory.specs.fab_names.declared.member.Member.{Member}
+use Rattle.fab_inventory.specs.fab_names.Orders.{name_cmp, member_cmp}
+use Rattle.fab_inventory.proofs.fab_names.OrderLaws.{name_total, member_total, member_exact}
+use Rattle.fab_inventory.specs.fab_lemmas.MapsOfSets.{in_tree, tree_has}
+use Rattle.fab_inventory.proofs.fab_lemmas.Sizes.{holds_some}
 use Rattle.fab_zoning_rows.specs.Limits.{most_rows}
 use Rattle.fab_zoning_rows.specs.Rows.{Row, Rows, row_cmp}
 use Rattle.fab_zoning_rows.specs.Views.{seen_rows}

@@ -2,10 +2,10 @@
 use Rattle.std.specs.Prelude.{ℕ, ◌≡◌, List, Option, None, Some, Bool, true, false}
 use Rattle.std.specs.Option.{option_map}
 use Rattle.std.specs.FinSet as set
-use Rattle.fab_names.specs.Places.{Position}
-use Rattle.fab_names.specs.declared.fabric.Fabric.{Fabric}
-use Rattle.fab_names.specs.declared.member.Member.{Member}
-use Rattle.fab_names.specs.declared.member.Member.TheVariants as member
+use Rattle.fab_inventory.specs.fab_names.Places.{Position}
+use Rattle.fab_inventory.specs.fab_names.declared.fabric.Fabric.{Fabric}
+use Rattle.fab_inventory.specs.fab_names.declared.member.Member.{Member}
+use Rattle.fab_inventory.specs.fab_names.declared.member.Member.TheVariants as member
 use Rattle.fab_inventory.specs.declared.port.Port.{Port}
 use Rattle.fab_zoning_rows.specs.Rows.{Rows}
 

@@ -5,4 +5,5 @@ pub mod PortZones
 pub mod Holding
 pub mod Inner
 pub use Rattle.fab_inventory.specs as fab_inventory
-pub use Rattle.fab_lemmas.specs as fab_lemmas
+pub use Rattle.fab_inventory.specs.fab_lemmas
+pub use Rattle.fab_inventory.specs.fab_names

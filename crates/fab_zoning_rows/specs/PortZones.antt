@@ -2,8 +2,8 @@
 use Rattle.std.specs.Prelude.{ℕ, ◌≡◌, List, Bool, true, false, ◌||◌}
 use Rattle.std.specs.Ordering.{is_gt}
 use Rattle.std.specs.Option.{option_copied}
-use Rattle.fab_names.specs.Orders.{name_cmp}
-use Rattle.fab_lemmas.specs.MapsOfSets.{in_tree}
+use Rattle.fab_inventory.specs.fab_names.Orders.{name_cmp}
+use Rattle.fab_inventory.specs.fab_lemmas.MapsOfSets.{in_tree}
 use Rattle.fab_zoning_rows.specs.declared.port_zones.PortZones.{PortZones}
 
 -- whether the zone is one of the port's: it is in one of the four sets

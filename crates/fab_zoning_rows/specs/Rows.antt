@@ -4,10 +4,10 @@ use Rattle.std.specs.declared.cmp.Ordering.{Ordering}
 use Rattle.std.specs.Ordering.{then_cmp, on}
 use Rattle.std.specs.Coded.{Coded, coded×}
 use Rattle.std.specs.FinSet.{FinSet, contains}
-use Rattle.fab_names.specs.declared.member.Member.{Member}
-use Rattle.fab_names.specs.declared.member.Member.TheVariants as member
-use Rattle.fab_names.specs.Orders.{name_cmp, member_cmp}
-use Rattle.fab_names.specs.Codes.{name_code, member_code}
+use Rattle.fab_inventory.specs.fab_names.declared.member.Member.{Member}
+use Rattle.fab_inventory.specs.fab_names.declared.member.Member.TheVariants as member
+use Rattle.fab_inventory.specs.fab_names.Orders.{name_cmp, member_cmp}
+use Rattle.fab_inventory.specs.fab_names.Codes.{name_code, member_code}
 
 -- the name of a zone, and a member of it
 abbrev pub Row : Type 0

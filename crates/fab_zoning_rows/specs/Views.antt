@@ -2,7 +2,7 @@
 use Rattle.std.specs.Prelude.{ℕ, List, [], ◌∷◌, ◌++◌, map}
 use Rattle.std.specs.BTreeSet.{BTreeSet}
 use Rattle.std.specs.FinSet as set
-use Rattle.fab_names.specs.declared.member.Member.{Member}
+use Rattle.fab_inventory.specs.fab_names.declared.member.Member.{Member}
 use Rattle.fab_zoning_rows.specs.Rows.{Row, Rows}
 
 -- a row for each zone of each member

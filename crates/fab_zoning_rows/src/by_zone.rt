@@ -1,11 +1,11 @@
 //! The active rows, listed by zone.
 ghost use Rattle.std.specs.Prelude.{OnOk, IfOk};
-ghost use Rattle.fab_lemmas.specs.Lists.{IsListOf};
+ghost use Rattle.fab_inventory.specs.fab_lemmas.Lists.{IsListOf};
 ghost use Rattle.fab_zoning_rows.specs.Rows.{row_cmp, IsRowOf};
 ghost use Rattle.fab_zoning_rows.specs.Views.{seen_rows};
 ghost use Rattle.fab_zoning_rows.specs.Inner.ByZone.{AddsListed, rows_of_member};
 
-use fab_names::{Member, Name};
+use fab_inventory::names::{Member, Name};
 use std::alloc::{AllocError, Allocator};
 use std::collections::{BTreeMap, BTreeSet};
 

@@ -7,6 +7,6 @@ mod port_zones;
 mod rows;
 
 pub use fab_inventory as inventory;
-pub use fab_lemmas as lemmas;
+pub use fab_inventory::{lemmas, names};
 pub use port_zones::PortZones;
 pub use rows::{ActiveRows, MOST_ROWS, address_member, place_member};

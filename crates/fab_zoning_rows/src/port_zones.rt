@@ -2,13 +2,13 @@
 ghost use Rattle.std.specs.Prelude.{◌≡◌, ℕ, List, IsTrue, ◌↔◌, true, false, ◌||◌, MatchOption};
 ghost use Rattle.std.specs.Option.{option_copied};
 ghost use Rattle.std.specs.BTreeSet.{contains};
-ghost use Rattle.fab_names.specs.Orders.{name_cmp};
-ghost use Rattle.fab_lemmas.specs.MapsOfSets.{in_tree};
+ghost use Rattle.fab_inventory.specs.fab_names.Orders.{name_cmp};
+ghost use Rattle.fab_inventory.specs.fab_lemmas.MapsOfSets.{in_tree};
 ghost use Rattle.fab_zoning_rows.specs.PortZones.{in_zones};
 ghost use Rattle.fab_zoning_rows.specs.PortZones.{HasNoCommon, IsLeastCommon};
 ghost use Rattle.fab_zoning_rows.specs.Inner.PortZones.{IsLesser};
 
-use fab_names::Name;
+use fab_inventory::names::Name;
 use std::alloc::Allocator;
 use std::collections::BTreeSet;
 

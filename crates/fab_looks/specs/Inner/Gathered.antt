@@ -1,14 +1,14 @@
 -- Reads that are gathered.
 use Rattle.std.specs.Prelude.{ℕ, ◌≡◌, List, Contains, true}
 use Rattle.std.specs.FinSet as set
-use Rattle.fab_names.specs.declared.fabric.Fabric.{Fabric}
-use Rattle.fab_mapping_base.specs.Groups.{StorageGroupRows, MapsVolume}
-use Rattle.fab_policy_base.specs.Policies.{PolicyRows}
+use Rattle.fab_reach_base.specs.fab_names.declared.fabric.Fabric.{Fabric}
+use Rattle.fab_reach_base.specs.fab_mapping_base.Groups.{StorageGroupRows, MapsVolume}
+use Rattle.fab_policy.specs.fab_policy_base.Policies.{PolicyRows}
 use Rattle.fab_world.specs.Worlds.{WorldRows}
 use Rattle.fab_desk_base.specs.declared.command.Query.{Query}
 use Rattle.fab_desk_base.specs.declared.command.Query.TheVariants as query
-use Rattle.fab_zoning_rows.specs.PortZones.{in_zones}
-use Rattle.fab_zoning_rows.specs.declared.port_zones.PortZones.{PortZones}
+use Rattle.fab_reach_base.specs.fab_zoning_rows.PortZones.{in_zones}
+use Rattle.fab_reach_base.specs.fab_zoning_rows.declared.port_zones.PortZones.{PortZones}
 use Rattle.fab_looks.specs.Ways.{IsOpenQuery}
 
 -- it is the read of one of the ports

@@ -1,7 +1,7 @@
 -- Hosts that are gone through.
 use Rattle.std.specs.Prelude.{ℕ, ◌≡◌, List, Some}
 use Rattle.std.specs.BTreeMap.{BTreeMap, get}
-use Rattle.fab_names.specs.Orders.{name_cmp}
+use Rattle.fab_reach_base.specs.fab_names.Orders.{name_cmp}
 use Rattle.fab_looks_base.specs.declared.reaching.Counts.{Counts}
 
 -- those of a map that have S

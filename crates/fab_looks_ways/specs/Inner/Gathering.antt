@@ -3,12 +3,12 @@ use Rattle.std.specs.Prelude.{ℕ, ◌≡◌, ◌↔◌, List, Contains, Some, t
 use Rattle.std.specs.BTreeSet.{BTreeSet}
 use Rattle.std.specs.FinMap as map
 use Rattle.std.specs.FinSet as set
-use Rattle.fab_inventory.specs.Holders as holders
-use Rattle.fab_names.specs.declared.fabric.Fabric.{Fabric}
-use Rattle.fab_mapping_base.specs.Groups.{StorageGroupRows, MapsVolume}
+use Rattle.fab_reach_base.specs.fab_inventory.Holders as holders
+use Rattle.fab_reach_base.specs.fab_names.declared.fabric.Fabric.{Fabric}
+use Rattle.fab_reach_base.specs.fab_mapping_base.Groups.{StorageGroupRows, MapsVolume}
 use Rattle.fab_reach_base.specs.Gathering.{Serves}
 use Rattle.fab_reach_base.specs.Records.{Records}
-use Rattle.fab_policy_base.specs.Policies.{PolicyRows}
+use Rattle.fab_policy.specs.fab_policy_base.Policies.{PolicyRows}
 use Rattle.fab_world.specs.Worlds.{WorldRows, records_of}
 use Rattle.fab_desk_base.specs.Showing.{IsOpenTo}
 use Rattle.fab_desk_base.specs.Tenants.{Has}

@@ -3,7 +3,7 @@ use Rattle.std.specs.Prelude.{ℕ, List, IsTrue}
 use Rattle.std.specs.Ordering.{nat_cmp}
 use Rattle.std.specs.BTreeSet.{BTreeSet, contains}
 use Rattle.fab_desk_base.specs.Tenants.{Has}
-use Rattle.fab_mapping.specs.Mappings.{MappingRows}
+use Rattle.fab_reach_base.specs.fab_mapping.Mappings.{MappingRows}
 use Rattle.fab_looks_ways.specs.Offers.{IsOffer}
 
 -- the set has the logical unit number

@@ -2,13 +2,13 @@
 use Rattle.std.specs.Prelude.{ℕ, ◌≡◌, Some}
 use Rattle.std.specs.Ordering.{nat_cmp}
 use Rattle.std.specs.BTreeMap.{BTreeMap, get}
-use Rattle.fab_inventory.specs.declared.port.Port.{Port}
-use Rattle.fab_names.specs.declared.fabric.Fabric.{Fabric}
+use Rattle.fab_reach_base.specs.fab_inventory.declared.port.Port.{Port}
+use Rattle.fab_reach_base.specs.fab_names.declared.fabric.Fabric.{Fabric}
 use Rattle.fab_reach_base.specs.Reach.{IsPort}
 use Rattle.fab_reach_base.specs.Records.{Records, zoning_at}
-use Rattle.fab_zoning.specs.Joins.{Joined}
-use Rattle.fab_zoning.specs.Zonings.{FabricZoning}
-use Rattle.fab_zoning_rows.specs.Holding.{IsLoggedInAt}
+use Rattle.fab_reach_base.specs.fab_zoning.Joins.{Joined}
+use Rattle.fab_reach_base.specs.fab_zoning.Zonings.{FabricZoning}
+use Rattle.fab_reach_base.specs.fab_zoning_rows.Holding.{IsLoggedInAt}
 use Rattle.fab_looks_ways.specs.Pairs.{AreZonesOf, IsTie, IsUpAt}
 use Rattle.fab_looks_ways.specs.declared.ends.Ends.{Ends}
 use Rattle.fab_looks_ways.specs.declared.ties.Tie.{Tie}

@@ -2,9 +2,9 @@
 use Rattle.std.specs.Prelude.{◌<◌, ◌≤◌, IsSome}
 use Rattle.std.specs.FinMap as map
 use Rattle.std.specs.FinSet as set
-use Rattle.fab_zoning_rows.specs.Limits.{most_rows}
-use Rattle.fab_zoning.specs.Limits.{most_aliases, most_zones, most_sets}
-use Rattle.fab_zoning.specs.Zonings.{FabricZoning}
+use Rattle.fab_reach_base.specs.fab_zoning_rows.Limits.{most_rows}
+use Rattle.fab_reach_base.specs.fab_zoning.Limits.{most_aliases, most_zones, most_sets}
+use Rattle.fab_reach_base.specs.fab_zoning.Zonings.{FabricZoning}
 
 -- not too many aliases, zones and zone sets
 pub record HasFewSets (v : FabricZoning) : Type 0 where

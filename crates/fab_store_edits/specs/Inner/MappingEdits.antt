@@ -2,9 +2,9 @@
 use Rattle.std.specs.Prelude.{ℕ, ◌≡◌, ◌≢◌, ◌⊎◌, List, Option, None, Some}
 use Rattle.std.specs.FinMap as map
 use Rattle.std.specs.FinSet as set
-use Rattle.fab_zoning.specs.Edits.{Puts, Takes}
-use Rattle.fab_mapping_base.specs.Groups.{HostGroupRows, StorageGroupRows, HaveSameHead, new_storage_group}
-use Rattle.fab_mapping.specs.Mappings.{MappingRows}
+use Rattle.fab_reach_base.specs.fab_zoning.Edits.{Puts, Takes}
+use Rattle.fab_reach_base.specs.fab_mapping_base.Groups.{HostGroupRows, StorageGroupRows, HaveSameHead, new_storage_group}
+use Rattle.fab_reach_base.specs.fab_mapping.Mappings.{MappingRows}
 use Rattle.fab_store_rows.specs.declared.config_row.HostGroupRow.{HostGroupRow}
 use Rattle.fab_store_rows.specs.declared.config_row.StorageGroupRow.{StorageGroupRow}
 use Rattle.fab_store_rows.specs.declared.config_row.StoragePart.{StoragePart}

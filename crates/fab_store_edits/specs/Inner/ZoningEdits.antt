@@ -1,9 +1,9 @@
 -- The zoning of one fabric becomes another.
 use Rattle.std.specs.Prelude.{◌≡◌}
-use Rattle.fab_names.specs.declared.fabric.Fabric.{Fabric}
-use Rattle.fab_names.specs.declared.fabric.Fabric.TheVariants.{A, B}
-use Rattle.fab_zoning.specs.Zonings.{FabricZoning}
-use Rattle.fab_zoning.specs.Edits.{Puts, Takes}
+use Rattle.fab_reach_base.specs.fab_names.declared.fabric.Fabric.{Fabric}
+use Rattle.fab_reach_base.specs.fab_names.declared.fabric.Fabric.TheVariants.{A, B}
+use Rattle.fab_reach_base.specs.fab_zoning.Zonings.{FabricZoning}
+use Rattle.fab_reach_base.specs.fab_zoning.Edits.{Puts, Takes}
 use Rattle.fab_store_rows.specs.declared.config_row.ZoningItem.{ZoningItem}
 use Rattle.fab_store_rows.specs.Standing.{HasItem}
 use Rattle.fab_reach_base.specs.Records.{ConfigRows}

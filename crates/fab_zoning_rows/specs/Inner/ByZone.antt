@@ -3,7 +3,7 @@ use Rattle.std.specs.Prelude.{ℕ, ◌≡◌, ◌||◌, List, map}
 use Rattle.std.specs.Ordering.{eq_by_cmp}
 use Rattle.std.specs.List.{list_any}
 use Rattle.std.specs.BTreeSet.{BTreeSet, contains}
-use Rattle.fab_names.specs.declared.member.Member.{Member}
+use Rattle.fab_inventory.specs.fab_names.declared.member.Member.{Member}
 use Rattle.fab_zoning_rows.specs.Rows.{Row, row_cmp}
 
 -- a row of the member for each zone

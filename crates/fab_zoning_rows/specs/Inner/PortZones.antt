@@ -1,7 +1,7 @@
 -- For the private search of common zones. No public contract names what stands here.
 use Rattle.std.specs.Prelude.{ℕ, ◌≡◌, ◌⊎◌, List, Option, None, Some, false}
 use Rattle.std.specs.Ordering.{is_gt}
-use Rattle.fab_names.specs.Orders.{name_cmp}
+use Rattle.fab_inventory.specs.fab_names.Orders.{name_cmp}
 
 -- the lesser of two names, or the one that there is
 abbrev pub IsLesser : Option (List ℕ) → Option (List ℕ) → Option (List ℕ) → Type 0

@@ -5,7 +5,7 @@ use Rattle.fab_store_base.specs.Worlds.{HoldsWorld}
 use Rattle.fab_store_tables.specs.Tables.{Tables, HaveKeys}
 use Rattle.fab_desk.specs.Desks.{IsTied}
 use Rattle.fab_desk.proofs.Tied.{can, tied_after, left_after}
-use Rattle.fab_desk_machine.specs.fab_world.Worlds.{records_of}
+use Rattle.fab_world.specs.Worlds.{records_of}
 use Rattle.fab_desk.proofs.carrying.carry_out.Goals as goal
 
 pub take_over-requires-clause-room : goal.take_over-requires-clause-room

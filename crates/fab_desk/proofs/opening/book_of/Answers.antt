@@ -1,7 +1,7 @@
 use Rattle.std.proofs.Common.{sym, subst}
 use Rattle.fab_desk_machine.proofs.fab_desk_commands.SoundAfter.{sound_serves}
 use Rattle.fab_reach_base.specs.Serving.{IsServing}
-use Rattle.fab_desk_machine.specs.fab_world.Worlds.{WorldRows, records_of}
+use Rattle.fab_world.specs.Worlds.{WorldRows, records_of}
 use Rattle.fab_desk.proofs.opening.book_of.Goals as goal
 
 pub open-requires : goal.open-requires

@@ -1,5 +1,5 @@
 use Rattle.std.proofs.Common.{arith}
-use Rattle.fab_lemmas.proofs.Scans.{scan_more, scan_end, scan_hit}
+use Rattle.fab_reach_base.proofs.fab_lemmas.Scans.{scan_more, scan_end, scan_hit}
 use Rattle.fab_desk_base.specs.UserSearch.{IsUntargeted}
 use Rattle.fab_desk_base.proofs.users.first_targeted.Goals as goal
 

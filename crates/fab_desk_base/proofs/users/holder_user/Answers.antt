@@ -1,7 +1,7 @@
 use Rattle.std.proofs.Common.{ℕ, List, MatchOption, sym, subst}
 use Rattle.std.specs.FinMap as map
-use Rattle.fab_inventory.specs.declared.holder.HolderKind.{HolderKind}
-use Rattle.fab_mapping_base.specs.Groups.{HoldsHost, IsOfArray}
+use Rattle.fab_reach_base.specs.fab_inventory.declared.holder.HolderKind.{HolderKind}
+use Rattle.fab_reach_base.specs.fab_mapping_base.Groups.{HoldsHost, IsOfArray}
 use Rattle.fab_desk_base.specs.Users.{IsHolderUser}
 use Rattle.fab_desk_base.proofs.UsersFound.{user_found}
 use Rattle.fab_desk_base.proofs.users.holder_user.Goals as goal

@@ -1,5 +1,5 @@
 use Rattle.std.specs.FinMap as map
-use Rattle.fab_mapping_base.specs.Groups.{MapsVolume}
+use Rattle.fab_reach_base.specs.fab_mapping_base.Groups.{MapsVolume}
 use Rattle.fab_desk_base.proofs.UsersFound.{user_found}
 use Rattle.fab_desk_base.proofs.users.volume_user.Goals as goal
 

@@ -1,6 +1,6 @@
 use Rattle.std.proofs.Common.{ℕ, ◌≡◌, List, refl, sym, ap, ◌∙◌, subst}
-use Rattle.fab_inventory.specs.Inventories.{InventoryRows, DropHolderFails}
-use Rattle.fab_mapping.specs.Mappings.{MappingRows}
+use Rattle.fab_reach_base.specs.fab_inventory.Inventories.{InventoryRows, DropHolderFails}
+use Rattle.fab_reach_base.specs.fab_mapping.Mappings.{MappingRows}
 use Rattle.fab_world.specs.Worlds.{WorldRows}
 use Rattle.fab_desk_base.specs.Trying.{IsTryFault}
 use Rattle.fab_desk_base.specs.Users.{IsHolderUser}

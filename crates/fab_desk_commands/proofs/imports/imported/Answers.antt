@@ -1,8 +1,8 @@
 use Rattle.std.proofs.Common.{◌≡◌, List, refl, sym, ap, ◌∙◌, subst}
-use Rattle.fab_inventory.specs.Imports.{ImportFails}
-use Rattle.fab_inventory.specs.Inventories.{InventoryRows}
-use Rattle.fab_inventory.specs.declared.port.PortRow.{PortRow}
-use Rattle.fab_mapping.specs.Soundness.{Fits}
+use Rattle.fab_reach_base.specs.fab_inventory.Imports.{ImportFails}
+use Rattle.fab_reach_base.specs.fab_inventory.Inventories.{InventoryRows}
+use Rattle.fab_reach_base.specs.fab_inventory.declared.port.PortRow.{PortRow}
+use Rattle.fab_reach_base.specs.fab_mapping.Soundness.{Fits}
 use Rattle.fab_world.specs.Worlds.{WorldRows}
 use Rattle.fab_desk_base.specs.Trying.{IsTryFault}
 use Rattle.fab_desk_base.specs.declared.command.Command.TheVariants.{Import}

@@ -1,6 +1,6 @@
 use Rattle.std.proofs.Common.{List, MatchOption, sym, subst}
-use Rattle.fab_mapping.specs.Gone.{IsFirstGone}
-use Rattle.fab_mapping.specs.Soundness.{Fits}
+use Rattle.fab_reach_base.specs.fab_mapping.Gone.{IsFirstGone}
+use Rattle.fab_reach_base.specs.fab_mapping.Soundness.{Fits}
 use Rattle.fab_store_rows.specs.declared.config_row.ConfigRow.{ConfigRow}
 use Rattle.fab_store_edits.specs.Led.{IsLed}
 use Rattle.fab_world.specs.Plans.{change_in}

@@ -1,6 +1,6 @@
 use Rattle.std.proofs.Common.{rules}
-use Rattle.fab_lemmas.proofs.SeenMaps.{seen_insert}
-use Rattle.fab_names.proofs.OrderLaws.{name_total, name_exact}
+use Rattle.fab_reach_base.proofs.fab_lemmas.SeenMaps.{seen_insert}
+use Rattle.fab_reach_base.proofs.fab_names.OrderLaws.{name_total, name_exact}
 use Rattle.fab_desk_commands.proofs.rooms.put_in_place.Goals as goal
 
 pub returns-in-Some : goal.returns-in-Some

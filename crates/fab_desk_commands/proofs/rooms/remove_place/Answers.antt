@@ -1,5 +1,5 @@
-use Rattle.fab_lemmas.proofs.SeenMaps.{seen_remove}
-use Rattle.fab_names.proofs.OrderLaws.{name_total, name_exact}
+use Rattle.fab_reach_base.proofs.fab_lemmas.SeenMaps.{seen_remove}
+use Rattle.fab_reach_base.proofs.fab_names.OrderLaws.{name_total, name_exact}
 use Rattle.fab_desk_commands.proofs.rooms.remove_place.Goals as goal
 
 pub returns : goal.returns

@@ -1,5 +1,5 @@
 use Rattle.std.proofs.Common.{ℕ, ◌≡◌, List, refl, sym, ap, ◌∙◌, subst}
-use Rattle.fab_inventory.specs.Inventories.{InventoryRows, CanPutVolume, PutVolumeFails}
+use Rattle.fab_reach_base.specs.fab_inventory.Inventories.{InventoryRows, CanPutVolume, PutVolumeFails}
 use Rattle.fab_world.specs.Worlds.{WorldRows}
 use Rattle.fab_desk_base.specs.Trying.{IsTryFault}
 use Rattle.fab_desk_base.specs.Users.{IsMovedUser}

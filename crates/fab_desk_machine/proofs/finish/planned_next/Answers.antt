@@ -1,6 +1,6 @@
 use Rattle.std.proofs.Common.{List, sym, ap, ◌∙◌, subst}
-use Rattle.fab_plans_base.specs.Plans.{IsWithinLimits}
-use Rattle.fab_plans_base.specs.Steps.{PlanStep}
+use Rattle.fab_world.specs.fab_plans_base.Plans.{IsWithinLimits}
+use Rattle.fab_world.specs.fab_plans_base.Steps.{PlanStep}
 use Rattle.fab_world.specs.Soundness.{IsSound}
 use Rattle.fab_desk_base.specs.Effects.{with_plan, staged_plan}
 use Rattle.fab_desk_trials.specs.Trials.{planned}

@@ -1,5 +1,5 @@
 use Rattle.std.proofs.Common.{true, false, sym, ap, ◌∙◌}
-use Rattle.fab_plans.specs.Plans.{PlanRows}
+use Rattle.fab_world.specs.fab_plans.Plans.{PlanRows}
 use Rattle.fab_desk_machine.proofs.Reported.{count_with}
 use Rattle.fab_desk_machine.proofs.report.approvals_with.Goals as goal
 

@@ -2,8 +2,8 @@ use Rattle.std.proofs.Common.{[], ◌∷◌, ◌++◌, sym, ◌∙◌, subst, ap
 use Rattle.std.specs.List.Sorted.{IsStrictlySortedBy}
 use Rattle.std.specs.Map.Iter.{deref}
 use Rattle.std.proofs.lemmas.Map.Iter.{rest_more, rest_all}
-use Rattle.fab_lemmas.proofs.Walks.{walked, walk_end}
-use Rattle.fab_zoning_rows.specs.Rows.{Row, row_cmp}
+use Rattle.fab_reach_base.proofs.fab_lemmas.Walks.{walked, walk_end}
+use Rattle.fab_reach_base.specs.fab_zoning_rows.Rows.{Row, row_cmp}
 use Rattle.fab_desk_reads.specs.Grouping.{IsGrouped}
 use Rattle.fab_desk_reads.proofs.Zones.{grouped_none, grouped_more}
 use Rattle.fab_desk_reads.proofs.active.zones_of.Goals as goal

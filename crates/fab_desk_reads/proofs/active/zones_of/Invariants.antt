@@ -1,5 +1,5 @@
 use Rattle.std.proofs.Common.{◌≡◌, List, ◌++◌}
-use Rattle.fab_zoning_rows.specs.Rows.{Row}
+use Rattle.fab_reach_base.specs.fab_zoning_rows.Rows.{Row}
 use Rattle.fab_desk_reads.specs.Grouping.{IsGrouped}
 use Rattle.fab_desk_reads.proofs.active.zones_of.Given as goal
 

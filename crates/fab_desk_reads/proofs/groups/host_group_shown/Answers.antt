@@ -1,8 +1,8 @@
 use Rattle.std.proofs.Common.{◌≡◌, Some, refl, sym, subst}
 use Rattle.std.specs.FinMap as map
-use Rattle.fab_names.proofs.OrderLaws.{name_total, name_exact}
-use Rattle.fab_mapping_base.specs.Groups.{HostGroupRows}
-use Rattle.fab_mapping.specs.Mappings.{MappingRows}
+use Rattle.fab_reach_base.proofs.fab_names.OrderLaws.{name_total, name_exact}
+use Rattle.fab_reach_base.specs.fab_mapping_base.Groups.{HostGroupRows}
+use Rattle.fab_reach_base.specs.fab_mapping.Mappings.{MappingRows}
 use Rattle.fab_desk_reads.proofs.SetItems.{keys_listed}
 use Rattle.fab_desk_reads.proofs.groups.host_group_shown.Goals as goal
 

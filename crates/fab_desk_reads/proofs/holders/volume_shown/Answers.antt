@@ -1,6 +1,6 @@
 use Rattle.std.proofs.Common.{◌≡◌, Some, refl, sym, subst}
 use Rattle.std.specs.FinMap as map
-use Rattle.fab_inventory.specs.Inventories.{InventoryRows}
+use Rattle.fab_reach_base.specs.fab_inventory.Inventories.{InventoryRows}
 use Rattle.fab_desk_reads.proofs.holders.volume_shown.Goals as goal
 
 pub returns : goal.returns

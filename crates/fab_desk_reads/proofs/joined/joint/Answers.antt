@@ -1,7 +1,7 @@
 use Rattle.std.proofs.Common.{refl, subst}
-use Rattle.fab_inventory.specs.declared.port.Port.{Port}
-use Rattle.fab_zoning.specs.Joins.{Joined, Explains, InDefaultZone}
-use Rattle.fab_zoning.specs.Zonings.{FabricZoning}
+use Rattle.fab_reach_base.specs.fab_inventory.declared.port.Port.{Port}
+use Rattle.fab_reach_base.specs.fab_zoning.Joins.{Joined, Explains, InDefaultZone}
+use Rattle.fab_reach_base.specs.fab_zoning.Zonings.{FabricZoning}
 use Rattle.fab_desk_reads.proofs.joined.joint.Goals as goal
 
 pub returns-in-Some-Default : goal.returns-in-Some-Default

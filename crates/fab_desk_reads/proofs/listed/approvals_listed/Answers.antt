@@ -1,9 +1,9 @@
 use Rattle.std.proofs.Common.{ℕ, List, [], ◌∷◌, ◌++◌, sym, subst, refl}
 use Rattle.std.specs.Map.Iter.{deref_pair}
 use Rattle.std.proofs.lemmas.Map.Iter.{rest_more, rest_all}
-use Rattle.fab_lemmas.proofs.SeenMaps.{entries_made}
-use Rattle.fab_lemmas.proofs.Walks.{walked, walk_end}
-use Rattle.fab_names.proofs.OrderLaws.{name_total, name_exact}
+use Rattle.fab_reach_base.proofs.fab_lemmas.SeenMaps.{entries_made}
+use Rattle.fab_reach_base.proofs.fab_lemmas.Walks.{walked, walk_end}
+use Rattle.fab_reach_base.proofs.fab_names.OrderLaws.{name_total, name_exact}
 use Rattle.fab_policy.specs.declared.act.Approval.{Approval}
 use Rattle.fab_desk_base.specs.Showing.{AreEntries}
 use Rattle.fab_desk_reads.proofs.Entries.{entries_more}

@@ -1,8 +1,8 @@
 use Rattle.std.proofs.Common.{◌≡◌, Some, refl, sym, ap, ◌∙◌, subst}
 use Rattle.std.specs.FinMap as map
-use Rattle.fab_mapping_base.specs.Groups.{StorageGroupRows}
-use Rattle.fab_mapping.specs.Mappings.{MappingRows}
-use Rattle.fab_policy_base.specs.Callers.{sees}
+use Rattle.fab_reach_base.specs.fab_mapping_base.Groups.{StorageGroupRows}
+use Rattle.fab_reach_base.specs.fab_mapping.Mappings.{MappingRows}
+use Rattle.fab_policy.specs.fab_policy_base.Callers.{sees}
 use Rattle.fab_reach_base.proofs.Same.{same_some}
 use Rattle.fab_desk_reads.proofs.open.is_own_group.Goals as goal
 

@@ -1,7 +1,7 @@
 use Rattle.std.proofs.Common.{ap, sym}
 use Rattle.std.specs.Option.{option_copied}
-use Rattle.fab_lemmas.proofs.SeenMaps.{looked_up}
-use Rattle.fab_names.proofs.OrderLaws.{name_total}
+use Rattle.fab_reach_base.proofs.fab_lemmas.SeenMaps.{looked_up}
+use Rattle.fab_reach_base.proofs.fab_names.OrderLaws.{name_total}
 use Rattle.fab_world.specs.Worlds.{WorldRows}
 use Rattle.fab_desk_reads.proofs.parts.plan_in.Goals as goal
 

@@ -1,8 +1,8 @@
 use Rattle.std.proofs.Common.{ℕ, is_some, refl, sym, ap, ◌∙◌, subst}
 use Rattle.std.specs.FinMap as map
-use Rattle.fab_names.specs.Orders.{name_cmp}
-use Rattle.fab_plans.specs.Plans.{PlanRows}
-use Rattle.fab_plans_base.specs.Plans.{plan_text}
+use Rattle.fab_reach_base.specs.fab_names.Orders.{name_cmp}
+use Rattle.fab_world.specs.fab_plans.Plans.{PlanRows}
+use Rattle.fab_world.specs.fab_plans_base.Plans.{plan_text}
 use Rattle.fab_world.specs.PlanRecords.{PlanRecord}
 use Rattle.fab_desk_base.specs.Showing.{AreEntries}
 use Rattle.fab_desk_reads.proofs.plans.plan_shown.Goals as goal

@@ -1,10 +1,10 @@
 use Rattle.std.proofs.Common.{◌≡◌, Some, is_some, refl, sym, ap, subst}
 use Rattle.std.specs.FinMap as map
-use Rattle.fab_lemmas.specs.MapsOfSets.{seen_set}
-use Rattle.fab_names.specs.Orders.{name_cmp}
-use Rattle.fab_names.proofs.OrderLaws.{name_total, name_exact}
+use Rattle.fab_reach_base.specs.fab_lemmas.MapsOfSets.{seen_set}
+use Rattle.fab_reach_base.specs.fab_names.Orders.{name_cmp}
+use Rattle.fab_reach_base.proofs.fab_names.OrderLaws.{name_total, name_exact}
 use Rattle.fab_reach_base.specs.Records.{zoning_at}
-use Rattle.fab_zoning.specs.Zonings.{FabricZoning}
+use Rattle.fab_reach_base.specs.fab_zoning.Zonings.{FabricZoning}
 use Rattle.fab_desk_reads.proofs.SetItems.{set_found}
 use Rattle.fab_desk_reads.proofs.zonings.set_shown.Goals as goal
 

@@ -1,10 +1,10 @@
 use Rattle.std.proofs.Common.{◌≡◌, Some, is_some, refl, sym, ap, subst}
 use Rattle.std.specs.FinMap as map
-use Rattle.fab_lemmas.specs.MapsOfSets.{seen_set}
-use Rattle.fab_names.specs.Orders.{member_cmp}
-use Rattle.fab_names.proofs.OrderLaws.{member_total, member_exact}
+use Rattle.fab_reach_base.specs.fab_lemmas.MapsOfSets.{seen_set}
+use Rattle.fab_reach_base.specs.fab_names.Orders.{member_cmp}
+use Rattle.fab_reach_base.proofs.fab_names.OrderLaws.{member_total, member_exact}
 use Rattle.fab_reach_base.specs.Records.{zoning_at}
-use Rattle.fab_zoning.specs.Zonings.{FabricZoning}
+use Rattle.fab_reach_base.specs.fab_zoning.Zonings.{FabricZoning}
 use Rattle.fab_desk_reads.proofs.SetItems.{set_found}
 use Rattle.fab_desk_reads.proofs.zonings.zone_shown.Goals as goal
 

@@ -1,6 +1,6 @@
 use Rattle.std.proofs.Common.{◌≡◌, ℕ, List, ◌++◌}
 use Rattle.std.specs.BTreeMap.{get}
-use Rattle.fab_names.specs.Orders.{name_cmp}
+use Rattle.fab_reach_base.specs.fab_names.Orders.{name_cmp}
 use Rattle.fab_desk_rows.proofs.Given.{SoFar}
 use Rattle.fab_desk_rows.proofs.approvals.rows_only_in.Given as goal
 

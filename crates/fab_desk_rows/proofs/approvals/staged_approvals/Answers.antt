@@ -1,10 +1,10 @@
 use Rattle.std.proofs.Common.{ap}
 use Rattle.std.specs.BTreeMap.{get, is_at}
 use Rattle.std.specs.Map.{lookup}
-use Rattle.fab_lemmas.proofs.SeenMaps.{same_look_ups}
-use Rattle.fab_names.specs.Orders.{name_cmp}
-use Rattle.fab_names.proofs.OrderLaws.{name_total}
-use Rattle.fab_plans.specs.Plans.{PlanRows}
+use Rattle.fab_reach_base.proofs.fab_lemmas.SeenMaps.{same_look_ups}
+use Rattle.fab_reach_base.specs.fab_names.Orders.{name_cmp}
+use Rattle.fab_reach_base.proofs.fab_names.OrderLaws.{name_total}
+use Rattle.fab_world.specs.fab_plans.Plans.{PlanRows}
 use Rattle.fab_desk_rows.proofs.Given.{of_new}
 use Rattle.fab_desk_rows.proofs.approvals.staged_approvals.Goals as goal
 

@@ -1,5 +1,5 @@
 use Rattle.std.proofs.Common.{◌≡◌, IfOk, inl, inr, ap, sym, subst}
-use Rattle.fab_inventory.specs.Inventories.{InventoryRows}
+use Rattle.fab_reach_base.specs.fab_inventory.Inventories.{InventoryRows}
 use Rattle.fab_store_world.specs.Inventories.{IsInventoryDifference}
 use Rattle.fab_desk_commands.specs.Nexts.{next_world, Suits}
 use Rattle.fab_world.proofs.WholeWorld.{ok_as}

@@ -1,5 +1,5 @@
 use Rattle.std.proofs.Common.{List, subst}
-use Rattle.fab_lemmas.specs.Lists.{IsListOf}
+use Rattle.fab_reach_base.specs.fab_lemmas.Lists.{IsListOf}
 use Rattle.fab_reach_base.specs.Views.{seen}
 use Rattle.fab_reach_base.specs.declared.path.Path.{Path}
 use Rattle.fab_store_world.specs.PathGathering.{IsRowOfSome}

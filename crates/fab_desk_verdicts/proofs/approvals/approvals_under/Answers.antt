@@ -1,5 +1,5 @@
 use Rattle.std.proofs.Common.{sym, ap}
-use Rattle.fab_plans.specs.Plans.{PlanRows}
+use Rattle.fab_world.specs.fab_plans.Plans.{PlanRows}
 use Rattle.fab_desk_verdicts.proofs.ApprovalsListed.{approvals_found}
 use Rattle.fab_desk_verdicts.proofs.approvals.approvals_under.Goals as goal
 

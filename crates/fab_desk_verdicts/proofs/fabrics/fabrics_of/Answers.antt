@@ -1,5 +1,5 @@
 use Rattle.std.proofs.Common.{◌↔◌, Contains}
-use Rattle.fab_names.specs.declared.fabric.Fabric.TheVariants.{A, B}
+use Rattle.fab_reach_base.specs.fab_names.declared.fabric.Fabric.TheVariants.{A, B}
 use Rattle.fab_desk_base.specs.Commands.{NamesFabric}
 use Rattle.fab_desk_verdicts.proofs.fabrics.fabrics_of.Goals as goal
 

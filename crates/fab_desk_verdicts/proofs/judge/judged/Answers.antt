@@ -1,5 +1,5 @@
 use Rattle.std.proofs.Common.{List, sym, subst}
-use Rattle.fab_plans_base.specs.Steps.{PlanStep}
+use Rattle.fab_world.specs.fab_plans_base.Steps.{PlanStep}
 use Rattle.fab_desk_verdicts.specs.Named.{AreKept}
 use Rattle.fab_desk_verdicts.proofs.judge.judged.Goals as goal
 

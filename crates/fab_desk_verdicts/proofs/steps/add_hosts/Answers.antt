@@ -1,4 +1,4 @@
-use Rattle.fab_inventory.specs.declared.holder.HolderKind.TheVariants as kind
+use Rattle.fab_reach_base.specs.fab_inventory.declared.holder.HolderKind.TheVariants as kind
 use Rattle.fab_reach_base.proofs.Adding.{before_next}
 use Rattle.fab_desk_base.specs.Tenants.{Has, IsHolderOf}
 use Rattle.fab_desk_verdicts.proofs.steps.add_hosts.Goals as goal

@@ -1,8 +1,8 @@
 use Rattle.std.proofs.Common.{◌≡◌, OnOk, inl, inr, sym, subst}
 use Rattle.fab_reach_base.specs.Adding.{Adds}
 use Rattle.fab_reach_base.specs.Views.{seen}
-use Rattle.fab_plans_base.specs.Actions.{mapping_step}
-use Rattle.fab_plans_base.specs.declared.mapping_action.MappingAction.{MappingAction}
+use Rattle.fab_world.specs.fab_plans_base.Actions.{mapping_step}
+use Rattle.fab_world.specs.fab_plans_base.declared.mapping_action.MappingAction.{MappingAction}
 use Rattle.fab_desk_base.specs.Tenants.{Has}
 use Rattle.fab_desk_verdicts.specs.Gathered.{IsOfStep}
 use Rattle.fab_desk_verdicts.proofs.steps.add_mapping_step.Goals as goal

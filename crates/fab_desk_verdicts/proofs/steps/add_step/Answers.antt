@@ -1,6 +1,6 @@
 use Rattle.std.proofs.Common.{sym, ap, ◌∙◌}
 use Rattle.fab_reach_base.specs.Views.{seen}
-use Rattle.fab_plans_base.specs.Actions.{step_of}
+use Rattle.fab_world.specs.fab_plans_base.Actions.{step_of}
 use Rattle.fab_desk_base.specs.Tenants.{Has}
 use Rattle.fab_desk_verdicts.proofs.StepTenants.{of_zoning}
 use Rattle.fab_desk_verdicts.proofs.steps.add_step.Goals as goal

@@ -1,6 +1,6 @@
 use Rattle.std.proofs.Common.{◌≡◌, Some, sym, subst}
 use Rattle.std.specs.FinMap as map
-use Rattle.fab_mapping.specs.Mappings.{MappingRows}
+use Rattle.fab_reach_base.specs.fab_mapping.Mappings.{MappingRows}
 use Rattle.fab_desk_verdicts.proofs.TenantSets.{host_group_added}
 use Rattle.fab_desk_verdicts.proofs.things.add_host_group.Goals as goal
 

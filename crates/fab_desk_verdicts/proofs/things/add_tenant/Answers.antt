@@ -1,4 +1,4 @@
-use Rattle.fab_names.proofs.OrderLaws.{name_total, name_exact}
+use Rattle.fab_reach_base.proofs.fab_names.OrderLaws.{name_total, name_exact}
 use Rattle.fab_reach_base.proofs.Sets.{adds_insert}
 use Rattle.fab_desk_verdicts.proofs.things.add_tenant.Goals as goal
 

@@ -1,6 +1,6 @@
 use Rattle.std.proofs.Common.{ℕ, List, sym, subst}
 use Rattle.fab_wire_streams.specs.Taking.{Takes}
-use Rattle.fab_names.specs.Fabrics.{fabric_text}
+use Rattle.fab_reach_base.specs.fab_names.Fabrics.{fabric_text}
 use Rattle.fab_files.specs.ActiveSets.{flag_text, head_lines, set_name}
 use Rattle.fab_files.proofs.Pieces.{head_pieces}
 use Rattle.fab_files.proofs.active.put_head.Goals as goal

@@ -1,6 +1,6 @@
 use Rattle.std.proofs.Common.{◌≡◌, ℕ, List, ◌++◌, Contains}
 use Rattle.std.specs.FinMap as map
-use Rattle.fab_mapping_base.specs.Groups.{StorageGroupRows}
+use Rattle.fab_reach_base.specs.fab_mapping_base.Groups.{StorageGroupRows}
 use Rattle.fab_reach_base.specs.Adding.{Adds}
 use Rattle.fab_reach_base.proofs.Adding.{Before}
 use Rattle.fab_looks.specs.Inner.Gathered.{IsTargetedQuery}

@@ -1,6 +1,6 @@
 use Rattle.std.proofs.Common.{◌≡◌, Some, sym, subst}
 use Rattle.std.specs.FinMap as map
-use Rattle.fab_inventory.specs.Ports.{port_at}
+use Rattle.fab_reach_base.specs.fab_inventory.Ports.{port_at}
 use Rattle.fab_world.specs.Worlds.{WorldRows}
 use Rattle.fab_looks.proofs.Ports.{holder_added}
 use Rattle.fab_looks.proofs.around.add_holder.Goals as goal

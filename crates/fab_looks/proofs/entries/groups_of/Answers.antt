@@ -1,6 +1,6 @@
 use Rattle.std.proofs.Common.{ap, ◌∙◌}
 use Rattle.std.specs.FinMap as map
-use Rattle.fab_mapping.specs.Mappings.{MappingRows}
+use Rattle.fab_reach_base.specs.fab_mapping.Mappings.{MappingRows}
 use Rattle.fab_world.specs.Worlds.{WorldRows}
 use Rattle.fab_looks.proofs.Keys.{all_keys}
 use Rattle.fab_looks.proofs.entries.groups_of.Goals as goal

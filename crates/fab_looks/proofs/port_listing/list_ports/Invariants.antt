@@ -1,7 +1,7 @@
 use Rattle.std.proofs.Common.{◌≡◌, ℕ, List, [], ◌++◌}
 use Rattle.std.specs.BTreeSet.{BTreeSet}
 use Rattle.std.specs.FinMap as map
-use Rattle.fab_inventory.specs.declared.port.Known.{Known}
+use Rattle.fab_reach_base.specs.fab_inventory.declared.port.Known.{Known}
 use Rattle.fab_reach_base.specs.Adding.{Adds}
 use Rattle.fab_reach_base.proofs.Adding.{Before}
 use Rattle.fab_looks.specs.Lists.{HasPort}

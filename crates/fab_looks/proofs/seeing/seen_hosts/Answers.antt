@@ -2,7 +2,7 @@ use Rattle.std.proofs.Common.{◌∷◌, [], ◌++◌, sym, ◌∙◌}
 use mathlib.Core.Bool.{true≢false}
 use Rattle.std.specs.Map.Iter.{deref_pair}
 use Rattle.std.proofs.lemmas.Map.Iter.{rest_more, rest_all}
-use Rattle.fab_lemmas.proofs.Walks.{walked, walk_end}
+use Rattle.fab_reach_base.proofs.fab_lemmas.Walks.{walked, walk_end}
 use Rattle.fab_looks.specs.Told.{SeesHost}
 use Rattle.fab_looks.proofs.Sights.{seen_none, seen_skip, seen_more, seen_all, empty_get}
 use Rattle.fab_looks.proofs.seeing.seen_hosts.Goals as goal

@@ -2,8 +2,8 @@ use Rattle.std.proofs.Common.{◌∷◌, [], ◌++◌, Contains, sym, ap, ◌∙
 use Rattle.std.specs.FinMap as map
 use Rattle.std.specs.Map.Iter.{deref_pair}
 use Rattle.std.proofs.lemmas.Map.Iter.{rest_more, rest_all}
-use Rattle.fab_lemmas.proofs.Walks.{walked, walk_end}
-use Rattle.fab_mapping.specs.Mappings.{MappingRows}
+use Rattle.fab_reach_base.proofs.fab_lemmas.Walks.{walked, walk_end}
+use Rattle.fab_reach_base.specs.fab_mapping.Mappings.{MappingRows}
 use Rattle.fab_reach_base.proofs.Adding.{before_none, before_more}
 use Rattle.fab_world.specs.Worlds.{WorldRows}
 use Rattle.fab_looks.specs.Inner.Gathered.{IsMappedQuery}

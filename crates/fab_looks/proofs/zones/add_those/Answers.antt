@@ -1,6 +1,6 @@
 use Rattle.std.proofs.Common.{◌≡◌, [], ◌∷◌, ◌++◌, Contains, sym, ◌∙◌}
 use mathlib.Core.Bool.{true≢false}
-use Rattle.fab_lemmas.proofs.Walks.{walked, walk_end}
+use Rattle.fab_reach_base.proofs.fab_lemmas.Walks.{walked, walk_end}
 use Rattle.fab_reach_base.proofs.Adding.{adds_as, before_none, before_more, before_skip}
 use Rattle.fab_desk_base.specs.declared.command.Query.TheVariants as query
 use Rattle.fab_looks.specs.Inner.Gathered.{IsReadOf}

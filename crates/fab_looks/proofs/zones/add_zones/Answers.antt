@@ -1,10 +1,10 @@
 use Rattle.std.proofs.Common.{◌≡◌, true, Some, sym, ◌∙◌, ap, subst}
-use Rattle.fab_inventory.specs.Ports.{port_at}
+use Rattle.fab_reach_base.specs.fab_inventory.Ports.{port_at}
 use Rattle.fab_reach_base.specs.Records.{zoning_at}
 use Rattle.fab_world.specs.Worlds.{WorldRows}
-use Rattle.fab_zoning_rows.specs.Holding.{Holds}
-use Rattle.fab_zoning_rows.specs.PortZones.{in_zones}
-use Rattle.fab_zoning.specs.Zonings.{FabricZoning}
+use Rattle.fab_reach_base.specs.fab_zoning_rows.Holding.{Holds}
+use Rattle.fab_reach_base.specs.fab_zoning_rows.PortZones.{in_zones}
+use Rattle.fab_reach_base.specs.fab_zoning.Zonings.{FabricZoning}
 use Rattle.fab_looks.proofs.Ports.{zones_added}
 use Rattle.fab_looks.proofs.zones.add_zones.Goals as goal
 

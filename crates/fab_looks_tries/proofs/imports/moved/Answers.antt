@@ -2,7 +2,7 @@ use Rattle.std.proofs.Common.{sym, ap, subst}
 use Rattle.fab_desk_machine.specs.fab_desk_trials.Trials.{effect_world}
 use Rattle.fab_inventory.specs.Inventories.{InventoryRows}
 use Rattle.fab_looks_tries.specs.Ports.{AreNewPorts, ArePortsMoved}
-use Rattle.fab_desk_machine.specs.fab_world.Worlds.{WorldRows}
+use Rattle.fab_world.specs.Worlds.{WorldRows}
 use Rattle.fab_looks_tries.proofs.imports.moved.Goals as goal
 
 pub returns-clause-ports : goal.returns-clause-ports

@@ -5,7 +5,7 @@ use Rattle.fab_reach_base.specs.Orders.{IsListOf}
 use Rattle.fab_reach_base.specs.Records.{Records}
 use Rattle.fab_reach_base.specs.Views.{seen}
 use Rattle.fab_reach_base.specs.declared.path.Path.{Path}
-use Rattle.fab_desk_machine.specs.fab_world.Worlds.{records_of}
+use Rattle.fab_world.specs.Worlds.{records_of}
 use Rattle.fab_looks_tries.proofs.paths.paths_moved.Goals as goal
 
 pub returns : goal.returns

@@ -1,5 +1,5 @@
 use Rattle.std.proofs.Common.{◌≡◌, Some, sym, subst}
-use Rattle.fab_inventory.specs.Ports.{port_at}
+use Rattle.fab_reach_base.specs.fab_inventory.Ports.{port_at}
 use Rattle.fab_world.specs.Worlds.{WorldRows, records_of}
 use Rattle.fab_looks_ways.specs.Pairs.{HasEnds}
 use Rattle.fab_looks_ways.proofs.Ended.{target_added}

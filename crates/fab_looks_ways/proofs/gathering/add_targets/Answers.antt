@@ -2,7 +2,7 @@ use Rattle.std.proofs.Common.{◌∷◌, [], ◌++◌, sym, ap, ◌∙◌}
 use Rattle.std.specs.FinSet as set
 use Rattle.std.specs.Map.Iter.{deref}
 use Rattle.std.proofs.lemmas.Map.Iter.{rest_more, rest_all}
-use Rattle.fab_lemmas.proofs.Walks.{walked, walk_end}
+use Rattle.fab_reach_base.proofs.fab_lemmas.Walks.{walked, walk_end}
 use Rattle.fab_reach_base.proofs.Adding.{before_none, before_more}
 use Rattle.fab_world.specs.Worlds.{records_of}
 use Rattle.fab_looks_ways.specs.Inner.Gathering.{TargetEnds}

@@ -1,8 +1,8 @@
 use Rattle.std.proofs.Common.{ℕ, List, subst}
 use Rattle.std.specs.Ordering.{nat_cmp}
 use Rattle.std.specs.FinMap as map
-use Rattle.fab_lemmas.specs.Lists.{IsListOf}
-use Rattle.fab_inventory.specs.Holders.{Holds}
+use Rattle.fab_reach_base.specs.fab_lemmas.Lists.{IsListOf}
+use Rattle.fab_reach_base.specs.fab_inventory.Holders.{Holds}
 use Rattle.fab_reach_base.specs.Adding.{Adds}
 use Rattle.fab_world.specs.Worlds.{WorldRows, records_of}
 use Rattle.fab_looks_ways.specs.Inner.Gathering.{GroupsEnds}

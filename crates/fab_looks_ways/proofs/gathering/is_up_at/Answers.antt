@@ -1,8 +1,8 @@
 use Rattle.std.proofs.Common.{◌≡◌, Some, sym, subst}
-use Rattle.fab_inventory.specs.Ports.{port_at}
+use Rattle.fab_reach_base.specs.fab_inventory.Ports.{port_at}
 use Rattle.fab_reach_base.proofs.Same.{same_some}
 use Rattle.fab_world.specs.Worlds.{WorldRows}
-use Rattle.fab_zoning_rows.specs.Holding.{IsLoggedInAt}
+use Rattle.fab_reach_base.specs.fab_zoning_rows.Holding.{IsLoggedInAt}
 use Rattle.fab_looks_ways.proofs.gathering.is_up_at.Goals as goal
 
 pub returns-in-Some : goal.returns-in-Some

@@ -1,6 +1,6 @@
 use Rattle.std.proofs.Common.{◌≡◌, ℕ, List, [], ◌∷◌, ◌++◌, sym, ◌∙◌}
 use mathlib.Core.Bool.{true≢false}
-use Rattle.fab_lemmas.proofs.Walks.{walked, walk_end}
+use Rattle.fab_reach_base.proofs.fab_lemmas.Walks.{walked, walk_end}
 use Rattle.fab_desk_base.specs.Tenants.{Has}
 use Rattle.fab_reach_base.proofs.Adding.{adds_as, before_none, before_more, before_skip}
 use Rattle.fab_looks_ways.proofs.Gains.{adds_name}

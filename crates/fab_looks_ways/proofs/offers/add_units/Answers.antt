@@ -3,7 +3,7 @@ use mathlib.Core.Bool.{true≢false}
 use Rattle.std.specs.Cmp.Lexicographic.{bytes_decides}
 use Rattle.std.specs.Map.Iter.{deref_pair}
 use Rattle.std.proofs.lemmas.Map.Iter.{rest_more, rest_all}
-use Rattle.fab_lemmas.proofs.Walks.{walked, walk_end}
+use Rattle.fab_reach_base.proofs.fab_lemmas.Walks.{walked, walk_end}
 use Rattle.fab_reach_base.proofs.Adding.{adds_as, before_none, before_more, before_skip}
 use Rattle.fab_looks_ways.specs.Inner.Offers.{HasUnit}
 use Rattle.fab_looks_ways.proofs.Offered.{ByUnit, adds_unit, units_added}

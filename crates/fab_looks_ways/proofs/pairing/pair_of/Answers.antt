@@ -1,5 +1,5 @@
 use Rattle.std.proofs.Common.{◌≡◌, Some, refl, sym, subst}
-use Rattle.fab_inventory.specs.Ports.{port_at}
+use Rattle.fab_reach_base.specs.fab_inventory.Ports.{port_at}
 use Rattle.fab_world.specs.Worlds.{WorldRows}
 use Rattle.fab_looks_ways.proofs.pairing.pair_of.Goals as goal
 

@@ -1,8 +1,8 @@
 use Rattle.std.proofs.Common.{ℕ, List, ap, ◌∙◌, subst, refl}
 use Rattle.std.specs.Ordering.{nat_cmp}
-use Rattle.fab_lemmas.specs.Lists.{IsListOf}
-use Rattle.fab_mapping.specs.Mappings.{MappingRows}
-use Rattle.fab_names.specs.Orders.{name_cmp}
+use Rattle.fab_reach_base.specs.fab_lemmas.Lists.{IsListOf}
+use Rattle.fab_reach_base.specs.fab_mapping.Mappings.{MappingRows}
+use Rattle.fab_reach_base.specs.fab_names.Orders.{name_cmp}
 use Rattle.fab_world.specs.Worlds.{WorldRows}
 use Rattle.fab_looks_ways.specs.Inner.Offers.{IsOfferOf}
 use Rattle.fab_looks_ways.specs.Offers.{IsUnitOfSome}

@@ -4,7 +4,7 @@ use Rattle.std.specs.Map.Iter.{deref_pair}
 use Rattle.std.proofs.lemmas.List.Elements.{Contains-append_left, Contains-push}
 use Rattle.std.proofs.lemmas.Map.Iter.{rest_more, rest_all}
 use Rattle.fab_desk_base.specs.Tenants.{Has}
-use Rattle.fab_lemmas.proofs.Walks.{walked, walk_end}
+use Rattle.fab_reach_base.proofs.fab_lemmas.Walks.{walked, walk_end}
 use Rattle.fab_looks.proofs.Answered.{zip_more}
 use Rattle.fab_looks_base.specs.declared.reaching.Counts.{Counts}
 use Rattle.fab_looks_ways.specs.Offers.{TellsReacher}

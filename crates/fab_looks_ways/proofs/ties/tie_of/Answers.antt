@@ -1,9 +1,9 @@
 use Rattle.std.proofs.Common.{◌≡◌, refl, ap, ◌∙◌, subst}
-use Rattle.fab_inventory.specs.declared.port.Port.{Port}
+use Rattle.fab_reach_base.specs.fab_inventory.declared.port.Port.{Port}
 use Rattle.fab_reach_base.specs.Records.{zoning_at}
 use Rattle.fab_world.specs.Worlds.{WorldRows}
-use Rattle.fab_zoning.specs.Joins.{Joined, Explains, InDefaultZone}
-use Rattle.fab_zoning.specs.Zonings.{FabricZoning}
+use Rattle.fab_reach_base.specs.fab_zoning.Joins.{Joined, Explains, InDefaultZone}
+use Rattle.fab_reach_base.specs.fab_zoning.Zonings.{FabricZoning}
 use Rattle.fab_looks_ways.proofs.ties.tie_of.Goals as goal
 
 pub returns-in-Some-Default-clause-tie : goal.returns-in-Some-Default-clause-tie

@@ -1,5 +1,5 @@
 use Rattle.std.proofs.Common.{[], ◌∷◌, ◌++◌, sym}
-use Rattle.fab_lemmas.proofs.Walks.{walked, walk_end}
+use Rattle.fab_reach_base.proofs.fab_lemmas.Walks.{walked, walk_end}
 use Rattle.fab_desk_base.specs.Tenants.{Has}
 use Rattle.fab_reach_base.proofs.Adding.{before_none, before_more}
 use Rattle.fab_looks_ways.proofs.Gains.{Same, adds_name, all_added}

@@ -1,9 +1,9 @@
 use Rattle.std.proofs.Common.{◌≡◌, true, ap, ◌∙◌, subst}
 use Rattle.fab_reach_base.specs.Records.{zoning_at}
 use Rattle.fab_world.specs.Worlds.{WorldRows}
-use Rattle.fab_zoning.specs.Zonings.{FabricZoning}
-use Rattle.fab_zoning_rows.specs.Holding.{Holds}
-use Rattle.fab_zoning_rows.specs.PortZones.{in_zones}
+use Rattle.fab_reach_base.specs.fab_zoning.Zonings.{FabricZoning}
+use Rattle.fab_reach_base.specs.fab_zoning_rows.Holding.{Holds}
+use Rattle.fab_reach_base.specs.fab_zoning_rows.PortZones.{in_zones}
 use Rattle.fab_looks_ways.specs.Pairs.{told_as}
 use Rattle.fab_looks_ways.proofs.Tied.{zones_told}
 use Rattle.fab_looks_ways.proofs.zoned.zoned_at.Goals as goal

@@ -4,12 +4,12 @@ use Rattle.std.specs.Cmp.{nat_cmp_total}
 use Rattle.std.specs.FinSet as set
 use Rattle.std.specs.Map.Iter.{deref}
 use Rattle.std.proofs.lemmas.Map.Iter.{rest_more, rest_all}
-use Rattle.fab_lemmas.specs.Adding.{Among}
-use Rattle.fab_lemmas.proofs.Adding.{Before}
-use Rattle.fab_lemmas.proofs.Walks.{walked, walk_end}
+use Rattle.fab_inventory.specs.fab_lemmas.Adding.{Among}
+use Rattle.fab_inventory.proofs.fab_lemmas.Adding.{Before}
+use Rattle.fab_inventory.proofs.fab_lemmas.Walks.{walked, walk_end}
 use Rattle.fab_mapping_base.specs.Groups.{StorageGroupRows}
 use Rattle.fab_mapping_base.specs.ClashSearch.{MeetsAt, IsLeastOf}
-use Rattle.fab_lemmas.proofs.Leasts.{least_none, least_more, least_all}
+use Rattle.fab_inventory.proofs.fab_lemmas.Leasts.{least_none, least_more, least_all}
 use Rattle.fab_mapping_base.proofs.NexusOrder.{nexus_total}
 use Rattle.fab_mapping_base.proofs.clash.clash_among.Goals as goal
 

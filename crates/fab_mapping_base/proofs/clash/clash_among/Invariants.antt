@@ -1,7 +1,7 @@
 use Rattle.std.proofs.Common.{Bor, ◌≡◌, ℕ, List, ◌++◌, map}
 use Rattle.std.specs.Ordering.{nat_cmp}
-use Rattle.fab_lemmas.specs.Adding.{Among}
-use Rattle.fab_lemmas.proofs.Adding.{Before}
+use Rattle.fab_inventory.specs.fab_lemmas.Adding.{Among}
+use Rattle.fab_inventory.proofs.fab_lemmas.Adding.{Before}
 use Rattle.fab_mapping_base.specs.Groups.{StorageGroupRows}
 use Rattle.fab_mapping_base.specs.ClashSearch.{MeetsAt, AreFine, IsLeastOf}
 use Rattle.fab_mapping_base.proofs.clash.clash_among.Given as goal

@@ -1,5 +1,5 @@
 use Rattle.std.proofs.Common.{Bor, ◌≡◌, ℕ, List, ◌++◌, map}
-use Rattle.fab_lemmas.proofs.Adding.{Before}
+use Rattle.fab_inventory.proofs.fab_lemmas.Adding.{Before}
 use Rattle.fab_mapping_base.specs.Groups.{StorageGroupRows}
 use Rattle.fab_mapping_base.specs.ClashSearch.{MeetsAt, AreFine, IsLeastOf}
 use Rattle.fab_mapping_base.proofs.clash.clash_with.Given as goal

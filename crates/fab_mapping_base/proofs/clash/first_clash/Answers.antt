@@ -2,8 +2,8 @@ use Rattle.std.proofs.Common.{Bor, ℕ, List, [], ◌∷◌, ◌++◌, map, sym,
 use Rattle.std.specs.BTreeSet.{BTreeSet}
 use Rattle.std.specs.Map.Iter.{deref_pair}
 use Rattle.std.proofs.lemmas.Map.Iter.{rest_more, rest_all}
-use Rattle.fab_lemmas.proofs.Walks.{walked, walk_end, all_push}
-use Rattle.fab_names.proofs.OrderLaws.{name_total}
+use Rattle.fab_inventory.proofs.fab_lemmas.Walks.{walked, walk_end, all_push}
+use Rattle.fab_inventory.proofs.fab_names.OrderLaws.{name_total}
 use Rattle.fab_mapping_base.specs.Groups.{StorageGroupRows}
 use Rattle.fab_mapping_base.proofs.Walked.{here_looked_up}
 use Rattle.fab_mapping_base.proofs.ClashSearch.{MeetsFor, host_without, first_least, no_least}

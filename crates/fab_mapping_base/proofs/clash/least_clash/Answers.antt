@@ -1,6 +1,6 @@
 use Rattle.std.proofs.Common.{Bor, map, List, Contains, ◌↔◌, sym, subst}
 use Rattle.std.specs.BTreeMap.{get}
-use Rattle.fab_names.specs.Orders.{name_cmp}
+use Rattle.fab_inventory.specs.fab_names.Orders.{name_cmp}
 use Rattle.fab_mapping_base.specs.Groups.{StorageGroupRows}
 use Rattle.fab_mapping_base.specs.Clashes.{IsExposed}
 use Rattle.fab_mapping_base.proofs.ClashSearch.{answer}

@@ -6,7 +6,7 @@ use Rattle.std.specs.FinSet as set
 use Rattle.std.specs.List.{list_any}
 use Rattle.std.specs.Map.Iter.{deref}
 use Rattle.std.proofs.lemmas.Map.Iter.{rest_more, rest_all}
-use Rattle.fab_lemmas.proofs.Walks.{all_push, all_found, walked, walk_end, first_key, key_there}
+use Rattle.fab_inventory.proofs.fab_lemmas.Walks.{all_push, all_found, walked, walk_end, first_key, key_there}
 use Rattle.fab_mapping_base.specs.Groups.{Ports}
 use Rattle.fab_mapping_base.proofs.clash.shared_target.Goals as goal
 

@@ -9,8 +9,8 @@ use Rattle.std.specs.Map.{keys_of}
 use Rattle.std.specs.Map.Iter.{deref_pair}
 use Rattle.std.specs.List.Sorted.{IsStrictlySortedBy}
 use Rattle.std.proofs.lemmas.Map.Iter.{rest_more, rest_all}
-use Rattle.fab_lemmas.proofs.SeenEntries.{sorted}
-use Rattle.fab_lemmas.proofs.Walks.{all_push, walked, walk_end}
+use Rattle.fab_inventory.proofs.fab_lemmas.SeenEntries.{sorted}
+use Rattle.fab_inventory.proofs.fab_lemmas.Walks.{all_push, walked, walk_end}
 use Rattle.fab_mapping_base.specs.Groups.{StorageGroupRows}
 use Rattle.fab_mapping_base.specs.ClashSearch.{IsUnlike, MapsOther}
 use Rattle.fab_mapping_base.proofs.Walked.{key_there, least_has, none_has, entry_here}

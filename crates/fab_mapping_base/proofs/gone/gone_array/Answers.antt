@@ -1,6 +1,6 @@
 use Rattle.std.proofs.Common.{ℕ, List, MatchOption, subst}
 use Rattle.fab_inventory.specs.Inventories.{IsArray}
-use Rattle.fab_names.proofs.OrderLaws.{name_total}
+use Rattle.fab_inventory.proofs.fab_names.OrderLaws.{name_total}
 use Rattle.fab_mapping_base.proofs.Lacking.{Lacking, lacking_one}
 use Rattle.fab_mapping_base.proofs.gone.gone_array.Goals as goal
 

@@ -1,9 +1,9 @@
 use Rattle.std.proofs.Common.{◌≡◌, ℕ, List, ◌++◌}
 use Rattle.std.specs.FinSet as set
 use Rattle.fab_inventory.specs.Inventories.{IsHost}
-use Rattle.fab_lemmas.specs.Firsts.{IsFirstOf}
-use Rattle.fab_lemmas.proofs.Adding.{Before}
-use Rattle.fab_names.specs.Orders.{name_cmp}
+use Rattle.fab_inventory.specs.fab_lemmas.Firsts.{IsFirstOf}
+use Rattle.fab_inventory.proofs.fab_lemmas.Adding.{Before}
+use Rattle.fab_inventory.specs.fab_names.Orders.{name_cmp}
 use Rattle.fab_mapping_base.proofs.Lacking.{Lacking}
 use Rattle.fab_mapping_base.proofs.gone.gone_host.Given as goal
 

@@ -4,10 +4,10 @@ use Rattle.std.specs.FinSet as set
 use Rattle.std.specs.Map.Iter.{deref}
 use Rattle.std.specs.Ordering.{nat_cmp}
 use Rattle.std.proofs.lemmas.Map.Iter.{rest_more, rest_all}
-use Rattle.fab_lemmas.specs.Firsts.{IsFirstOf}
-use Rattle.fab_lemmas.proofs.Adding.{Before}
-use Rattle.fab_lemmas.proofs.Leasts.{least_none, least_more}
-use Rattle.fab_lemmas.proofs.Walks.{walked, walk_end}
+use Rattle.fab_inventory.specs.fab_lemmas.Firsts.{IsFirstOf}
+use Rattle.fab_inventory.proofs.fab_lemmas.Adding.{Before}
+use Rattle.fab_inventory.proofs.fab_lemmas.Leasts.{least_none, least_more}
+use Rattle.fab_inventory.proofs.fab_lemmas.Walks.{walked, walk_end}
 use Rattle.fab_mapping_base.specs.Fitting.{IsPortOf}
 use Rattle.fab_mapping_base.proofs.Lacking.{Lacking, lacking_one, lacking_members}
 use Rattle.fab_mapping_base.proofs.gone.gone_target.Goals as goal

@@ -1,8 +1,8 @@
 use Rattle.std.proofs.Common.{◌≡◌, ℕ, List, ◌++◌}
 use Rattle.std.specs.FinSet as set
 use Rattle.std.specs.Ordering.{nat_cmp}
-use Rattle.fab_lemmas.specs.Firsts.{IsFirstOf}
-use Rattle.fab_lemmas.proofs.Adding.{Before}
+use Rattle.fab_inventory.specs.fab_lemmas.Firsts.{IsFirstOf}
+use Rattle.fab_inventory.proofs.fab_lemmas.Adding.{Before}
 use Rattle.fab_mapping_base.specs.Fitting.{IsPortOf}
 use Rattle.fab_mapping_base.proofs.Lacking.{Lacking}
 use Rattle.fab_mapping_base.proofs.gone.gone_target.Given as goal

@@ -3,12 +3,12 @@ use Rattle.std.specs.Cmp.{nat_cmp_total}
 use Rattle.std.specs.FinSet as set
 use Rattle.std.specs.Map.Iter.{deref_pair}
 use Rattle.std.proofs.lemmas.Map.Iter.{rest_more, rest_all}
-use Rattle.fab_lemmas.specs.Firsts.{IsFirstOf}
-use Rattle.fab_lemmas.proofs.Adding.{Before}
-use Rattle.fab_lemmas.proofs.Leasts.{least_none, least_more}
-use Rattle.fab_lemmas.proofs.Walks.{walked, walk_end}
-use Rattle.fab_names.specs.Orders.{name_cmp}
-use Rattle.fab_names.proofs.OrderLaws.{name_total}
+use Rattle.fab_inventory.specs.fab_lemmas.Firsts.{IsFirstOf}
+use Rattle.fab_inventory.proofs.fab_lemmas.Adding.{Before}
+use Rattle.fab_inventory.proofs.fab_lemmas.Leasts.{least_none, least_more}
+use Rattle.fab_inventory.proofs.fab_lemmas.Walks.{walked, walk_end}
+use Rattle.fab_inventory.specs.fab_names.Orders.{name_cmp}
+use Rattle.fab_inventory.proofs.fab_names.OrderLaws.{name_total}
 use Rattle.fab_mapping_base.specs.Fitting.{IsVolumeOn}
 use Rattle.fab_mapping_base.proofs.Lacking.{Lacking, lacking_one, lacking_values}
 use Rattle.fab_mapping_base.proofs.gone.gone_volume.Goals as goal

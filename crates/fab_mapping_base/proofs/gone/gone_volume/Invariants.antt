@@ -1,8 +1,8 @@
 use Rattle.std.proofs.Common.{◌≡◌, ℕ, List, ◌++◌}
 use Rattle.std.specs.FinMap as map
-use Rattle.fab_lemmas.specs.Firsts.{IsFirstOf}
-use Rattle.fab_lemmas.proofs.Adding.{Before}
-use Rattle.fab_names.specs.Orders.{name_cmp}
+use Rattle.fab_inventory.specs.fab_lemmas.Firsts.{IsFirstOf}
+use Rattle.fab_inventory.proofs.fab_lemmas.Adding.{Before}
+use Rattle.fab_inventory.specs.fab_names.Orders.{name_cmp}
 use Rattle.fab_mapping_base.specs.Fitting.{IsVolumeOn}
 use Rattle.fab_mapping_base.proofs.Lacking.{Lacking}
 use Rattle.fab_mapping_base.proofs.gone.gone_volume.Given as goal

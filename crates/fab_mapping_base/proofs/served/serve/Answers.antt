@@ -1,7 +1,7 @@
 use Rattle.std.proofs.Common.{cond, sym, ap, ◌∙◌, Some, None, rules}
 use Rattle.std.specs.BTreeMap as tree
 use Rattle.std.specs.BTreeMap.{is_at}
-use Rattle.fab_names.specs.Orders.{name_cmp}
+use Rattle.fab_inventory.specs.fab_names.Orders.{name_cmp}
 use Rattle.fab_mapping_base.specs.ClashSearch.{Index}
 use Rattle.fab_mapping_base.proofs.Serving.{adds_service, one_key}
 use Rattle.fab_mapping_base.proofs.served.serve.Goals as goal

@@ -3,9 +3,9 @@ use Rattle.std.specs.BTreeMap.{get}
 use Rattle.std.specs.FinSet as set
 use Rattle.std.specs.Map.Iter.{deref}
 use Rattle.std.proofs.lemmas.Map.Iter.{rest_more, rest_all}
-use Rattle.fab_lemmas.proofs.Adding.{before_none, before_more, adds_none}
-use Rattle.fab_lemmas.proofs.Walks.{walked, walk_end}
-use Rattle.fab_names.specs.Orders.{name_cmp}
+use Rattle.fab_inventory.proofs.fab_lemmas.Adding.{before_none, before_more, adds_none}
+use Rattle.fab_inventory.proofs.fab_lemmas.Walks.{walked, walk_end}
+use Rattle.fab_inventory.specs.fab_names.Orders.{name_cmp}
 use Rattle.fab_mapping_base.specs.ClashSearch.{lists}
 use Rattle.fab_mapping_base.proofs.Serving.{ByHosts, by_hosts, no_hosts, group_served}
 use Rattle.fab_mapping_base.proofs.served.serve_group.Goals as goal

@@ -2,8 +2,8 @@ use Rattle.std.proofs.Common.{◌∷◌, [], ◌++◌, sym, ap, ◌∙◌}
 use Rattle.std.specs.FinSet as set
 use Rattle.std.specs.Map.Iter.{deref}
 use Rattle.std.proofs.lemmas.Map.Iter.{rest_more, rest_all}
-use Rattle.fab_lemmas.proofs.Adding.{before_none, before_more}
-use Rattle.fab_lemmas.proofs.Walks.{walked, walk_end}
+use Rattle.fab_inventory.proofs.fab_lemmas.Adding.{before_none, before_more}
+use Rattle.fab_inventory.proofs.fab_lemmas.Walks.{walked, walk_end}
 use Rattle.fab_mapping_base.specs.ClashSearch.{lists}
 use Rattle.fab_mapping_base.proofs.Serving.{ByHost, hosts_served}
 use Rattle.fab_mapping_base.proofs.served.serve_hosts.Goals as goal

@@ -1,7 +1,7 @@
 use Rattle.std.proofs.Common.{◌≡◌, ℕ, List, ◌++◌}
 use Rattle.std.specs.FinSet as set
-use Rattle.fab_lemmas.specs.Adding.{Adds}
-use Rattle.fab_lemmas.proofs.Adding.{Before}
+use Rattle.fab_inventory.specs.fab_lemmas.Adding.{Adds}
+use Rattle.fab_inventory.proofs.fab_lemmas.Adding.{Before}
 use Rattle.fab_mapping_base.specs.ClashSearch.{lists}
 use Rattle.fab_mapping_base.proofs.Serving.{ByHost}
 use Rattle.fab_mapping_base.proofs.served.serve_hosts.Given as goal

@@ -4,7 +4,7 @@ use Rattle.std.specs.List.{slice_get}
 use Rattle.std.specs.Option.{option_map}
 use Rattle.std.proofs.lemmas.List.{length-map}
 use Rattle.std.proofs.lemmas.Option.{slice_get-map, slice_get_read}
-use Rattle.fab_names.specs.Orders.{name_cmp}
+use Rattle.fab_inventory.specs.fab_names.Orders.{name_cmp}
 use Rattle.fab_mapping_base.specs.Groups.{StorageGroupRows}
 use Rattle.fab_mapping_base.specs.ClashSearch.{lists}
 use Rattle.fab_mapping_base.proofs.Serving.{below_start, below_more, below_all}

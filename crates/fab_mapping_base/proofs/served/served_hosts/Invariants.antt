@@ -1,7 +1,7 @@
 use Rattle.std.proofs.Common.{Bor, map, false}
 use Rattle.std.specs.BTreeMap.{get}
-use Rattle.fab_lemmas.specs.Adding.{Adds}
-use Rattle.fab_names.specs.Orders.{name_cmp}
+use Rattle.fab_inventory.specs.fab_lemmas.Adding.{Adds}
+use Rattle.fab_inventory.specs.fab_names.Orders.{name_cmp}
 use Rattle.fab_mapping_base.specs.Groups.{StorageGroupRows}
 use Rattle.fab_mapping_base.specs.ClashSearch.{lists}
 use Rattle.fab_mapping_base.proofs.Serving.{Below}

@@ -2,9 +2,9 @@ use Rattle.std.proofs.Common.{ℕ, List, is_some, refl, rules}
 use Rattle.std.specs.BTreeMap.{get}
 use Rattle.std.proofs.lemmas.Iterator.Search.{all_from_yields_List}
 use Rattle.std.proofs.lemmas.Iterator.Consumers.{YieldsList-from_rest}
-use Rattle.fab_lemmas.proofs.Passing.{members_pass}
-use Rattle.fab_names.specs.Orders.{name_cmp}
-use Rattle.fab_names.proofs.OrderLaws.{name_total, name_exact}
+use Rattle.fab_inventory.proofs.fab_lemmas.Passing.{members_pass}
+use Rattle.fab_inventory.specs.fab_names.Orders.{name_cmp}
+use Rattle.fab_inventory.proofs.fab_names.OrderLaws.{name_total, name_exact}
 use Rattle.fab_mapping_base.proofs.sound.has_known_hosts.Goals as goal
 
 pub returns : goal.returns

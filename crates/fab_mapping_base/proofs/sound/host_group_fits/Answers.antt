@@ -2,7 +2,7 @@ use Rattle.std.proofs.Common.{ℕ, List, refl, rules}
 use Rattle.std.proofs.lemmas.Iterator.{cases_from_all}
 use Rattle.std.proofs.lemmas.Iterator.Consumers.{YieldsList-from_rest}
 use Rattle.fab_inventory.specs.Inventories.{IsHost}
-use Rattle.fab_names.proofs.OrderLaws.{name_total, name_exact}
+use Rattle.fab_inventory.proofs.fab_names.OrderLaws.{name_total, name_exact}
 use Rattle.fab_mapping_base.proofs.Passed.{members_have}
 use Rattle.fab_mapping_base.proofs.sound.host_group_fits.Goals as goal
 

@@ -1,17 +1,17 @@
 use Rattle.std.proofs.Common.{◌≡◌, ◌<◌, Result, IfErr, OnOk, length, sym, ap, subst}
 use Rattle.std.specs.FinMap as map
-use Rattle.fab_inventory.specs.Inventories.{InventoryRows}
-use Rattle.fab_mapping_base.specs.Groups.{host_group_of}
-use Rattle.fab_mapping.specs.Mappings.{MappingRows, CanPutHostGroup, PutHostGroupFails}
-use Rattle.fab_mapping_base.specs.declared.fault.MappingFault.{MappingFault}
-use Rattle.fab_plans_base.specs.Actions as actions
-use Rattle.fab_plans_base.specs.Plans.{IsStep}
-use Rattle.fab_plans_base.specs.declared.mapping_action.MappingAction.{MappingAction}
+use Rattle.fab_reach_base.specs.fab_inventory.Inventories.{InventoryRows}
+use Rattle.fab_reach_base.specs.fab_mapping_base.Groups.{host_group_of}
+use Rattle.fab_reach_base.specs.fab_mapping.Mappings.{MappingRows, CanPutHostGroup, PutHostGroupFails}
+use Rattle.fab_reach_base.specs.fab_mapping_base.declared.fault.MappingFault.{MappingFault}
+use Rattle.fab_plans_kept.specs.fab_plans_base.Actions as actions
+use Rattle.fab_plans_kept.specs.fab_plans_base.Plans.{IsStep}
+use Rattle.fab_plans_kept.specs.fab_plans_base.declared.mapping_action.MappingAction.{MappingAction}
 use Rattle.fab_plans.specs.Telling.{IsFaultOf, TellsMapping}
 use Rattle.fab_plans.specs.MappingSteps.{MappingDone, MappingFails}
 use Rattle.fab_plans.proofs.Spelled.{host_listing, unit_within}
 use Rattle.fab_plans.proofs.Facts.{on_both, on_three}
-use Rattle.fab_mapping.proofs.GroupChanges.{if_err}
+use Rattle.fab_reach_base.proofs.fab_mapping.GroupChanges.{if_err}
 use Rattle.fab_plans.proofs.MappingCases.{host_group_put_passes, host_group_put_told, host_group_drop_passes, host_group_drop_told, group_host_told, group_unhost_told, group_target_told, group_untarget_told, group_map_told, group_unmap_told}
 use Rattle.fab_plans.proofs.mapping_steps.answer.Goals as goal
 

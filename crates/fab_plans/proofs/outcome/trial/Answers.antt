@@ -1,5 +1,5 @@
 use Rattle.std.proofs.Common.{refl, subst, inr, MatchOption}
-use Rattle.fab_mapping.specs.Mappings.{HasNoClash, IsLeastClash}
+use Rattle.fab_reach_base.specs.fab_mapping.Mappings.{HasNoClash, IsLeastClash}
 use Rattle.fab_plans.specs.Outcomes.{AllDone}
 use Rattle.fab_plans.proofs.outcome.trial.Goals as goal
 

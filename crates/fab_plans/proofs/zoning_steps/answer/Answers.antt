@@ -1,18 +1,18 @@
 use Rattle.std.proofs.Common.{◌≡◌, Result, IfErr, OnOk, All, sym, ap, subst}
 use Rattle.std.specs.FinMap as map
 use Rattle.std.specs.FinSet as set
-use Rattle.fab_zoning_rows.specs.Rows.{IsPlain}
-use Rattle.fab_zoning.specs.Steps.{IsPutAliasFault, CanPutZone, IsPutZoneFault, CanPutSet, IsPutSetFault}
-use Rattle.fab_zoning.specs.Zonings.{FabricZoning}
-use Rattle.fab_zoning.specs.declared.fault.ZoningFault.{ZoningFault}
-use Rattle.fab_plans_base.specs.Actions as actions
-use Rattle.fab_plans_base.specs.Plans.{IsStep}
-use Rattle.fab_plans_base.specs.declared.zoning_action.ZoningAction.{ZoningAction}
+use Rattle.fab_reach_base.specs.fab_zoning_rows.Rows.{IsPlain}
+use Rattle.fab_reach_base.specs.fab_zoning.Steps.{IsPutAliasFault, CanPutZone, IsPutZoneFault, CanPutSet, IsPutSetFault}
+use Rattle.fab_reach_base.specs.fab_zoning.Zonings.{FabricZoning}
+use Rattle.fab_reach_base.specs.fab_zoning.declared.fault.ZoningFault.{ZoningFault}
+use Rattle.fab_plans_kept.specs.fab_plans_base.Actions as actions
+use Rattle.fab_plans_kept.specs.fab_plans_base.Plans.{IsStep}
+use Rattle.fab_plans_kept.specs.fab_plans_base.declared.zoning_action.ZoningAction.{ZoningAction}
 use Rattle.fab_plans.specs.Telling.{IsFaultOf, TellsZoning}
 use Rattle.fab_plans.specs.ZoningSteps.{ZoningDone, ZoningFails}
 use Rattle.fab_plans.proofs.Spelled.{alias_listing, zone_listing, set_listing, alias_plain}
 use Rattle.fab_plans.proofs.Facts.{on_both, on_four}
-use Rattle.fab_mapping.proofs.GroupChanges.{if_err}
+use Rattle.fab_reach_base.proofs.fab_mapping.GroupChanges.{if_err}
 use Rattle.fab_plans.proofs.ZoningCases.{alias_put_told, alias_drop_told, zone_put_passes, zone_put_told, zone_drop_told, set_put_passes, set_put_told, activate_passes, activate_told}
 use Rattle.fab_plans.proofs.zoning_steps.answer.Goals as goal
 

@@ -1,5 +1,5 @@
 use Rattle.std.proofs.Common.{◌∙◌}
-use Rattle.fab_plans_base.specs.Plans.{plan_text}
+use Rattle.fab_plans_text.specs.fab_plans_base.Plans.{plan_text}
 use Rattle.fab_plans_kept.proofs.PrintedTexts.{same_text}
 use Rattle.fab_plans_kept.proofs.printed.is_printed.Goals as goal
 

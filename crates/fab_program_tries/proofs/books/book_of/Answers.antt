@@ -1,5 +1,5 @@
 use Rattle.std.proofs.Common.{sym, subst}
-use Rattle.fab_files_tries.proofs.fab_looks_tries.fab_desk_machine.fab_desk_commands.SoundAfter.{sound_serves}
+use Rattle.fab_desk_machine.proofs.fab_desk_commands.SoundAfter.{sound_serves}
 use Rattle.fab_reach_base.specs.Serving.{IsServing}
 use Rattle.fab_world.specs.Worlds.{WorldRows, records_of}
 use Rattle.fab_program_tries.proofs.books.book_of.Goals as goal

@@ -1,6 +1,6 @@
 use Rattle.std.proofs.Common.{refl, sym, ◌∙◌, subst, arith}
 use mathlib.Core.Bool.{true≢false}
-use Rattle.fab_lemmas.proofs.Scans.{scan_more, scan_end}
+use Rattle.fab_mapping.proofs.fab_mapping_base.fab_lemmas.Scans.{scan_more, scan_end}
 use Rattle.fab_reach_base.specs.Serving.{IsServing}
 use Rattle.fab_reach_base.specs.Views.{seen}
 use Rattle.fab_reach_base.proofs.laws.are_serving.Goals as goal

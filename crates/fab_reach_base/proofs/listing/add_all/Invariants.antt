@@ -1,6 +1,6 @@
 use Rattle.std.proofs.Common.{◌≡◌, ℕ, List, ◌++◌}
 use Rattle.std.specs.FinMap as map
-use Rattle.fab_inventory.specs.declared.port.Known.{Known}
+use Rattle.fab_mapping.specs.fab_mapping_base.fab_inventory.declared.port.Known.{Known}
 use Rattle.fab_reach_base.specs.Adding.{Adds}
 use Rattle.fab_reach_base.specs.Orders.{Has}
 use Rattle.fab_reach_base.specs.Views.{seen}

@@ -1,5 +1,5 @@
 use Rattle.std.proofs.Common.{◌∷◌, [], ◌++◌, sym}
-use Rattle.fab_lemmas.proofs.Walks.{walked, walk_end}
+use Rattle.fab_mapping.proofs.fab_mapping_base.fab_lemmas.Walks.{walked, walk_end}
 use Rattle.fab_reach_base.specs.Gathering.{HasTarget}
 use Rattle.fab_reach_base.proofs.Adding.{before_none, before_more, before_skip}
 use Rattle.fab_reach_base.proofs.Gathering.{HasPort, by_name, no_name, all_offered}

@@ -2,7 +2,7 @@ use Rattle.std.proofs.Common.{◌∷◌, [], ◌++◌, sym, ap, ◌∙◌}
 use Rattle.std.specs.FinSet as set
 use Rattle.std.specs.Map.Iter.{deref}
 use Rattle.std.proofs.lemmas.Map.Iter.{rest_more, rest_all}
-use Rattle.fab_lemmas.proofs.Walks.{walked, walk_end}
+use Rattle.fab_mapping.proofs.fab_mapping_base.fab_lemmas.Walks.{walked, walk_end}
 use Rattle.fab_reach_base.specs.Gathering.{Lists}
 use Rattle.fab_reach_base.proofs.Adding.{before_none, before_more, before_skip}
 use Rattle.fab_reach_base.proofs.Services.{ByHosts, by_hosts, no_hosts, group_served}

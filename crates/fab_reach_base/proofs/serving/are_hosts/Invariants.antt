@@ -1,6 +1,6 @@
 use Rattle.std.proofs.Common.{◌≡◌, ℕ, List, ◌++◌}
 use Rattle.std.specs.FinSet as set
-use Rattle.fab_inventory.specs.Inventories.{IsHost}
+use Rattle.fab_mapping.specs.fab_mapping_base.fab_inventory.Inventories.{IsHost}
 use Rattle.fab_reach_base.proofs.Scanning.{AllSoFar}
 use Rattle.fab_reach_base.proofs.serving.are_hosts.Given as goal
 

@@ -5,7 +5,7 @@ use Rattle.std.proofs.lemmas.Map.Iter.{rest_more, rest_all}
 use Rattle.std.specs.Cmp.{nat_cmp_total}
 use Rattle.std.specs.FinSet as set
 use Rattle.fab_reach_base.specs.Serving.{IsArrayPort}
-use Rattle.fab_lemmas.proofs.Walks.{walked, walk_end}
+use Rattle.fab_mapping.proofs.fab_mapping_base.fab_lemmas.Walks.{walked, walk_end}
 use Rattle.fab_reach_base.proofs.Scanning.{none_yet, one_more, is_in_set, all_in_set}
 use Rattle.fab_reach_base.proofs.serving.are_targets.Goals as goal
 

@@ -1,8 +1,8 @@
 use Rattle.std.proofs.Common.{◌≡◌, sym}
 use Rattle.std.specs.BTreeSet.{contains}
-use Rattle.fab_lemmas.proofs.Adding.{adds_as, tree_adds_one}
-use Rattle.fab_names.specs.Orders.{name_cmp}
-use Rattle.fab_names.proofs.OrderLaws.{name_total, name_exact}
+use Rattle.fab_reach_base.proofs.fab_lemmas.Adding.{adds_as, tree_adds_one}
+use Rattle.fab_reach_base.specs.fab_names.Orders.{name_cmp}
+use Rattle.fab_reach_base.proofs.fab_names.OrderLaws.{name_total, name_exact}
 use Rattle.fab_store_drafts.proofs.clashes.add_name.Goals as goal
 
 pub returns : goal.returns

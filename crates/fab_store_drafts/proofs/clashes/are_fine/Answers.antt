@@ -2,7 +2,7 @@ use Rattle.std.proofs.Common.{◌∷◌, [], ◌++◌, refl, sym, ◌∙◌}
 use mathlib.Core.Bool.{true≢false}
 use Rattle.std.specs.Map.Iter.{deref}
 use Rattle.std.proofs.lemmas.Map.Iter.{rest_more, rest_all}
-use Rattle.fab_lemmas.proofs.Walks.{walked, walk_end}
+use Rattle.fab_reach_base.proofs.fab_lemmas.Walks.{walked, walk_end}
 use Rattle.fab_store_drafts.specs.Inner.Nearby.{IsFine}
 use Rattle.fab_store_drafts.proofs.Gathering.{all_none, all_more, all_walked, in_walk}
 use Rattle.fab_store_drafts.proofs.clashes.are_fine.Goals as goal

@@ -1,6 +1,6 @@
 use Rattle.std.proofs.Common.{sym, ap, ◌∙◌}
 use Rattle.std.specs.FinMap as map
-use Rattle.fab_mapping.specs.Mappings.{MappingRows}
+use Rattle.fab_reach_base.specs.fab_mapping.Mappings.{MappingRows}
 use Rattle.fab_store_drafts.proofs.Beside.{clear_at_is}
 use Rattle.fab_store_drafts.proofs.clashes.is_clear_at.Goals as goal
 

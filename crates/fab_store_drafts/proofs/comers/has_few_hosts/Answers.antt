@@ -1,7 +1,7 @@
 use Rattle.std.proofs.Common.{sym, ◌∙◌}
 use Rattle.std.specs.FinSet as set
-use Rattle.fab_names.proofs.OrderLaws.{name_total}
-use Rattle.fab_mapping_base.specs.declared.limits.TheConstants.{MOST_HOSTS}
+use Rattle.fab_reach_base.proofs.fab_names.OrderLaws.{name_total}
+use Rattle.fab_reach_base.specs.fab_mapping_base.declared.limits.TheConstants.{MOST_HOSTS}
 use Rattle.fab_store_drafts.proofs.Counted.{is_few, set_counted}
 use Rattle.fab_store_drafts.proofs.comers.has_few_hosts.Goals as goal
 

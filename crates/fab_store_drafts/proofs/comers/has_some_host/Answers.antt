@@ -1,6 +1,6 @@
 use Rattle.std.proofs.Common.{sym, ◌∙◌}
 use Rattle.std.specs.FinSet as set
-use Rattle.fab_names.proofs.OrderLaws.{name_total}
+use Rattle.fab_reach_base.proofs.fab_names.OrderLaws.{name_total}
 use Rattle.fab_store_drafts.proofs.Counted.{is_some, set_counted}
 use Rattle.fab_store_drafts.proofs.comers.has_some_host.Goals as goal
 

@@ -1,7 +1,7 @@
 use Rattle.std.proofs.Common.{refl, sym, ◌∙◌}
-use Rattle.fab_lemmas.specs.MapsOfSets.{seen_set}
+use Rattle.fab_reach_base.specs.fab_lemmas.MapsOfSets.{seen_set}
 use Rattle.std.specs.FinSet as set
-use Rattle.fab_zoning.specs.Limits.{most_members}
+use Rattle.fab_reach_base.specs.fab_zoning.Limits.{most_members}
 use Rattle.fab_store_drafts.proofs.Counted.{is_few, set_counted}
 use Rattle.fab_store_drafts.proofs.comers.is_listable.Goals as goal
 

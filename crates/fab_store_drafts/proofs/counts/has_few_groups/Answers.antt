@@ -1,7 +1,7 @@
 use Rattle.std.proofs.Common.{◌≡◌, length, sym, ap, ◌∙◌, arith}
 use mathlib.Core.Bool.{true≢false}
 use Rattle.std.specs.FinMap as map
-use Rattle.fab_mapping_base.specs.declared.limits.TheConstants.{MOST_STORAGE_GROUPS}
+use Rattle.fab_reach_base.specs.fab_mapping_base.declared.limits.TheConstants.{MOST_STORAGE_GROUPS}
 use Rattle.fab_store_drafts.proofs.Counted.{is_few}
 use Rattle.fab_store_drafts.proofs.counts.has_few_groups.Goals as goal
 

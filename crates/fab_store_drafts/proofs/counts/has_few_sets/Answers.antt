@@ -1,8 +1,8 @@
 use Rattle.std.proofs.Common.{◌≡◌, sym, ◌∙◌, arith}
 use mathlib.Core.Bool.{true≢false}
 use Rattle.std.specs.FinMap as map
-use Rattle.fab_names.specs.Orders.{name_cmp, member_cmp}
-use Rattle.fab_zoning.specs.Limits.{most_sets}
+use Rattle.fab_reach_base.specs.fab_names.Orders.{name_cmp, member_cmp}
+use Rattle.fab_reach_base.specs.fab_zoning.Limits.{most_sets}
 use Rattle.fab_store_drafts.proofs.Counted.{is_few, sets_counted}
 use Rattle.fab_store_drafts.proofs.counts.has_few_sets.Goals as goal
 

@@ -1,6 +1,6 @@
 use Rattle.std.proofs.Common.{sym, ◌∙◌, subst}
 use mathlib.Core.Bool.{true≢false}
-use Rattle.fab_names.specs.declared.fabric.Fabric.TheVariants.{A, B}
+use Rattle.fab_reach_base.specs.fab_names.declared.fabric.Fabric.TheVariants.{A, B}
 use Rattle.fab_reach_base.specs.Records.{zoning_at}
 use Rattle.fab_store_drafts.specs.There.{HasSoundCounts}
 use Rattle.fab_store_drafts.proofs.Counted.{both_fabrics}

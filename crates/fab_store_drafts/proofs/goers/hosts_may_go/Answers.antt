@@ -1,7 +1,7 @@
 use Rattle.std.proofs.Common.{◌≡◌, is_some, IsSome, sym, ap, ◌∙◌}
 use mathlib.Core.Bool.{true≢false}
 use Rattle.std.specs.FinMap as map
-use Rattle.fab_mapping.specs.Mappings.{MappingRows, Serves}
+use Rattle.fab_reach_base.specs.fab_mapping.Mappings.{MappingRows, Serves}
 use Rattle.fab_store_drafts.specs.declared.uses.Used.TheVariants as used
 use Rattle.fab_store_drafts.proofs.IfThere.{is_copied}
 use Rattle.fab_store_drafts.proofs.Using.{spared}

@@ -1,9 +1,9 @@
 use Rattle.std.proofs.Common.{◌≡◌, true, is_some, sym, ap, ◌∙◌}
 use mathlib.Core.Bool.{true≢false}
 use Rattle.std.specs.FinMap as map
-use Rattle.fab_lemmas.specs.MapsOfSets.{has, seen_set}
-use Rattle.fab_names.specs.Orders.{member_cmp}
-use Rattle.fab_zoning.specs.Zonings.{FabricZoning}
+use Rattle.fab_reach_base.specs.fab_lemmas.MapsOfSets.{has, seen_set}
+use Rattle.fab_reach_base.specs.fab_names.Orders.{member_cmp}
+use Rattle.fab_reach_base.specs.fab_zoning.Zonings.{FabricZoning}
 use Rattle.fab_reach_base.specs.Records.{zoning_at}
 use Rattle.fab_store_drafts.specs.declared.uses.Used.TheVariants as used
 use Rattle.fab_store_drafts.proofs.IfThere.{is_seen}

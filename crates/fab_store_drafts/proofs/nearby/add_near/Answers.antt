@@ -3,9 +3,9 @@ use Rattle.std.specs.BTreeSet.{contains}
 use Rattle.std.specs.FinSet as set
 use Rattle.std.specs.Map.Iter.{deref}
 use Rattle.std.proofs.lemmas.Map.Iter.{rest_more, rest_all}
-use Rattle.fab_lemmas.proofs.Adding.{before_none, before_more}
-use Rattle.fab_lemmas.proofs.Walks.{walked, walk_end}
-use Rattle.fab_names.specs.Orders.{name_cmp}
+use Rattle.fab_reach_base.proofs.fab_lemmas.Adding.{before_none, before_more}
+use Rattle.fab_reach_base.proofs.fab_lemmas.Walks.{walked, walk_end}
+use Rattle.fab_reach_base.specs.fab_names.Orders.{name_cmp}
 use Rattle.fab_store_drafts.specs.Inner.Nearby.{SharesHostOf}
 use Rattle.fab_store_drafts.proofs.Gathering.{before_seen}
 use Rattle.fab_store_drafts.proofs.nearby.add_near.Goals as goal

@@ -1,9 +1,9 @@
 use Rattle.std.proofs.Common.{◌≡◌, ℕ, List, ◌++◌}
 use Rattle.std.specs.BTreeSet.{contains}
 use Rattle.std.specs.FinSet as set
-use Rattle.fab_lemmas.specs.Adding.{Adds}
-use Rattle.fab_lemmas.proofs.Adding.{Before}
-use Rattle.fab_names.specs.Orders.{name_cmp}
+use Rattle.fab_reach_base.specs.fab_lemmas.Adding.{Adds}
+use Rattle.fab_reach_base.proofs.fab_lemmas.Adding.{Before}
+use Rattle.fab_reach_base.specs.fab_names.Orders.{name_cmp}
 use Rattle.fab_store_drafts.specs.Inner.Nearby.{SharesHostOf}
 use Rattle.fab_store_drafts.proofs.nearby.add_near.Given as goal
 

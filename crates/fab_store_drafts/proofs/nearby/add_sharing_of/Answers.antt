@@ -1,7 +1,7 @@
 use Rattle.std.proofs.Common.{sym, subst}
 use Rattle.std.specs.BTreeSet.{contains}
-use Rattle.fab_lemmas.proofs.Adding.{adds_as}
-use Rattle.fab_names.specs.Orders.{name_cmp}
+use Rattle.fab_reach_base.proofs.fab_lemmas.Adding.{adds_as}
+use Rattle.fab_reach_base.specs.fab_names.Orders.{name_cmp}
 use Rattle.fab_reach_base.proofs.Same.{same_some}
 use Rattle.fab_store_edits.proofs.Answering.{on_ok}
 use Rattle.fab_store_drafts.specs.Inner.Nearby.{SharesHost, SharesHostOf}

@@ -1,8 +1,8 @@
 use Rattle.std.proofs.Common.{◌≡◌, ℕ, List, ◌++◌}
 use Rattle.std.specs.BTreeSet.{contains}
-use Rattle.fab_lemmas.specs.Adding.{Adds}
-use Rattle.fab_lemmas.proofs.Adding.{Before}
-use Rattle.fab_names.specs.Orders.{name_cmp}
+use Rattle.fab_reach_base.specs.fab_lemmas.Adding.{Adds}
+use Rattle.fab_reach_base.proofs.fab_lemmas.Adding.{Before}
+use Rattle.fab_reach_base.specs.fab_names.Orders.{name_cmp}
 use Rattle.fab_store_drafts.proofs.users.add_all.Given as goal
 
 abbrev pub invariant-loop-name : goal.invariant-loop-name

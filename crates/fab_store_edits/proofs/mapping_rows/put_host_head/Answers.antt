@@ -1,6 +1,6 @@
 use Rattle.std.proofs.Common.{Some, refl, ◌∙◌, subst}
 use Rattle.std.specs.FinMap as map
-use Rattle.fab_mapping_base.specs.Groups.{HostGroupRows}
+use Rattle.fab_reach_base.specs.fab_mapping_base.Groups.{HostGroupRows}
 use Rattle.fab_store_edits.specs.Inner.MappingEdits.{HostsBecome}
 use Rattle.fab_store_edits.proofs.Answering.{on_ok}
 use Rattle.fab_store_edits.proofs.Becoming.{hosts_back}

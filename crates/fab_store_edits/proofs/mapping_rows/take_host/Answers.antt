@@ -1,5 +1,5 @@
 use Rattle.std.proofs.Common.{None, Some, inl, inr, subst}
-use Rattle.fab_mapping_base.specs.Groups.{HostGroupRows}
+use Rattle.fab_reach_base.specs.fab_mapping_base.Groups.{HostGroupRows}
 use Rattle.fab_store_edits.specs.Inner.MappingEdits.{HostsBecome}
 use Rattle.fab_store_edits.proofs.Becoming.{hosts_out, hosts_back}
 use Rattle.fab_store_edits.proofs.mapping_rows.take_host.Goals as goal

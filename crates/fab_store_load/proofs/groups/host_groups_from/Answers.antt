@@ -3,7 +3,7 @@ use Rattle.std.specs.BTreeMap.{get, is_at}
 use Rattle.std.specs.Map.{lookup}
 use Rattle.fab_names.specs.Orders.{name_cmp}
 use Rattle.fab_names.proofs.OrderLaws.{name_total, name_exact}
-use Rattle.fab_lemmas.proofs.Walks.{walked, walk_end}
+use Rattle.fab_reach_base.proofs.fab_lemmas.Walks.{walked, walk_end}
 use Rattle.fab_store_load.specs.Assembled.{set_at, host_group_at}
 use Rattle.fab_store_load.proofs.Assembling.{nothing_made, not_before, one_made, all_made}
 use Rattle.fab_store_load.proofs.groups.host_groups_from.Goals as goal

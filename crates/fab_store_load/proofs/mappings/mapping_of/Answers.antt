@@ -1,8 +1,8 @@
 use Rattle.std.proofs.Common.{sym, ◌∙◌, subst}
 use mathlib.Core.Bool.{true≢false}
 use Rattle.std.specs.FinMap as map
-use Rattle.fab_mapping.specs.Mappings.{MappingRows, HasNoClash, IsLeastClash}
-use Rattle.fab_mapping.specs.Soundness.{IsSound}
+use Rattle.fab_reach_base.specs.fab_mapping.Mappings.{MappingRows, HasNoClash, IsLeastClash}
+use Rattle.fab_reach_base.specs.fab_mapping.Soundness.{IsSound}
 use Rattle.fab_store_load.specs.Configs.{HostGroupsSay, StorageGroupsSay}
 use Rattle.fab_store_load.proofs.MappingRows.{host_groups_say, storage_groups_say, found_groups, no_groups, one_mapping, clash_stands, OnlyHostGroups, OnlyGroups, NoHostGroups, NoGroups}
 use Rattle.fab_store_load.proofs.mappings.mapping_of.Goals as goal

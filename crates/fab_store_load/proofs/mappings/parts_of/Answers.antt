@@ -2,7 +2,7 @@ use Rattle.std.specs.FinMap as map
 use Rattle.std.specs.Option.{option_and_then}
 use Rattle.fab_names.specs.Orders.{name_cmp}
 use Rattle.std.specs.Ordering.{nat_cmp}
-use Rattle.fab_mapping_base.specs.Groups.{StorageGroupRows}
+use Rattle.fab_reach_base.specs.fab_mapping_base.Groups.{StorageGroupRows}
 use Rattle.fab_store_load.specs.Kinds.{unit_row}
 use Rattle.fab_store_load.specs.Rows.{AreRows, HasRepeat, IsAt, HasEntries}
 use Rattle.fab_store_load.proofs.Saying.{no_repeat}

@@ -3,7 +3,7 @@ use mathlib.Core.Bool.{true≢false}
 use Rattle.std.specs.BTreeMap.{get}
 use Rattle.std.specs.FinMap as map
 use Rattle.fab_names.specs.Orders.{name_cmp}
-use Rattle.fab_mapping_base.specs.Groups.{StorageGroupRows}
+use Rattle.fab_reach_base.specs.fab_mapping_base.Groups.{StorageGroupRows}
 use Rattle.fab_store_load.specs.Assembled.{storage_group_at}
 use Rattle.fab_store_load.specs.Parts.{HaveParts}
 use Rattle.fab_store_load.specs.Configs.{StorageGroupsSay}

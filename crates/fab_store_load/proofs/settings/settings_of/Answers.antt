@@ -1,7 +1,7 @@
 use Rattle.std.specs.BTreeMap.{get}
 use Rattle.fab_names.specs.Orders.{fabric_cmp}
 use Rattle.fab_names.specs.declared.fabric.Fabric.TheVariants.{A, B}
-use Rattle.fab_zoning.specs.Zonings.{permits}
+use Rattle.fab_reach_base.specs.fab_zoning.Zonings.{permits}
 use Rattle.fab_reach_base.specs.Records.{zoning_at}
 use Rattle.fab_store_load.specs.Kinds.{active_set_row, default_zone_row}
 use Rattle.fab_store_load.proofs.Restored.{found, not_found}

@@ -2,7 +2,7 @@ use Rattle.std.proofs.Common.{◌∷◌, [], ◌++◌}
 use Rattle.std.specs.Map.Iter.{deref}
 use Rattle.std.specs.Option.{option_copied}
 use Rattle.std.proofs.lemmas.Map.Iter.{rest_more}
-use Rattle.fab_lemmas.proofs.Walks.{walked}
+use Rattle.fab_reach_base.proofs.fab_lemmas.Walks.{walked}
 use Rattle.fab_reach_base.proofs.Adding.{before_more}
 use Rattle.fab_store_rows.specs.Gathering.{Has, Lacking}
 use Rattle.fab_store_rows.specs.AtKeys.{IsRowAt}

@@ -1,5 +1,5 @@
 use Rattle.std.specs.Option.{option_copied}
-use Rattle.fab_names.specs.declared.fabric.Fabric.TheVariants.{A, B}
+use Rattle.fab_reach_base.specs.fab_names.declared.fabric.Fabric.TheVariants.{A, B}
 use Rattle.fab_store_rows.specs.Gathering.{Has}
 use Rattle.fab_store_rows.proofs.TablesTold.{fabric_of, host_groups_of, groups_of, all_told}
 use Rattle.fab_store_rows.proofs.gathering.add_all.Goals as goal

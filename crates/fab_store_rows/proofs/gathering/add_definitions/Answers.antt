@@ -1,5 +1,5 @@
 use Rattle.std.specs.Option.{option_copied}
-use Rattle.fab_names.proofs.OrderLaws.{name_total, name_exact, member_total, member_exact}
+use Rattle.fab_reach_base.proofs.fab_names.OrderLaws.{name_total, name_exact, member_total, member_exact}
 use Rattle.fab_store_rows.specs.Gathering.{Has, alias_row, zone_row, set_row}
 use Rattle.fab_store_rows.proofs.TablesTold.{sets_told, definitions_told}
 use Rattle.fab_store_rows.proofs.gathering.add_definitions.Goals as goal

@@ -2,7 +2,7 @@ use Rattle.std.proofs.Common.{◌≡◌}
 use Rattle.std.specs.Cmp.{nat_cmp_total}
 use Rattle.std.specs.FinSet as set
 use Rattle.std.specs.Option.{option_copied}
-use Rattle.fab_names.proofs.OrderLaws.{name_total, name_exact}
+use Rattle.fab_reach_base.proofs.fab_names.OrderLaws.{name_total, name_exact}
 use Rattle.fab_store_rows.specs.Gathering.{Has, host_group_row, target_row, unit_row}
 use Rattle.fab_store_rows.proofs.TablesTold.{group_told, items_told, entries_told}
 use Rattle.fab_store_rows.proofs.gathering.add_group.Goals as goal

@@ -2,7 +2,7 @@ use Rattle.std.proofs.Common.{◌≡◌, ◌∷◌, [], ◌++◌, sym}
 use Rattle.std.specs.Map.Iter.{deref}
 use Rattle.std.specs.Option.{option_copied}
 use Rattle.std.proofs.lemmas.Map.Iter.{rest_more, rest_all}
-use Rattle.fab_lemmas.proofs.Walks.{walked, walk_end}
+use Rattle.fab_reach_base.proofs.fab_lemmas.Walks.{walked, walk_end}
 use Rattle.fab_reach_base.proofs.Adding.{before_none, before_more}
 use Rattle.fab_store_rows.specs.Gathering.{Has, Lacking}
 use Rattle.fab_store_rows.proofs.RowsGathered.{lacking_all, same_row}

@@ -1,6 +1,6 @@
 use Rattle.std.proofs.Common.{ap, sym, ◌∙◌}
 use mathlib.Core.Bool.{true≢false}
-use Rattle.fab_inventory.specs.declared.port.Port.{Port}
+use Rattle.fab_reach_base.specs.fab_inventory.declared.port.Port.{Port}
 use Rattle.fab_store_rows.specs.declared.inventory_row.PortEntry.{PortEntry}
 use Rattle.fab_store_rows.specs.Standing.{without_address}
 use Rattle.fab_store_rows.proofs.known.is_same.Goals as goal

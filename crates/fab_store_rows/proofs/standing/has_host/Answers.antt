@@ -1,7 +1,7 @@
 use Rattle.std.proofs.Common.{◌≡◌, true}
 use Rattle.std.specs.FinMap as map
 use Rattle.std.specs.FinSet as set
-use Rattle.fab_mapping_base.specs.Groups.{HostGroupRows}
+use Rattle.fab_reach_base.specs.fab_mapping_base.Groups.{HostGroupRows}
 use Rattle.fab_store_rows.proofs.RowsFound.{found_has, test_is}
 use Rattle.fab_store_rows.proofs.standing.has_host.Goals as goal
 

@@ -1,7 +1,7 @@
 use Rattle.std.proofs.Common.{sym, ap, ◌∙◌}
-use Rattle.fab_names.proofs.OrderLaws.{name_total}
-use Rattle.fab_lemmas.specs.MapsOfSets.{in_set}
-use Rattle.fab_lemmas.proofs.SeenSets.{contains_seen}
+use Rattle.fab_reach_base.proofs.fab_names.OrderLaws.{name_total}
+use Rattle.fab_reach_base.specs.fab_lemmas.MapsOfSets.{in_set}
+use Rattle.fab_reach_base.proofs.fab_lemmas.SeenSets.{contains_seen}
 use Rattle.fab_store_rows.proofs.standing.is_in_set.Goals as goal
 
 pub returns-in-Some : goal.returns-in-Some

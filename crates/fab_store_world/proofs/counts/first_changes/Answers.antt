@@ -1,8 +1,8 @@
 use Rattle.std.proofs.Common.{◌≡◌, ℕ, refl, arith}
 use Rattle.std.proofs.lemmas.List.Elements.{All-contains, All-more}
-use Rattle.fab_lemmas.proofs.Scans.{scan_end}
-use Rattle.fab_store_rows.specs.declared.table_rows.CountRow.{CountRow}
-use Rattle.fab_store_rows.specs.declared.table_rows.CountRow.TheVariants.{Revision}
+use Rattle.fab_reach_base.proofs.fab_lemmas.Scans.{scan_end}
+use Rattle.fab_world.specs.fab_store_rows.declared.table_rows.CountRow.{CountRow}
+use Rattle.fab_world.specs.fab_store_rows.declared.table_rows.CountRow.TheVariants.{Revision}
 use Rattle.fab_store_world.proofs.counts.first_changes.Goals as goal
 
 abbrev TellsNone : CountRow → Type 0

@@ -1,5 +1,5 @@
 use Rattle.std.proofs.Common.{◌≡◌, ℕ, take, All}
-use Rattle.fab_store_rows.specs.declared.table_rows.CountRow.TheVariants.{Revision}
+use Rattle.fab_world.specs.fab_store_rows.declared.table_rows.CountRow.TheVariants.{Revision}
 use Rattle.fab_store_world.proofs.counts.first_changes.Given as goal
 
 abbrev pub invariant-loop-row : goal.invariant-loop-row

@@ -1,8 +1,8 @@
 use Rattle.std.proofs.Common.{◌≡◌, ℕ, Contains, get_or, MatchOption, refl, sym, ◌∙◌, subst}
 use mathlib.Core.Bool.{true≢false}
 use Rattle.std.proofs.lemmas.List.Elements.{Contains-get_or}
-use Rattle.fab_store_rows.specs.declared.table_rows.CountRow.TheVariants.{Schema, Revision}
-use Rattle.fab_store_rows.specs.declared.table_rows.TheConstants.{SCHEMA}
+use Rattle.fab_world.specs.fab_store_rows.declared.table_rows.CountRow.TheVariants.{Schema, Revision}
+use Rattle.fab_world.specs.fab_store_rows.declared.table_rows.TheConstants.{SCHEMA}
 use Rattle.fab_store_world.specs.OpenedTables.{IsCount}
 use Rattle.fab_store_world.proofs.counts.revision_of.Goals as goal
 

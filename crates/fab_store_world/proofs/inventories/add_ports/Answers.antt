@@ -3,12 +3,12 @@ use Rattle.std.specs.FinMap as map
 use Rattle.std.specs.Map.Iter.{deref_pair}
 use Rattle.std.specs.Ordering.{nat_cmp}
 use Rattle.std.proofs.lemmas.Map.Iter.{rest_more, rest_all}
-use Rattle.fab_lemmas.specs.Lists.{IsListOf}
-use Rattle.fab_lemmas.proofs.SeenEntries.{sorted}
-use Rattle.fab_lemmas.proofs.Walks.{walked, walk_end}
-use Rattle.fab_inventory.specs.declared.port.Known.{Known}
-use Rattle.fab_store_rows.specs.Standing.{IsKnown}
-use Rattle.fab_store_rows.specs.declared.inventory_row.InventoryRow.TheVariants as row
+use Rattle.fab_reach_base.specs.fab_lemmas.Lists.{IsListOf}
+use Rattle.fab_reach_base.proofs.fab_lemmas.SeenEntries.{sorted}
+use Rattle.fab_reach_base.proofs.fab_lemmas.Walks.{walked, walk_end}
+use Rattle.fab_reach_base.specs.fab_inventory.declared.port.Known.{Known}
+use Rattle.fab_world.specs.fab_store_rows.Standing.{IsKnown}
+use Rattle.fab_world.specs.fab_store_rows.declared.inventory_row.InventoryRow.TheVariants as row
 use Rattle.fab_store_world.specs.Inventories.{port_order, port_row, entry_order, entry_row, address_order, address_row}
 use Rattle.fab_store_world.specs.InventoryGathering.{IsRowOfEntries}
 use Rattle.fab_store_world.specs.InventoryKeys.{port_by_key, entry_by_key, address_by_key}

@@ -1,9 +1,9 @@
 use Rattle.std.proofs.Common.{◌≡◌, ℕ, List, ◌++◌}
 use Rattle.std.specs.FinMap as map
-use Rattle.fab_lemmas.specs.Lists.{IsListOf}
-use Rattle.fab_inventory.specs.declared.port.Known.{Known}
-use Rattle.fab_store_rows.specs.Standing.{IsKnown}
-use Rattle.fab_store_rows.specs.declared.inventory_row.InventoryRow.TheVariants as row
+use Rattle.fab_reach_base.specs.fab_lemmas.Lists.{IsListOf}
+use Rattle.fab_reach_base.specs.fab_inventory.declared.port.Known.{Known}
+use Rattle.fab_world.specs.fab_store_rows.Standing.{IsKnown}
+use Rattle.fab_world.specs.fab_store_rows.declared.inventory_row.InventoryRow.TheVariants as row
 use Rattle.fab_store_world.specs.Inventories.{port_order, port_row, entry_order, entry_row, address_order, address_row}
 use Rattle.fab_store_world.specs.InventoryGathering.{IsRowOfEntries}
 use Rattle.fab_store_world.proofs.inventories.add_ports.Given as goal

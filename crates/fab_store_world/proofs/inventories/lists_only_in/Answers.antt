@@ -2,10 +2,10 @@ use Rattle.std.proofs.Common.{List, ℕ, refl, sym, subst}
 use Rattle.std.specs.FinMap as map
 use Rattle.std.specs.List.Sorted.{IsStrictlySortedBy}
 use Rattle.std.specs.Map.{keys_of}
-use Rattle.fab_lemmas.proofs.SeenEntries.{sorted}
-use Rattle.fab_names.specs.Orders.{name_cmp}
-use Rattle.fab_inventory.specs.declared.holder.Holder.{Holder}
-use Rattle.fab_inventory.specs.declared.holder.Volume.{Volume}
+use Rattle.fab_reach_base.proofs.fab_lemmas.SeenEntries.{sorted}
+use Rattle.fab_reach_base.specs.fab_names.Orders.{name_cmp}
+use Rattle.fab_reach_base.specs.fab_inventory.declared.holder.Holder.{Holder}
+use Rattle.fab_reach_base.specs.fab_inventory.declared.holder.Volume.{Volume}
 use Rattle.fab_store_world.proofs.InventoryTables.{ports_told, entries_told, addresses_told, holders_told, volumes_told}
 use Rattle.fab_store_world.proofs.inventories.lists_only_in.Goals as goal
 

@@ -1,6 +1,6 @@
 use Rattle.std.proofs.Common.{subst}
-use Rattle.fab_store_rows.specs.declared.inventory_row.InventoryRow.TheVariants as row
-use Rattle.fab_store_rows.specs.Standing.{IsKnown}
+use Rattle.fab_world.specs.fab_store_rows.declared.inventory_row.InventoryRow.TheVariants as row
+use Rattle.fab_world.specs.fab_store_rows.Standing.{IsKnown}
 use Rattle.fab_store_world.specs.InventoryGathering.{IsPushed}
 use Rattle.fab_store_world.proofs.inventories.push_port.Goals as goal
 

@@ -1,5 +1,5 @@
 use Rattle.std.proofs.Common.{◌≡◌, List, ◌++◌}
-use Rattle.fab_lemmas.specs.Lists.{IsListOf}
+use Rattle.fab_reach_base.specs.fab_lemmas.Lists.{IsListOf}
 use Rattle.fab_store_world.specs.InventoryGathering.{IsRowOfEntries}
 use Rattle.fab_store_world.proofs.inventories.rows_without.Given as goal
 

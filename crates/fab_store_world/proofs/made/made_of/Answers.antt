@@ -1,5 +1,5 @@
 use Rattle.std.proofs.Common.{ℕ, MatchOption, subst}
-use Rattle.fab_store_load.specs.Inventories.{AreAll}
+use Rattle.fab_world.specs.fab_store_load.Inventories.{AreAll}
 use Rattle.fab_store_world.specs.OpenedTables.{IsCount}
 use Rattle.fab_store_world.proofs.WorldMade.{made, no_revision, no_config, no_plans}
 use Rattle.fab_store_world.proofs.made.made_of.Goals as goal

@@ -1,5 +1,5 @@
 use Rattle.std.proofs.Common.{sym, ap}
-use Rattle.fab_store_rows.specs.PlanEntries.{PlanEntry}
+use Rattle.fab_world.specs.fab_store_rows.PlanEntries.{PlanEntry}
 use Rattle.fab_store_world.proofs.Orders.{active_added}
 use Rattle.fab_store_world.proofs.order.add_place.Goals as goal
 

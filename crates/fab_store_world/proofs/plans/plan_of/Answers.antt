@@ -1,8 +1,8 @@
 use Rattle.std.proofs.Common.{List, MatchOption, sym, ap, ◌∙◌, subst}
-use Rattle.fab_plans_base.specs.Steps.{PlanStep}
+use Rattle.fab_world.specs.fab_plans_base.Steps.{PlanStep}
 use Rattle.fab_world.specs.PlanRecords.{PlanRecord}
 use Rattle.fab_store_world.specs.Parts.{standing_in, IsMadeOf}
-use Rattle.fab_plans_kept.specs.Texts.{IsTextOf}
+use Rattle.fab_world.specs.fab_plans_kept.Texts.{IsTextOf}
 use Rattle.fab_store_world.proofs.plans.plan_of.Goals as goal
 
 pub returns : goal.returns

@@ -2,10 +2,10 @@ use Rattle.std.specs.Prelude.{◌≡◌, ℕ, List, Some, true, false, cond, is_
 use Rattle.std.proofs.Common.{length, refl, sym, ap, ◌∙◌, subst, arith}
 use Rattle.std.proofs.lemmas.Option.{slice_get_read}
 use Rattle.std.specs.BTreeMap.{get, is_at}
-use Rattle.fab_store_rows.specs.PlanEntries.{PlanEntry}
-use Rattle.fab_names.specs.Orders.{name_cmp}
+use Rattle.fab_world.specs.fab_store_rows.PlanEntries.{PlanEntry}
+use Rattle.fab_reach_base.specs.fab_names.Orders.{name_cmp}
 use Rattle.fab_world.specs.PlanRecords.{PlanRecord}
-use Rattle.fab_plans_kept.specs.Texts.{IsTextOf}
+use Rattle.fab_world.specs.fab_plans_kept.Texts.{IsTextOf}
 use Rattle.fab_store_world.specs.Parts.{IsMadeOf}
 use Rattle.fab_store_world.proofs.PlansMade.{none_yet, one_more, all_made, repeated, unread, none_there}
 use Rattle.fab_store_world.proofs.plans.plans_from.Goals as goal

@@ -1,5 +1,5 @@
 use Rattle.std.specs.BTreeMap.{get}
-use Rattle.fab_names.specs.Orders.{name_cmp}
+use Rattle.fab_reach_base.specs.fab_names.Orders.{name_cmp}
 use Rattle.fab_store_world.proofs.PlansMade.{SoFar}
 use Rattle.fab_store_world.proofs.plans.plans_from.Given as goal
 

@@ -1,4 +1,4 @@
-use Rattle.fab_store_rows.specs.declared.inventory_row.InventoryRow.TheVariants as row
+use Rattle.fab_world.specs.fab_store_rows.declared.inventory_row.InventoryRow.TheVariants as row
 use Rattle.fab_store_world.specs.Inventories.{IsKnownOnlyIn, port_order, entry_order, address_order, holder_order}
 use Rattle.fab_store_world.proofs.OneVolume.{empty_list, no_port, no_entry, no_address, no_holder, at_most_one}
 use Rattle.fab_store_world.proofs.volumes.lists_only_at.Goals as goal

@@ -1,9 +1,9 @@
 use Rattle.std.proofs.Common.{refl, sym, ◌∙◌, subst, arith}
 use mathlib.Core.Bool.{true≢false}
 use Rattle.std.specs.BTreeMap.{get}
-use Rattle.fab_lemmas.specs.Firsts.{HasAt}
-use Rattle.fab_lemmas.proofs.Scans.{scan_more, scan_end}
-use Rattle.fab_names.specs.Orders.{name_cmp}
+use Rattle.fab_reach_base.specs.fab_lemmas.Firsts.{HasAt}
+use Rattle.fab_reach_base.proofs.fab_lemmas.Scans.{scan_more, scan_end}
+use Rattle.fab_reach_base.specs.fab_names.Orders.{name_cmp}
 use Rattle.fab_world.specs.Plans.{IsActive}
 use Rattle.fab_store_world.proofs.whole.have_active.Goals as goal
 

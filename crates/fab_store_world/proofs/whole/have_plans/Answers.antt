@@ -2,8 +2,8 @@ use Rattle.std.proofs.Common.{refl, sym, ◌∙◌, subst, arith}
 use Rattle.std.specs.Prelude.{IsSome}
 use mathlib.Core.Bool.{true≢false}
 use Rattle.std.specs.BTreeMap.{get}
-use Rattle.fab_lemmas.proofs.Scans.{scan_more, scan_end}
-use Rattle.fab_names.specs.Orders.{name_cmp}
+use Rattle.fab_reach_base.proofs.fab_lemmas.Scans.{scan_more, scan_end}
+use Rattle.fab_reach_base.specs.fab_names.Orders.{name_cmp}
 use Rattle.fab_store_world.proofs.whole.have_plans.Goals as goal
 
 pub loop-row-preserved : goal.loop-row-preserved

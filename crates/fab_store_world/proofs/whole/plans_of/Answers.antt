@@ -2,8 +2,8 @@ use Rattle.std.proofs.Common.{sym, ◌∙◌, subst}
 use mathlib.Core.Bool.{true≢false}
 use Rattle.std.specs.Prelude.{MatchOption, ℕ, List, Option}
 use Rattle.std.specs.BTreeMap.{get}
-use Rattle.fab_names.specs.Orders.{name_cmp}
-use Rattle.fab_store_load.specs.Rows.{HasRepeat}
+use Rattle.fab_reach_base.specs.fab_names.Orders.{name_cmp}
+use Rattle.fab_world.specs.fab_store_load.Rows.{HasRepeat}
 use Rattle.fab_world.specs.PlanRecords.{PlanRecord}
 use Rattle.fab_store_world.specs.Kinds.{approval_row}
 use Rattle.fab_store_world.specs.Orders.{IsOrderOf}

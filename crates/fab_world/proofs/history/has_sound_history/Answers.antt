@@ -1,6 +1,6 @@
 use Rattle.std.proofs.Common.{◌++◌, reverse, sym, ap, ◌∙◌, subst}
 use Rattle.std.specs.BTreeMap.{get}
-use Rattle.fab_names.specs.Orders.{name_cmp}
+use Rattle.fab_reach_base.specs.fab_names.Orders.{name_cmp}
 use Rattle.fab_world.specs.History.{LeadsBack, changes_of}
 use Rattle.fab_world.proofs.WaysBack.{last_first, answer_as}
 use Rattle.fab_world.proofs.history.has_sound_history.Goals as goal

@@ -1,6 +1,6 @@
 use Rattle.std.proofs.Common.{◌↔◌, length, reverse}
 use Rattle.std.specs.BTreeMap.{get}
-use Rattle.fab_names.specs.Orders.{name_cmp}
+use Rattle.fab_reach_base.specs.fab_names.Orders.{name_cmp}
 use Rattle.fab_reach_base.specs.Soundness.{IsSoundAlone}
 use Rattle.fab_world.specs.History.{LeadsBack, changes_of}
 use Rattle.fab_world.proofs.history.leads_back.Given as goal

@@ -1,7 +1,7 @@
 use Rattle.std.proofs.Common.{[], ◌∷◌, refl, reverse, sym}
 use mathlib.Core.Bool.{true≢false}
 use Rattle.std.specs.BTreeMap.{get}
-use Rattle.fab_names.specs.Orders.{name_cmp}
+use Rattle.fab_reach_base.specs.fab_names.Orders.{name_cmp}
 use Rattle.fab_world.specs.History.{changes_of}
 use Rattle.fab_world.specs.Plans.{change_in}
 use Rattle.fab_world.proofs.WaysBack.{here, nothing, answer_as, no_way, one_way}

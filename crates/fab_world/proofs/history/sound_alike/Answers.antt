@@ -1,7 +1,7 @@
 use Rattle.std.proofs.Common.{sym, subst}
-use Rattle.fab_lemmas.specs.Lists.{IsListOf}
-use Rattle.fab_store_rows.specs.RowOrder.{row_order}
-use Rattle.fab_store_rows.specs.Standing.{Stands}
+use Rattle.fab_reach_base.specs.fab_lemmas.Lists.{IsListOf}
+use Rattle.fab_store_load.specs.fab_store_rows.RowOrder.{row_order}
+use Rattle.fab_store_load.specs.fab_store_rows.Standing.{Stands}
 use Rattle.fab_world.proofs.WaysBack.{found_as, same_as_listed, listed_as_same}
 use Rattle.fab_world.proofs.history.sound_alike.Goals as goal
 

@@ -1,5 +1,5 @@
 use Rattle.std.specs.BTreeMap.{get}
-use Rattle.fab_names.specs.Orders.{name_cmp}
+use Rattle.fab_reach_base.specs.fab_names.Orders.{name_cmp}
 use Rattle.fab_world.specs.History.{changes_at}
 use Rattle.fab_world.specs.Plans.{change_in}
 use Rattle.fab_world.proofs.WaysBack.{answer_as, no_way, one_way, same_way}

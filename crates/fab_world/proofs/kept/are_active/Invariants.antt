@@ -1,7 +1,7 @@
 use Rattle.std.proofs.Common.{take, All}
 use Rattle.std.specs.BTreeMap.{get}
-use Rattle.fab_lemmas.specs.Firsts.{HasAt}
-use Rattle.fab_names.specs.Orders.{name_cmp}
+use Rattle.fab_reach_base.specs.fab_lemmas.Firsts.{HasAt}
+use Rattle.fab_reach_base.specs.fab_names.Orders.{name_cmp}
 use Rattle.fab_world.specs.Plans.{IsActive}
 use Rattle.fab_world.proofs.kept.are_active.Given as goal
 

@@ -3,8 +3,8 @@ use mathlib.Core.Bool.{true≢false}
 use Rattle.std.specs.BTreeSet.{contains}
 use Rattle.std.specs.Map.Iter.{deref_pair}
 use Rattle.std.proofs.lemmas.Map.Iter.{rest_more, rest_all}
-use Rattle.fab_lemmas.proofs.Walks.{walked, walk_end}
-use Rattle.fab_names.specs.Orders.{name_cmp}
+use Rattle.fab_reach_base.proofs.fab_lemmas.Walks.{walked, walk_end}
+use Rattle.fab_reach_base.specs.fab_names.Orders.{name_cmp}
 use Rattle.fab_reach_base.proofs.Scanning.{none_yet, one_more}
 use Rattle.fab_world.specs.PlanRecords.{PlanRecord}
 use Rattle.fab_world.specs.Plans.{IsActive}

@@ -2,7 +2,7 @@ use Rattle.std.proofs.Common.{ℕ, ◌≤◌, rules, tests}
 use Rattle.std.specs.BTreeMap.{values}
 use Rattle.std.proofs.lemmas.Iterator.{cases_from_all}
 use Rattle.std.proofs.lemmas.Iterator.Consumers.{YieldsList-from_rest}
-use Rattle.fab_mapping.proofs.Passed.{values_have}
+use Rattle.fab_reach_base.proofs.fab_mapping.Passed.{values_have}
 use Rattle.fab_world.specs.declared.limits.TheConstants.{MOST_CHANGES}
 use Rattle.fab_world.proofs.kept.are_sound_approvals.Goals as goal
 

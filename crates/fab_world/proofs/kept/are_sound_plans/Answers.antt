@@ -2,7 +2,7 @@ use Rattle.std.proofs.Common.{rules}
 use Rattle.std.specs.BTreeMap.{values}
 use Rattle.std.proofs.lemmas.Iterator.{cases_from_all}
 use Rattle.std.proofs.lemmas.Iterator.Consumers.{YieldsList-from_rest}
-use Rattle.fab_mapping.proofs.Passed.{values_have}
+use Rattle.fab_reach_base.proofs.fab_mapping.Passed.{values_have}
 use Rattle.fab_world.specs.Soundness.{IsSoundPlan}
 use Rattle.fab_world.proofs.kept.are_sound_plans.Goals as goal
 

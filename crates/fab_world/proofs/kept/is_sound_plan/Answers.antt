@@ -1,9 +1,9 @@
 use Rattle.std.proofs.Common.{ℕ, ◌≤◌, sym, ap, subst}
-use Rattle.fab_lemmas.proofs.SeenMaps.{same_look_ups}
-use Rattle.fab_mapping.specs.Soundness.{Each}
-use Rattle.fab_names.proofs.OrderLaws.{name_total}
+use Rattle.fab_reach_base.proofs.fab_lemmas.SeenMaps.{same_look_ups}
+use Rattle.fab_reach_base.specs.fab_mapping.Soundness.{Each}
+use Rattle.fab_reach_base.proofs.fab_names.OrderLaws.{name_total}
 use Rattle.fab_plans.specs.Plans.{PlanRows}
-use Rattle.fab_plans_base.specs.Plans.{IsWithinLimits}
+use Rattle.fab_plans.specs.fab_plans_base.Plans.{IsWithinLimits}
 use Rattle.fab_world.specs.declared.limits.TheConstants.{MOST_CHANGES}
 use Rattle.fab_world.proofs.kept.is_sound_plan.Goals as goal
 

@@ -1,6 +1,6 @@
 use Rattle.std.proofs.Common.{sym, subst}
-use Rattle.fab_mapping.specs.Mappings.{HasNoClash}
-use Rattle.fab_mapping.specs.Soundness.{IsSound}
+use Rattle.fab_reach_base.specs.fab_mapping.Mappings.{HasNoClash}
+use Rattle.fab_reach_base.specs.fab_mapping.Soundness.{IsSound}
 use Rattle.fab_world.proofs.Presents.{none_found, not_found}
 use Rattle.fab_world.proofs.present.is_sound_alone.Goals as goal
 

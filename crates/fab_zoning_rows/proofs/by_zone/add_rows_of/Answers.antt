@@ -1,5 +1,5 @@
 use Rattle.std.proofs.Common.{◌∷◌, [], ◌++◌, sym}
-use Rattle.fab_lemmas.proofs.Walks.{walked, walk_end}
+use Rattle.fab_inventory.proofs.fab_lemmas.Walks.{walked, walk_end}
 use Rattle.fab_zoning_rows.proofs.Listing.{listed_none, listed_more, listed_all}
 use Rattle.fab_zoning_rows.proofs.by_zone.add_rows_of.Goals as goal
 

@@ -1,7 +1,7 @@
 use Rattle.std.proofs.Common.{ℕ, List, ◌∷◌, [], ◌++◌, sym}
 use Rattle.std.specs.BTreeSet.{BTreeSet}
-use Rattle.fab_names.specs.declared.member.Member.{Member}
-use Rattle.fab_lemmas.proofs.Walks.{walked, walk_end}
+use Rattle.fab_inventory.specs.fab_names.declared.member.Member.{Member}
+use Rattle.fab_inventory.proofs.fab_lemmas.Walks.{walked, walk_end}
 use Rattle.fab_zoning_rows.proofs.Listing.{none_listed, more_listed, all_listed}
 use Rattle.fab_zoning_rows.proofs.by_zone.rows_by_zone.Goals as goal
 

@@ -1,6 +1,6 @@
 use Rattle.std.proofs.Common.{◌≡◌, ℕ, List, ◌++◌}
 use Rattle.std.specs.BTreeSet.{BTreeSet}
-use Rattle.fab_names.specs.declared.member.Member.{Member}
+use Rattle.fab_inventory.specs.fab_names.declared.member.Member.{Member}
 use Rattle.fab_zoning_rows.proofs.Listing.{HasListed}
 use Rattle.fab_zoning_rows.proofs.by_zone.rows_by_zone.Given as goal
 

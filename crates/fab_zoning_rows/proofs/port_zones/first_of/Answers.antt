@@ -1,10 +1,10 @@
 use Rattle.std.proofs.Common.{◌≡◌, ℕ, List, ◌∷◌, [], ◌++◌, false, sym, ap, ◌∙◌}
 use Rattle.std.specs.List.{list_any}
 use Rattle.std.specs.Ordering.{eq_by_cmp}
-use Rattle.fab_names.specs.Orders.{name_cmp}
-use Rattle.fab_names.proofs.OrderLaws.{name_total, name_exact}
+use Rattle.fab_inventory.specs.fab_names.Orders.{name_cmp}
+use Rattle.fab_inventory.proofs.fab_names.OrderLaws.{name_total, name_exact}
 use Rattle.fab_zoning_rows.specs.PortZones.{in_zones}
-use Rattle.fab_lemmas.proofs.Walks.{walked, walk_end, all_push, all_found, first_key, key_there}
+use Rattle.fab_inventory.proofs.fab_lemmas.Walks.{walked, walk_end, all_push, all_found, first_key, key_there}
 use Rattle.fab_zoning_rows.proofs.port_zones.first_of.Goals as goal
 
 pub loop-zone-preserved : goal.loop-zone-preserved

@@ -3,8 +3,8 @@ use Rattle.std.specs.BTreeMap as tree
 use Rattle.std.specs.BTreeMap.{is_at}
 use Rattle.std.proofs.lemmas.Result.{err_from_is_err_and}
 use Rattle.std.proofs.lemmas.Map.Steps.{set_value_same}
-use Rattle.fab_names.specs.Orders.{name_cmp, member_cmp}
-use Rattle.fab_lemmas.specs.MapsOfSets.{in_tree}
+use Rattle.fab_inventory.specs.fab_names.Orders.{name_cmp, member_cmp}
+use Rattle.fab_inventory.specs.fab_lemmas.MapsOfSets.{in_tree}
 use Rattle.fab_zoning_rows.proofs.RowSets.{ByMember, insert_seen, contains_seen, one_key}
 use Rattle.fab_zoning_rows.proofs.rows.add_zone.Goals as goal
 

@@ -1,7 +1,7 @@
 use Rattle.std.proofs.Common.{◌≡◌, ◌≤◌, ℕ, List, ◌++◌}
 use Rattle.std.specs.BTreeSet.{BTreeSet}
 use Rattle.std.specs.FinSet as set
-use Rattle.fab_names.specs.declared.member.Member.{Member}
+use Rattle.fab_inventory.specs.fab_names.declared.member.Member.{Member}
 use Rattle.fab_zoning_rows.specs.Limits.{most_rows}
 use Rattle.fab_zoning_rows.specs.Views.{seen_rows}
 use Rattle.fab_zoning_rows.proofs.rows.count_rows.Given as goal

@@ -2,9 +2,9 @@ use Rattle.std.proofs.Common.{ℕ, ◌≡◌, List, ◌∷◌, [], ◌++◌, tru
 use mathlib.Core.Bool.{true≢false}
 use Rattle.std.specs.FinSet as set
 use Rattle.std.specs.BTreeSet.{BTreeSet}
-use Rattle.fab_names.specs.declared.member.Member.{Member}
+use Rattle.fab_inventory.specs.fab_names.declared.member.Member.{Member}
 use Rattle.fab_zoning_rows.specs.Views.{seen_rows}
-use Rattle.fab_lemmas.proofs.Walks.{walked, walk_end, all_push}
+use Rattle.fab_inventory.proofs.fab_lemmas.Walks.{walked, walk_end, all_push}
 use Rattle.fab_zoning_rows.proofs.RowSets.{IsPlainEntry, plain_seen, alias_seen}
 use Rattle.fab_zoning_rows.proofs.rows.have_no_alias.Goals as goal
 use Rattle.fab_zoning_rows.proofs.rows.have_no_alias.Goals.{else-is_alias-via-then-is_alias+else-not-is_empty, else-is_alias-via-else-is_alias}

@@ -1,6 +1,6 @@
 use Rattle.std.proofs.Common.{sym, ap, ◌∙◌, rules}
-use Rattle.fab_names.specs.Orders.{name_cmp}
-use Rattle.fab_lemmas.specs.MapsOfSets.{in_tree}
+use Rattle.fab_inventory.specs.fab_names.Orders.{name_cmp}
+use Rattle.fab_inventory.specs.fab_lemmas.MapsOfSets.{in_tree}
 use Rattle.fab_zoning_rows.specs.Views.{seen_rows}
 use Rattle.fab_zoning_rows.proofs.RowSets.{ByMember, contains_seen}
 use Rattle.fab_zoning_rows.proofs.RowsTaken.{remove_seen, remove_none}

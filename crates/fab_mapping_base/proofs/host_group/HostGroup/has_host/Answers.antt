@@ -1,8 +1,8 @@
 use Rattle.std.proofs.Common.{sym, ap, ◌∙◌}
 use Rattle.std.specs.FinSet as set
-use Rattle.fab_names.proofs.OrderLaws.{name_total}
+use Rattle.fab_inventory.proofs.fab_names.OrderLaws.{name_total}
 use Rattle.fab_mapping_base.specs.Groups.{HostGroupRows}
-use Rattle.fab_lemmas.proofs.SeenSets.{contains_seen}
+use Rattle.fab_inventory.proofs.fab_lemmas.SeenSets.{contains_seen}
 use Rattle.fab_mapping_base.proofs.host_group.HostGroup.has_host.Goals as goal
 
 pub returns : goal.returns

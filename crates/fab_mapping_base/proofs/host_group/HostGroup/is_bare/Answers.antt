@@ -1,6 +1,6 @@
 use Rattle.std.proofs.Common.{sym, ap, ◌∙◌}
 use Rattle.std.specs.FinSet as set
-use Rattle.fab_names.proofs.OrderLaws.{name_total}
+use Rattle.fab_inventory.proofs.fab_names.OrderLaws.{name_total}
 use Rattle.fab_mapping_base.specs.Groups.{HostGroupRows}
 use Rattle.fab_mapping_base.proofs.Bares.{bare_set, set_bare}
 use Rattle.fab_mapping_base.proofs.host_group.HostGroup.is_bare.Goals as goal

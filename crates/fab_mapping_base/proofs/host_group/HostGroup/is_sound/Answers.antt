@@ -1,7 +1,7 @@
 use Rattle.std.proofs.Common.{sym, ap, ◌∙◌, arith}
 use Rattle.std.specs.FinSet as set
-use Rattle.fab_names.proofs.OrderLaws.{name_total}
-use Rattle.fab_lemmas.proofs.SeenSets.{len_seen}
+use Rattle.fab_inventory.proofs.fab_names.OrderLaws.{name_total}
+use Rattle.fab_inventory.proofs.fab_lemmas.SeenSets.{len_seen}
 use Rattle.fab_mapping_base.specs.Groups.{HostGroupRows}
 use Rattle.fab_mapping_base.proofs.Sounding.{sound_hosts, no_hosts}
 use Rattle.fab_mapping_base.proofs.host_group.HostGroup.is_sound.Goals as goal

@@ -1,5 +1,5 @@
-use Rattle.fab_names.proofs.OrderLaws.{name_total, name_exact}
-use Rattle.fab_lemmas.proofs.SeenSets.{set_of_list}
+use Rattle.fab_inventory.proofs.fab_names.OrderLaws.{name_total, name_exact}
+use Rattle.fab_inventory.proofs.fab_lemmas.SeenSets.{set_of_list}
 use Rattle.fab_mapping_base.proofs.host_group.HostGroup.new.Goals as goal
 
 pub returns : goal.returns

@@ -1,7 +1,7 @@
 use Rattle.std.proofs.Common.{ap, ◌∙◌}
 use Rattle.std.specs.FinSet as set
-use Rattle.fab_names.proofs.OrderLaws.{name_total, name_exact}
-use Rattle.fab_lemmas.proofs.SeenSets.{set_remove}
+use Rattle.fab_inventory.proofs.fab_names.OrderLaws.{name_total, name_exact}
+use Rattle.fab_inventory.proofs.fab_lemmas.SeenSets.{set_remove}
 use Rattle.fab_mapping_base.specs.Groups.{HostGroupRows}
 use Rattle.fab_mapping_base.proofs.host_group.HostGroup.take_host.Goals as goal
 

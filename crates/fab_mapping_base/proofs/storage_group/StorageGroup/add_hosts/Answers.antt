@@ -1,9 +1,9 @@
 use Rattle.std.proofs.Common.{◌<◌, ◌≤◌, inl, inr, sym, ◌∙◌, subst, arith}
-use Rattle.fab_names.proofs.OrderLaws.{name_total, name_exact}
+use Rattle.fab_inventory.proofs.fab_names.OrderLaws.{name_total, name_exact}
 use Rattle.fab_mapping_base.specs.declared.fault.MappingFault.TheVariants.{Limit}
 use Rattle.fab_mapping_base.specs.declared.fault.MappingLimit.TheVariants.{Parts}
 use Rattle.fab_mapping_base.specs.Groups.{StorageGroupRows, HasRoomForHosts, AddHostsLimit}
-use Rattle.fab_lemmas.proofs.SeenSets.{contains_seen, len_seen, set_insert}
+use Rattle.fab_inventory.proofs.fab_lemmas.SeenSets.{contains_seen, len_seen, set_insert}
 use Rattle.fab_mapping_base.proofs.GroupParts.{hosts_put}
 use Rattle.fab_mapping_base.proofs.storage_group.StorageGroup.add_hosts.Goals as goal
 use Rattle.fab_mapping_base.proofs.storage_group.StorageGroup.add_hosts.Goals.{else-len-ge-MOST_GROUPS_SERVED-via-then-len-ge-MOST_GROUPS_SERVED+else-not-contains, else-len-ge-MOST_GROUPS_SERVED-via-else-len-ge-MOST_GROUPS_SERVED}

@@ -4,7 +4,7 @@ use Rattle.std.specs.FinSet as set
 use Rattle.fab_mapping_base.specs.declared.fault.MappingFault.TheVariants.{Limit}
 use Rattle.fab_mapping_base.specs.declared.fault.MappingLimit.TheVariants.{Parts}
 use Rattle.fab_mapping_base.specs.Groups.{StorageGroupRows, HasRoomForTarget, AddTargetLimit}
-use Rattle.fab_lemmas.proofs.SeenSets.{contains_seen, len_seen, set_insert}
+use Rattle.fab_inventory.proofs.fab_lemmas.SeenSets.{contains_seen, len_seen, set_insert}
 use Rattle.fab_mapping_base.proofs.GroupParts.{target_put}
 use Rattle.fab_mapping_base.proofs.storage_group.StorageGroup.add_target.Goals as goal
 use Rattle.fab_mapping_base.proofs.storage_group.StorageGroup.add_target.Goals.{else-len-ge-MOST_TARGETS-via-then-len-ge-MOST_TARGETS+else-not-contains, else-len-ge-MOST_TARGETS-via-else-len-ge-MOST_TARGETS}

@@ -3,10 +3,10 @@ use mathlib.Core.Bool.{true≢false}
 use Rattle.std.specs.Cmp.{nat_cmp_total}
 use Rattle.std.specs.FinMap as map
 use Rattle.std.specs.FinSet as set
-use Rattle.fab_names.proofs.OrderLaws.{name_total}
-use Rattle.fab_lemmas.proofs.SeenMaps.{len_entries}
-use Rattle.fab_lemmas.proofs.SeenSets.{len_seen}
-use Rattle.fab_lemmas.proofs.Tests.{within, from_within}
+use Rattle.fab_inventory.proofs.fab_names.OrderLaws.{name_total}
+use Rattle.fab_inventory.proofs.fab_lemmas.SeenMaps.{len_entries}
+use Rattle.fab_inventory.proofs.fab_lemmas.SeenSets.{len_seen}
+use Rattle.fab_inventory.proofs.fab_lemmas.Tests.{within, from_within}
 use Rattle.fab_mapping_base.specs.declared.limits.TheConstants.{MOST_GROUPS_SERVED, MOST_TARGETS, MOST_UNITS}
 use Rattle.fab_mapping_base.specs.Groups.{StorageGroupRows}
 use Rattle.fab_mapping_base.proofs.Sounding.{too_many}

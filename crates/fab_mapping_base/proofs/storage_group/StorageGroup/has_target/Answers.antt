@@ -2,7 +2,7 @@ use Rattle.std.proofs.Common.{sym, ap, ◌∙◌}
 use Rattle.std.specs.Cmp.{nat_cmp_total}
 use Rattle.std.specs.FinSet as set
 use Rattle.fab_mapping_base.specs.Groups.{StorageGroupRows}
-use Rattle.fab_lemmas.proofs.SeenSets.{contains_seen}
+use Rattle.fab_inventory.proofs.fab_lemmas.SeenSets.{contains_seen}
 use Rattle.fab_mapping_base.proofs.storage_group.StorageGroup.has_target.Goals as goal
 
 pub returns : goal.returns

@@ -5,8 +5,8 @@ use Rattle.std.specs.Cmp.Lexicographic.{bytes_decides}
 use Rattle.std.specs.FinMap as map
 use Rattle.std.specs.Map.Iter.{deref_pair}
 use Rattle.std.proofs.lemmas.Map.Iter.{rest_more, rest_all}
-use Rattle.fab_lemmas.proofs.Walks.{all_push, walked, walk_end, no_hit}
-use Rattle.fab_lemmas.proofs.SeenMaps.{looked_up, get_entries}
+use Rattle.fab_inventory.proofs.fab_lemmas.Walks.{all_push, walked, walk_end, no_hit}
+use Rattle.fab_inventory.proofs.fab_lemmas.SeenMaps.{looked_up, get_entries}
 use Rattle.fab_mapping_base.specs.Groups.{StorageGroupRows, Units}
 use Rattle.fab_mapping_base.proofs.Walked.{here_looked_up}
 use Rattle.fab_mapping_base.proofs.storage_group.StorageGroup.has_volume.Goals as goal

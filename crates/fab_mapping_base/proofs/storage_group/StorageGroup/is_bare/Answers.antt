@@ -1,7 +1,7 @@
 use Rattle.std.proofs.Common.{sym, ◌∙◌, subst}
 use mathlib.Core.Bool.{true≢false}
 use Rattle.std.specs.Cmp.{nat_cmp_total}
-use Rattle.fab_names.proofs.OrderLaws.{name_total}
+use Rattle.fab_inventory.proofs.fab_names.OrderLaws.{name_total}
 use Rattle.fab_mapping_base.specs.Bare.{HasNoPart}
 use Rattle.fab_mapping_base.proofs.Bares.{bare_set, set_bare, bare_map, map_bare}
 use Rattle.fab_mapping_base.proofs.storage_group.StorageGroup.is_bare.Goals as goal

@@ -2,7 +2,7 @@ use Rattle.std.proofs.Common.{◌≡◌, ◌<◌, ◌≤◌, ℕ, List, Option, 
 use Rattle.std.specs.Cmp.{nat_cmp_total}
 use Rattle.std.specs.FinSet as set
 use mathlib.Core.Bool.{true≢false}
-use Rattle.fab_lemmas.proofs.SeenMaps.{looked_up, get_entries, len_entries, seen_insert}
+use Rattle.fab_inventory.proofs.fab_lemmas.SeenMaps.{looked_up, get_entries, len_entries, seen_insert}
 use Rattle.fab_mapping_base.specs.declared.fault.MappingFault.TheVariants.{Limit}
 use Rattle.fab_mapping_base.specs.declared.fault.MappingLimit.TheVariants.{Parts}
 use Rattle.fab_mapping_base.specs.Groups.{StorageGroupRows, HasRoomForUnit, MapRefusal}

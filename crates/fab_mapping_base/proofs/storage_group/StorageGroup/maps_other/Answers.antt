@@ -2,7 +2,7 @@ use Rattle.std.proofs.Common.{◌≡◌, ℕ, List, Bool, true, false, not, Opti
 use mathlib.Core.Bool.{true≢false}
 use Rattle.std.specs.Cmp.{nat_cmp_total}
 use Rattle.std.specs.Cmp.Lexicographic.{bytes_decides}
-use Rattle.fab_lemmas.proofs.SeenMaps.{looked_up}
+use Rattle.fab_inventory.proofs.fab_lemmas.SeenMaps.{looked_up}
 use Rattle.fab_mapping_base.specs.Groups.{StorageGroupRows}
 use Rattle.fab_mapping_base.proofs.storage_group.StorageGroup.maps_other.Goals as goal
 

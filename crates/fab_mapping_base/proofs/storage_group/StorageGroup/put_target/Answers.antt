@@ -1,6 +1,6 @@
 use Rattle.std.specs.Cmp.{nat_cmp_total}
 use Rattle.std.specs.FinSet as set
-use Rattle.fab_lemmas.proofs.SeenSets.{set_insert}
+use Rattle.fab_inventory.proofs.fab_lemmas.SeenSets.{set_insert}
 use Rattle.fab_mapping_base.proofs.GroupParts.{target_put}
 use Rattle.fab_mapping_base.proofs.storage_group.StorageGroup.put_target.Goals as goal
 

@@ -1,6 +1,6 @@
 use Rattle.std.specs.Cmp.{nat_cmp_total}
 use Rattle.std.specs.FinSet as set
-use Rattle.fab_lemmas.proofs.SeenMaps.{seen_insert}
+use Rattle.fab_inventory.proofs.fab_lemmas.SeenMaps.{seen_insert}
 use Rattle.fab_mapping_base.proofs.GroupParts.{unit_put}
 use Rattle.fab_mapping_base.proofs.storage_group.StorageGroup.put_unit.Goals as goal
 

@@ -1,5 +1,5 @@
-use Rattle.fab_names.proofs.OrderLaws.{name_total, name_exact}
-use Rattle.fab_lemmas.proofs.SeenSets.{set_remove}
+use Rattle.fab_inventory.proofs.fab_names.OrderLaws.{name_total, name_exact}
+use Rattle.fab_inventory.proofs.fab_lemmas.SeenSets.{set_remove}
 use Rattle.fab_mapping_base.proofs.GroupParts.{hosts_gone}
 use Rattle.fab_mapping_base.proofs.storage_group.StorageGroup.remove_hosts.Goals as goal
 

@@ -1,7 +1,7 @@
 use Rattle.std.proofs.Common.{sym, ap, ◌∙◌}
 use Rattle.std.specs.Cmp.{nat_cmp_total}
 use Rattle.std.specs.FinMap as map
-use Rattle.fab_lemmas.proofs.SeenMaps.{get_entries}
+use Rattle.fab_inventory.proofs.fab_lemmas.SeenMaps.{get_entries}
 use Rattle.fab_mapping_base.specs.Groups.{StorageGroupRows}
 use Rattle.fab_mapping_base.proofs.storage_group.StorageGroup.unit.Goals as goal
 

@@ -2,7 +2,7 @@ use Rattle.std.proofs.Common.{sym, ap, ◌∙◌}
 use Rattle.std.specs.Cmp.{nat_cmp_total}
 use Rattle.std.specs.FinMap as map
 use Rattle.std.specs.FinSet as set
-use Rattle.fab_lemmas.proofs.SeenMaps.{entries_made}
+use Rattle.fab_inventory.proofs.fab_lemmas.SeenMaps.{entries_made}
 use Rattle.fab_mapping_base.specs.Groups.{StorageGroupRows}
 use Rattle.fab_mapping_base.proofs.storage_group.StorageGroup.units.Goals as goal
 

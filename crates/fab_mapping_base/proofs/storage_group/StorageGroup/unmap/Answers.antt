@@ -1,6 +1,6 @@
 use Rattle.std.specs.Cmp.{nat_cmp_total}
 use Rattle.std.specs.FinSet as set
-use Rattle.fab_lemmas.proofs.SeenMaps.{seen_remove}
+use Rattle.fab_inventory.proofs.fab_lemmas.SeenMaps.{seen_remove}
 use Rattle.fab_mapping_base.proofs.GroupParts.{unit_gone}
 use Rattle.fab_mapping_base.proofs.storage_group.StorageGroup.unmap.Goals as goal
 

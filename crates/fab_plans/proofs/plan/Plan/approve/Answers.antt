@@ -1,5 +1,5 @@
-use Rattle.fab_names.proofs.OrderLaws.{name_total, name_exact}
-use Rattle.fab_lemmas.proofs.SeenMaps.{seen_insert}
+use Rattle.fab_reach_base.proofs.fab_names.OrderLaws.{name_total, name_exact}
+use Rattle.fab_reach_base.proofs.fab_lemmas.SeenMaps.{seen_insert}
 use Rattle.fab_plans.proofs.plan.Plan.approve.Goals as goal
 
 pub returns-clause-ok : goal.returns-clause-ok

@@ -1,8 +1,8 @@
 use Rattle.std.proofs.Common.{◌≡◌, true, sym, ◌∙◌, subst}
 use Rattle.std.specs.FinSet as set
 use Rattle.std.specs.Option.{option_copied}
-use Rattle.fab_names.proofs.OrderLaws.{name_total, name_exact}
-use Rattle.fab_zoning.specs.Zonings.{FabricZoning}
+use Rattle.fab_reach_base.proofs.fab_names.OrderLaws.{name_total, name_exact}
+use Rattle.fab_reach_base.specs.fab_zoning.Zonings.{FabricZoning}
 use Rattle.fab_store_rows.specs.Gathering.{active_row}
 use Rattle.fab_store_rows.specs.Standing.{Stands}
 use Rattle.fab_store_rows.proofs.Kept.{rows_kept}

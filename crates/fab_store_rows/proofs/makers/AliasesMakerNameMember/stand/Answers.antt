@@ -1,9 +1,9 @@
 use Rattle.std.proofs.Common.{◌≡◌, true, subst}
 use Rattle.std.specs.FinMap as map
 use Rattle.std.specs.Option.{option_copied}
-use Rattle.fab_names.proofs.OrderLaws.{member_total, member_exact}
-use Rattle.fab_lemmas.specs.MapsOfSets.{has}
-use Rattle.fab_zoning.specs.Zonings.{FabricZoning}
+use Rattle.fab_reach_base.proofs.fab_names.OrderLaws.{member_total, member_exact}
+use Rattle.fab_reach_base.specs.fab_lemmas.MapsOfSets.{has}
+use Rattle.fab_reach_base.specs.fab_zoning.Zonings.{FabricZoning}
 use Rattle.fab_store_rows.specs.Gathering.{alias_row}
 use Rattle.fab_store_rows.specs.Standing.{Stands}
 use Rattle.fab_store_rows.proofs.Kept.{seen_has, rows_kept}

@@ -1,6 +1,6 @@
 use Rattle.std.proofs.Common.{rules, sym, subst}
-use Rattle.fab_inventory.specs.Inventories as inventories
-use Rattle.fab_mapping.specs.Soundness as mappings
+use Rattle.fab_reach_base.specs.fab_inventory.Inventories as inventories
+use Rattle.fab_reach_base.specs.fab_mapping.Soundness as mappings
 use Rattle.fab_world.specs.Soundness.{IsSound}
 use Rattle.fab_world.proofs.NewWorld.{new_world_is_sound}
 use Rattle.fab_world.proofs.world.World.new.Goals as goal

@@ -1,7 +1,7 @@
 use Rattle.std.proofs.Common.{List, ℕ, Bool, ◌||◌}
 use Rattle.std.specs.Option.{option_copied}
-use Rattle.fab_names.specs.Orders.{name_cmp}
-use Rattle.fab_lemmas.specs.MapsOfSets.{in_tree}
+use Rattle.fab_inventory.specs.fab_names.Orders.{name_cmp}
+use Rattle.fab_inventory.specs.fab_lemmas.MapsOfSets.{in_tree}
 use Rattle.fab_zoning_rows.specs.PortZones.{in_zones}
 use Rattle.fab_zoning_rows.proofs.PortZoneLemmas.{first_of_either}
 use Rattle.fab_zoning_rows.proofs.port_zones.PortZones.first_common.Goals as goal

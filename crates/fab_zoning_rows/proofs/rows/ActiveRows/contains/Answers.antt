@@ -1,8 +1,8 @@
 use Rattle.std.proofs.Common.{sym, ap, ◌∙◌}
 use Rattle.std.specs.FinSet as set
-use Rattle.fab_names.specs.Orders.{name_cmp}
+use Rattle.fab_inventory.specs.fab_names.Orders.{name_cmp}
 use Rattle.fab_zoning_rows.specs.Rows.{Rows}
-use Rattle.fab_lemmas.specs.MapsOfSets.{in_tree}
+use Rattle.fab_inventory.specs.fab_lemmas.MapsOfSets.{in_tree}
 use Rattle.fab_zoning_rows.proofs.RowSets.{contains_seen}
 use Rattle.fab_zoning_rows.proofs.rows.ActiveRows.contains.Goals as goal
 

@@ -1,8 +1,8 @@
 use Rattle.std.proofs.Common.{◌≡◌, sym, ap, ◌∙◌}
 use Rattle.std.specs.Option.{option_copied}
-use Rattle.fab_names.specs.declared.member.Member.TheVariants as member
-use Rattle.fab_names.specs.Orders.{name_cmp}
-use Rattle.fab_lemmas.specs.MapsOfSets.{in_tree}
+use Rattle.fab_inventory.specs.fab_names.declared.member.Member.TheVariants as member
+use Rattle.fab_inventory.specs.fab_names.Orders.{name_cmp}
+use Rattle.fab_inventory.specs.fab_lemmas.MapsOfSets.{in_tree}
 use Rattle.fab_zoning_rows.specs.Holding.{has_row}
 use Rattle.fab_zoning_rows.proofs.PortMembers.{held_exactly}
 use Rattle.fab_zoning_rows.proofs.rows.ActiveRows.zones_of.Goals as goal
