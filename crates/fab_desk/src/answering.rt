@@ -1,22 +1,25 @@
 //! Requests answered over a store.
-ghost use Rattle.std.specs.Prelude.{◌≡◌, ◌≢◌, ◌↔◌, ◌⊎◌, ℕ, List, MatchOption, true, false};
+ghost use Rattle.std.specs.Prelude.{◌≡◌, ◌≢◌, ◌↔◌, ◌⊎◌, ℕ, List, IfSome, MatchOption, true, false};
 ghost use Rattle.fab_desk_machine.specs.fab_desk_base.declared.command.Command.TheVariants as command;
 ghost use Rattle.fab_desk_machine.specs.fab_desk_base.declared.command.Query.TheVariants as query;
 ghost use Rattle.fab_desk_machine.specs.fab_desk_base.declared.fault.DeskFault.TheVariants as faults;
 ghost use Rattle.fab_desk_machine.specs.fab_desk_base.declared.reply.Reply.TheVariants as replies;
 ghost use Rattle.fab_desk_machine.specs.Proposals.{CountsStep, IsAccepted, IsEffectOf, request_of};
+ghost use Rattle.fab_desk_machine.specs.fab_desk_commands.Nexts.{next_world};
 ghost use Rattle.fab_store_base.specs.Calls.{Rises};
 ghost use Rattle.fab_world.specs.Soundness.{IsSound};
-ghost use Rattle.fab_world.specs.Worlds.{records_of};
+ghost use Rattle.fab_world.specs.Worlds.{WorldRows, records_of};
 ghost use Rattle.fab_desk.specs.Desks.{IsHandled, IsInDoubt, IsTied, IsRead};
 
 use crate::carrying::{Served, carry_out};
 use crate::ledger::Ledger;
 use crate::reading::show_paths;
 use fab_desk_machine::base::{Command, DeskFault, Query, Reply, holders_are_kept, steps_are_done};
+use fab_desk_machine::commands::Next;
 use fab_desk_machine::{Proposal, propose, sender_of};
 use fab_names::Name;
 use fab_policy_base::Policy;
+use fab_reach_base::Config;
 use fab_reach_books::PathBook;
 use fab_store_base::Store;
 use fab_world::World;
@@ -55,11 +58,22 @@ fn read_paths<A: Allocator + Copy, S: Store<A>>(
     }
 }
 
+/// Lets a spare configuration go where the parts bring another configuration.
+fn drop_if_other<A: Allocator + Copy>(spare: &mut Option<Config<A>>, next: &Next<A>)
+    ensures before { (w : WorldRows) → IfSome spare.old (λ s. s ≡ w.config) → IfSome spare.new (λ s. s ≡ w.config) }
+    ensures after { (w : WorldRows) → IfSome spare.old (λ s. s ≡ w.config) → IfSome spare.new (λ s. s ≡ (next_world w next.now).config) }
+{
+    if !next.keeps_config() {
+        *spare = None;
+    }
+}
+
 /// Answers a request by the machine, and has the store take its change.
 fn act<A: Allocator + Copy, S: Store<A>, B: PathBook<A>>(
     alloc: A,
     world: &mut World<A>,
     book: &mut B,
+    spare: &mut Option<Config<A>>,
     policy: &Policy,
     store: &mut S,
     token: &str,
@@ -68,8 +82,10 @@ fn act<A: Allocator + Copy, S: Store<A>, B: PathBook<A>>(
 ) -> Served<A>
     requires sound { IsSound world.old }
     requires stands { B.stands book.old (records_of world.old) }
+    requires spare { IfSome spare.old (λ s. s ≡ world.old.config) }
     ensures sound { IsSound world.new }
     ensures stands { B.stands book.new (records_of world.new) }
+    ensures spare { IfSome spare.new (λ s. s ≡ world.new.config) }
     ensures bounds { IsAccepted result.reply → CountsStep B.bounds world.old (IsEffectOf policy.now world.old (request_of token.now moment asked)) (B.count book.old) (B.count book.new) }
     ensures answers { IsHandled policy.now world.old (request_of token.now moment asked) result.reply world.new }
     ensures shut { result.is_shut ≡ true → (result.reply ≡ replies.Refused faults.Store) × (world.new ≡ world.old) }
@@ -84,12 +100,15 @@ fn act<A: Allocator + Copy, S: Store<A>, B: PathBook<A>>(
 {
     holders_are_kept(alloc);
     steps_are_done(alloc);
-    match propose(alloc, world, book, policy, token, moment, asked) {
+    match propose(alloc, world, book, spare, policy, token, moment, asked) {
         Proposal::Answer(reply) => Served {
             reply,
             is_shut: false,
         },
-        Proposal::Ready(change) => carry_out(alloc, world, book, store, change),
+        Proposal::Ready(change) => {
+            drop_if_other(spare, &change.next);
+            carry_out(alloc, world, book, store, change)
+        }
     }
 }
 
@@ -126,6 +145,7 @@ pub fn serve<A: Allocator + Copy, S: Store<A>, B: PathBook<A>>(
             alloc,
             &mut ledger.world,
             &mut ledger.book,
+            &mut ledger.spare,
             policy,
             store,
             token,

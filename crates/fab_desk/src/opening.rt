@@ -39,7 +39,11 @@ fn ledger_of<A: Allocator + Copy, B: PathBook<A>>(
     ensures fault { IfErr result (λ e. e ≡ faults.Memory) }
 {
     match book_of(alloc, &world) {
-        Ok(book) => Ok(Ledger { world, book }),
+        Ok(book) => Ok(Ledger {
+            world,
+            book,
+            spare: None,
+        }),
         Err(_) => Err(OpenFault::Memory),
     }
 }

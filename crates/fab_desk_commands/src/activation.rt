@@ -1,5 +1,5 @@
 //! The activation of a staged plan.
-ghost use Rattle.std.specs.Prelude.{◌<◌, ℕ, List, IfOk, IfErr};
+ghost use Rattle.std.specs.Prelude.{◌≡◌, ◌<◌, ℕ, List, IfOk, IfErr, IfSome};
 ghost use Rattle.fab_reach_base.specs.Soundness.{IsSoundBeside};
 ghost use Rattle.fab_store_rows.specs.Differences.{IsDifference};
 ghost use Rattle.fab_world.specs.fab_plans.Outcomes.{IsOutcome};
@@ -15,15 +15,16 @@ ghost use Rattle.fab_desk_commands.specs.Trials.{IsOutcomeFault, IsSoundAfter};
 use crate::found::staged_at;
 use crate::{Next, Turn};
 use fab_desk_base::DeskFault;
-use fab_plans_rows::changed_rows;
+use fab_plans_rows::outcome_of;
 use fab_reach_base::Config;
 use fab_reach_base::names::Name;
 use fab_store_rows::RowDifference;
-use fab_world::plans::{TrialFault, trial};
+use fab_world::plans::TrialFault;
 use fab_world::{KeptPlan, World};
 use std::alloc::Allocator;
 
-/// The configuration that the plan's steps make of the world's, and the rows that they change.
+/// The configuration that the plan's steps make of the world's, and the rows that they change. The
+/// spare configuration is taken for it, if there is one.
 ///
 /// # Errors
 /// `Plan` with the number and the refusal of the first step that is refused, or 0 and the least
@@ -31,31 +32,32 @@ use std::alloc::Allocator;
 fn outcome<A: Allocator + Copy>(
     alloc: A,
     world: &World<A>,
+    spare: &mut Option<Config<A>>,
     kept: &KeptPlan<A>,
 ) -> Result<(Config<A>, RowDifference<A>), DeskFault>
+    requires sound { IsSound world.now }
+    requires spare { IfSome spare.old (λ s. s ≡ world.now.config) }
     ensures ok { IfOk result (λ made. IsOutcome world.now.inventory kept.now.steps world.now.config made.0) }
     ensures differs { IfOk result (λ made. IsDifference world.now.config made.0 made.1.taken.items made.1.added.items) }
     ensures sound { IfOk result (λ made. IsSoundBeside world.now.inventory world.now.config → IsSoundBeside world.now.inventory made.0) }
     ensures err { IfErr result (IsOutcomeFault world.now kept.now.steps) }
+    ensures spare { IfSome spare.new (λ s. s ≡ world.now.config) }
 {
     let plan = kept.plan();
     let Ok(steps) = plan.text.steps(alloc) else {
         return Err(DeskFault::Memory);
     };
     let steps = steps.as_slice();
-    let after = match trial(&world.config, &world.inventory, steps) {
-        Ok(after) => after,
-        Err(TrialFault::Refused { step, refusal }) => return Err(DeskFault::Plan { step, refusal }),
-        Err(TrialFault::Memory) => return Err(DeskFault::Memory),
-    };
-    match changed_rows(alloc, &world.config, &after, steps) {
-        Ok(change) => Ok((after, change)),
-        Err(_) => Err(DeskFault::Memory),
+    match outcome_of(alloc, &world.config, spare, &world.inventory, steps) {
+        Ok(made) => Ok(made),
+        Err(TrialFault::Refused { step, refusal }) => Err(DeskFault::Plan { step, refusal }),
+        Err(TrialFault::Memory) => Err(DeskFault::Memory),
     }
 }
 
 /// What the activation of the plan would make: the configuration that its steps make, the plan,
-/// active, with what it changes, and the plan as the last in force.
+/// active, with what it changes, and the plan as the last in force. The spare configuration is taken
+/// for it, if there is one.
 ///
 /// # Errors
 /// `WrongState` with its state, where the plan is not staged; `Plan` with the number and the refusal
@@ -63,22 +65,25 @@ fn outcome<A: Allocator + Copy>(
 pub fn activated<A: Allocator + Copy>(
     alloc: A,
     world: &World<A>,
+    spare: &mut Option<Config<A>>,
     plan: &Name,
 ) -> Result<Next<A>, DeskFault>
     requires there { HasPlan world.now plan.now }
     requires sound { IsSound world.now }
+    requires spare { IfSome spare.old (λ s. s ≡ world.now.config) }
     ensures ok { (caller : List ℕ) → IfOk result (λ next. IsMade {A = A.row.Denot} world.now caller (Activate plan.now) (next_world world.now next)) }
     ensures kind { IfOk result (IsReconfiguration plan.now) }
     ensures suits { IfOk result (λ next. world.now.revision < MOST_CHANGES → Suits world.now next) }
     ensures tells { IfOk result (TellsRows world.now) }
     ensures sound { IfOk result (λ next. IsSoundAfter {A = A.row.Denot} world.now (Activate plan.now) (next_world world.now next)) }
     ensures err { (caller : List ℕ) → IfErr result (IsTryFault {A = A.row.Denot} world.now caller (Activate plan.now)) }
+    ensures spare { IfSome spare.new (λ s. s ≡ world.now.config) }
 {
     let kept = match staged_at(world, plan) {
         Ok(kept) => kept,
         Err(fault) => return Err(fault),
     };
-    match outcome(alloc, world, kept) {
+    match outcome(alloc, world, spare, kept) {
         Ok((config, change)) => Ok(Next::Reconfigured {
             config,
             name: *plan,

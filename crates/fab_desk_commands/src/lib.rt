@@ -20,6 +20,7 @@ mod volumes;
 
 pub use activation::activated;
 pub use again::copied;
+pub use fab_plans_rows::spare_after;
 pub use holders::{holder_dropped, holder_put};
 pub use imports::imported;
 pub use next::{Next, Turn};

@@ -1,10 +1,10 @@
 //! The parts of the world after a change.
-ghost use Rattle.std.specs.Prelude.{◌≡◌, ◌<◌, OnOk, OnErr, true};
+ghost use Rattle.std.specs.Prelude.{◌≡◌, ◌<◌, OnOk, OnErr, IfSome, IsTrue, true};
 ghost use Rattle.std.specs.FinMap as map;
 ghost use Rattle.fab_world.specs.declared.limits.TheConstants.{MOST_CHANGES};
 ghost use Rattle.fab_desk_base.specs.Effects.{counted, with_inventory, with_plan};
 ghost use Rattle.fab_world.specs.Worlds.{WorldRows};
-ghost use Rattle.fab_desk_commands.specs.Nexts.{blank_plan, next_world, order_from_room, order_with_room, order_without_room, turned_at, with_room, without_room, IsReadyFor, LeadsAt};
+ghost use Rattle.fab_desk_commands.specs.Nexts.{blank_plan, next_world, order_from_room, order_with_room, order_without_room, turned_at, with_room, without_room, IsReadyFor, LeadsAt, Suits, TellsChange};
 
 use crate::rooms::{make_place, pop_last, push_last, put_in_place, remove_place};
 use crate::turns::turn_at;
@@ -191,6 +191,30 @@ fn reconfigure_by<A: Allocator + Copy>(
 }
 
 impl<A: Allocator + Copy> Next<A> {
+    /// Whether the configuration stays as it is.
+    pub fn keeps_config(&self) -> bool
+        ensures { IsTrue result → (w : WorldRows) → (next_world w self.now).config ≡ w.config }
+    {
+        match self {
+            Next::Reconfigured { .. } => false,
+            Next::Same | Next::Stock { .. } | Next::Staged { .. } | Next::Turned { .. } => true,
+        }
+    }
+
+    /// The other configuration that the parts have, with the turn that led to it, if they have one.
+    pub fn into_config(self) -> Option<(Config<A>, Turn<A>)>
+        ensures { (w : WorldRows) → Suits w self → IfSome result (λ c. TellsChange w.config c.0 c.1 × ((next_world w self).config ≡ c.0)) }
+    {
+        match self {
+            Next::Reconfigured {
+                config,
+                name: _name,
+                turn,
+            } => Some((config, turn)),
+            _ => None,
+        }
+    }
+
     /// Makes room for the parts: a plan that is new has its place then, where a plan without steps
     /// stands until it is taken over, or the room is given back; and a plan that is activated is the
     /// last in the order.

@@ -1,5 +1,5 @@
 //! The rollback of the last plan in force.
-ghost use Rattle.std.specs.Prelude.{◌<◌, ℕ, List, length, IfOk, IfErr, OnOk, MatchOption};
+ghost use Rattle.std.specs.Prelude.{◌≡◌, ◌<◌, ℕ, List, length, IfOk, IfErr, IfSome, OnOk, MatchOption};
 ghost use Rattle.fab_reach_base.specs.Records.{ConfigRows};
 ghost use Rattle.fab_store_rows.specs.Differences.{IsDifference};
 ghost use Rattle.fab_reach_base.specs.fab_mapping.Gone.{IsFirstGone};
@@ -20,6 +20,7 @@ use crate::again::turned_round;
 use crate::found::active_at;
 use crate::{Next, Turn};
 use fab_desk_base::DeskFault;
+use fab_plans_rows::take_spare;
 use fab_reach_base::Config;
 use fab_reach_base::mapping::Gone;
 use fab_reach_base::names::Name;
@@ -49,23 +50,27 @@ fn judge_last<A: Allocator + Copy>(world: &World<A>, plan: &Name) -> Result<(), 
 }
 
 /// The configuration from before the activation of the plan, which is there: the rows that it took
-/// come back, and those that it added go. The world is sound, so this one needs no test.
+/// come back, and those that it added go, on the spare configuration, which is taken, or on a copy. The
+/// world is sound, so this one needs no test.
 ///
 /// # Errors
 /// `AllocError` where there is no memory.
 fn config_before<A: Allocator + Copy>(
     alloc: A,
     world: &World<A>,
+    spare: &mut Option<Config<A>>,
     kept: &KeptPlan<A>,
 ) -> Result<Config<A>, AllocError>
     requires sound { IsSound world.now }
     requires earlier { HasEarlier world.now kept.now }
-    ensures { IfOk result (IsBeforePlan world.now kept.now) }
+    requires spare { IfSome spare.old (λ s. s ≡ world.now.config) }
+    ensures before { IfOk result (IsBeforePlan world.now kept.now) }
+    ensures spare { IfSome spare.new (λ s. s ≡ world.now.config) }
 {
     let Some(undo) = kept.undo() else {
         unreachable!();
     };
-    let mut config = world.config.copy()?;
+    let mut config = take_spare(&world.config, spare)?;
     if !lead(
         alloc,
         &mut config,
@@ -101,14 +106,17 @@ fn gone_before<A: Allocator + Copy>(
 fn restored<A: Allocator + Copy>(
     alloc: A,
     world: &World<A>,
+    spare: &mut Option<Config<A>>,
     kept: &KeptPlan<A>,
 ) -> Result<Config<A>, DeskFault>
     requires sound { IsSound world.now }
     requires earlier { HasEarlier world.now kept.now }
+    requires spare { IfSome spare.old (λ s. s ≡ world.now.config) }
     ensures ok { IfOk result (λ before. IsBeforePlan world.now kept.now before × Fits world.now.inventory before.mapping) }
     ensures err { IfErr result (IsRestoreFault world.now kept.now) }
+    ensures spare { IfSome spare.new (λ s. s ≡ world.now.config) }
 {
-    let Ok(before) = config_before(alloc, world, kept) else {
+    let Ok(before) = config_before(alloc, world, spare, kept) else {
         return Err(DeskFault::Memory);
     };
     match gone_before(world, kept, &before) {
@@ -154,7 +162,8 @@ fn parts_before<A: Allocator + Copy>(
 }
 
 /// What the rollback of the plan would make: the configuration from before its activation, the
-/// plan, rolled back, and the plans in force without it. The inventory stays.
+/// plan, rolled back, and the plans in force without it. The inventory stays. The spare configuration is
+/// taken for it, if there is one.
 ///
 /// # Errors
 /// `WrongState` with its state, where the plan is not active; `NotLast` with the last plan in
@@ -163,16 +172,19 @@ fn parts_before<A: Allocator + Copy>(
 pub fn rolled_back<A: Allocator + Copy>(
     alloc: A,
     world: &World<A>,
+    spare: &mut Option<Config<A>>,
     plan: &Name,
 ) -> Result<Next<A>, DeskFault>
     requires there { HasPlan world.now plan.now }
     requires sound { IsSound world.now }
+    requires spare { IfSome spare.old (λ s. s ≡ world.now.config) }
     ensures ok { (caller : List ℕ) → IfOk result (λ next. IsMade {A = A.row.Denot} world.now caller (Rollback plan.now) (next_world world.now next)) }
     ensures kind { IfOk result (IsReconfiguration plan.now) }
     ensures suits { IfOk result (λ next. world.now.revision < MOST_CHANGES → Suits world.now next) }
     ensures tells { IfOk result (TellsRows world.now) }
     ensures sound { IfOk result (λ next. IsSoundAfter {A = A.row.Denot} world.now (Rollback plan.now) (next_world world.now next)) }
     ensures err { (caller : List ℕ) → IfErr result (IsTryFault {A = A.row.Denot} world.now caller (Rollback plan.now)) }
+    ensures spare { IfSome spare.new (λ s. s ≡ world.now.config) }
 {
     let kept = match active_at(world, plan) {
         Ok(kept) => kept,
@@ -181,7 +193,7 @@ pub fn rolled_back<A: Allocator + Copy>(
     if let Err(fault) = judge_last(world, plan) {
         return Err(fault);
     }
-    let config = match restored(alloc, world, kept) {
+    let config = match restored(alloc, world, spare, kept) {
         Ok(config) => config,
         Err(fault) => return Err(fault),
     };

@@ -1,5 +1,5 @@
 -- What a request would change, and why it would not be done.
-use Rattle.std.proofs.Common.{ℕ, ◌≡◌, ◌⊎◌, inl, inr, List, IsSome, Some, Result, Ok, Err, IfOk, refl, subst}
+use Rattle.std.proofs.Common.{ℕ, inl, inr, List, IsSome, Some, Result, Ok, Err, IfOk, refl, subst}
 use Rattle.fab_policy.specs.declared.act.Verdict.TheVariants.{Allowed}
 use Rattle.fab_policy.specs.fab_policy_base.Policies.{PolicyRows}
 use Rattle.fab_reach_base.specs.Records.{Records}
@@ -9,7 +9,6 @@ use Rattle.fab_desk_base.specs.Answers.{IsThere}
 use Rattle.fab_desk_base.specs.Commands.{IsGiven, action_of}
 use Rattle.fab_desk_base.specs.declared.command.Command.{Command}
 use Rattle.fab_desk_base.specs.declared.fault.DeskFault.{DeskFault}
-use Rattle.fab_desk_base.specs.declared.reply.Reply.{Reply}
 use Rattle.fab_desk_base.specs.declared.reply.Reply.TheVariants as reply
 use Rattle.fab_desk_machine.specs.Foreseen.{IsForeseen, IsStopped, IsTurnedAway, IsTurnedDown}
 use Rattle.fab_desk_machine.specs.Proposals.{IsSenderOf, request_of}

@@ -5,7 +5,7 @@ ghost use Rattle.fab_world.specs.Worlds.{records_of};
 ghost use Rattle.fab_desk_machine.specs.Proposals.{AreAnswered, CountsStep, IsAccepted, IsAnswered, IsEffectOf, asked_of, request_of};
 
 use crate::change::carry_through;
-use crate::proposing::{Proposal, propose};
+use crate::proposing::{Proposal, propose_on_copies};
 use fab_desk_base::{Command, Reply};
 use fab_policy::base::Policy;
 use fab_reach_books::PathBook;
@@ -38,7 +38,7 @@ pub fn answer<A: Allocator + Copy, B: PathBook<A>>(
     ensures answers { IsAnswered policy.now world.old (request_of token.now moment command) result world.new }
     ensures bounds { IsAccepted result → CountsStep B.bounds world.old (IsEffectOf policy.now world.old (request_of token.now moment command)) (B.count book.old) (B.count book.new) }
 {
-    match propose(alloc, world, book, policy, token, moment, command) {
+    match propose_on_copies(alloc, world, book, policy, token, moment, command) {
         Proposal::Answer(reply) => reply,
         Proposal::Ready(change) => carry_through(alloc, change, world, book),
     }

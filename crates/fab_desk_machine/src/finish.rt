@@ -1,5 +1,5 @@
 //! What a command comes to that was tried.
-ghost use Rattle.std.specs.Prelude.{◌≡◌, ◌⊎◌, ℕ, None, IsSome, IfOk, MatchOption};
+ghost use Rattle.std.specs.Prelude.{◌≡◌, ◌⊎◌, ℕ, None, Some, IsSome, IfOk, IfSome, MatchOption};
 ghost use Rattle.fab_policy.specs.declared.act.Verdict.TheVariants.{Allowed};
 ghost use Rattle.fab_policy.specs.fab_policy_base.Policies.{PolicyRows};
 ghost use Rattle.fab_reach_base.specs.Books.{IsDelta};
@@ -23,8 +23,9 @@ use crate::report::report_of;
 use crate::verdicts::{Sender, denial, moved_by};
 use fab_desk_base::{Command, DeskFault, Reply};
 use fab_desk_trials::commands::{Next, staged_next};
-use fab_desk_trials::{Effect, Prepared};
+use fab_desk_trials::{Effect, Prepared, spare_of};
 use fab_policy::base::Policy;
+use fab_reach_base::Config;
 use fab_reach_base::names::Name;
 use fab_reach_books::PathBook;
 use fab_world::World;
@@ -164,22 +165,54 @@ fn ready<A: Allocator + Copy, B: PathBook<A>>(
     }
 }
 
+/// What an allowed dry run is answered. The effect leaves a spare configuration.
+fn answer_dry_run<A: Allocator + Copy, B: PathBook<A>>(
+    alloc: A,
+    world: &World<A>,
+    book: &B,
+    spare: &mut Option<Config<A>>,
+    sender: &Sender,
+    command: &Command<A>,
+    plan: Name,
+    prepared: Prepared<A, B::Ready>,
+) -> Reply<A>
+    requires sound { IsSound world.now }
+    requires prepared { IsPrepared (B.leads book.now) world.now sender.now.name command.now prepared }
+    requires dry_run { dry_run_plan_of command.now ≡ Some plan }
+    ensures answers { (p : PolicyRows) → IsJudged p world.now sender.now.id sender.now.name sender.now.moment command.now Allowed
+        → IsMemory result ⊎ IsCarriedOut p world.now sender.now.id sender.now.name sender.now.moment command.now result world.now }
+    ensures spare { IfSome spare.new (λ s. s ≡ world.now.config) }
+{
+    let reply = dry_run(alloc, book, plan, &prepared.step);
+    let Prepared {
+        effect,
+        step: _step,
+    } = prepared;
+    *spare = spare_of(alloc, world, &sender.name, command, effect);
+    reply
+}
+
 /// What an allowed command comes to: what its dry run is answered, or its change.
 fn allowed<A: Allocator + Copy, B: PathBook<A>>(
     alloc: A,
     world: &World<A>,
     book: &B,
+    spare: &mut Option<Config<A>>,
     sender: &Sender,
     command: Command<A>,
     prepared: Prepared<A, B::Ready>,
 ) -> Proposal<A, B::Ready>
     requires sound { IsSound world.now }
     requires prepared { IsPrepared (B.leads book.now) world.now sender.now.name command prepared }
-    ensures { (p : PolicyRows) → IsJudged p world.now sender.now.id sender.now.name sender.now.moment command Allowed
+    requires spare { IfSome spare.old (λ s. s ≡ world.now.config) }
+    ensures proposes { (p : PolicyRows) → IsJudged p world.now sender.now.id sender.now.name sender.now.moment command Allowed
         → IsProposalFor (B.leads book.now) (IsCarriedOut p world.now sender.now.id sender.now.name sender.now.moment command) world.now result }
+    ensures spare { IfSome spare.new (λ s. s ≡ world.now.config) }
 {
     match dry_run_plan(&command) {
-        Some(plan) => Proposal::Answer(dry_run(alloc, book, plan, &prepared.step)),
+        Some(plan) => Proposal::Answer(answer_dry_run(
+            alloc, world, book, spare, sender, &command, plan, prepared,
+        )),
         None => ready(alloc, world, book, sender, command, prepared),
     }
 }
@@ -216,6 +249,7 @@ pub fn carry_out<A: Allocator + Copy, B: PathBook<A>>(
     alloc: A,
     world: &World<A>,
     book: &B,
+    spare: &mut Option<Config<A>>,
     policy: &Policy,
     sender: &Sender,
     command: Command<A>,
@@ -225,11 +259,20 @@ pub fn carry_out<A: Allocator + Copy, B: PathBook<A>>(
     requires prepared { IsPrepared (B.leads book.now) world.now sender.now.name command prepared }
     requires there { (p : PolicyRows) (i : ℕ) → IsThere p world.now i command }
     requires change { IsSome (action_of command) }
-    ensures { IsProposalFor (B.leads book.now) (IsEnd policy.now world.now sender.now.id sender.now.name sender.now.moment command) world.now result }
+    requires spare { IfSome spare.old (λ s. s ≡ world.now.config) }
+    ensures proposes { IsProposalFor (B.leads book.now) (IsEnd policy.now world.now sender.now.id sender.now.name sender.now.moment command) world.now result }
+    ensures spare { IfSome spare.new (λ s. s ≡ world.now.config) }
 {
     match denied(alloc, world, book, policy, sender, &command, &prepared) {
-        Ok(None) => allowed(alloc, world, book, sender, command, prepared),
-        Ok(Some(denied)) => Proposal::Answer(Reply::Refused(denied)),
+        Ok(None) => allowed(alloc, world, book, spare, sender, command, prepared),
+        Ok(Some(denied)) => {
+            let Prepared {
+                effect,
+                step: _step,
+            } = prepared;
+            *spare = spare_of(alloc, world, &sender.name, &command, effect);
+            Proposal::Answer(Reply::Refused(denied))
+        }
         Err(_) => Proposal::Answer(Reply::Refused(DeskFault::Memory)),
     }
 }

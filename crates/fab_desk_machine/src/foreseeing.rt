@@ -68,7 +68,8 @@ fn foresee_there<A: Allocator + Copy, B: PathBook<A>>(
     ensures prepared { IfOk result (IsPrepared (B.leads book.new) world.now sender.now.name command.now) }
     ensures err { IfErr result (IsStopped policy.now world.now sender.now.id sender.now.name sender.now.moment command.now) }
 {
-    match try_out(alloc, world, book, &sender.name, command) {
+    let mut spare = None;
+    match try_out(alloc, world, book, &mut spare, &sender.name, command) {
         Ok(prepared) => unless_denied(alloc, world, book, policy, sender, command, prepared),
         Err(fault) => {
             if is_memory(&fault) {

@@ -1,5 +1,5 @@
 //! What is proposed for a request.
-ghost use Rattle.std.specs.Prelude.{◌≡◌, ◌⊎◌, ◌↔◌, ℕ, IsSome, IsTrue, slice_get, Some};
+ghost use Rattle.std.specs.Prelude.{◌≡◌, ◌⊎◌, ◌↔◌, ℕ, IfSome, IsSome, IsTrue, slice_get, Some};
 ghost use Rattle.fab_policy.specs.fab_policy_base.Policies.{CallerRow, PolicyRows};
 ghost use Rattle.fab_policy.specs.fab_policy_base.Callers.{IsOnlyWith};
 ghost use Rattle.fab_world.specs.Soundness.{IsSound};
@@ -19,6 +19,7 @@ use fab_desk_base::{Command, DeskFault, Query, Reply};
 use fab_desk_reads::shown;
 use fab_desk_trials::try_out;
 use fab_policy::base::Policy;
+use fab_reach_base::Config;
 use fab_reach_books::PathBook;
 use fab_world::World;
 use std::alloc::Allocator;
@@ -78,21 +79,24 @@ fn end<A: Allocator + Copy, B: PathBook<A>>(
     alloc: A,
     world: &World<A>,
     book: &mut B,
+    spare: &mut Option<Config<A>>,
     policy: &Policy,
     sender: &Sender,
     command: Command<A>,
 ) -> Proposal<A, B::Ready>
     requires sound { IsSound world.now }
     requires stands { B.stands book.old (records_of world.now) }
+    requires spare { IfSome spare.old (λ s. s ≡ world.now.config) }
     requires given { IsGiven command }
     requires there { (p : PolicyRows) (i : ℕ) → IsThere p world.now i command }
     requires change { IsSome (action_of command) }
     ensures stays { B.stands book.new (records_of world.now) }
     ensures proposes { IsProposalFor (B.leads book.new) (IsEnd policy.now world.now sender.now.id sender.now.name sender.now.moment command) world.now result }
     ensures bounds { MayAccept result → CountsStep B.bounds world.now (IsEffect world.now sender.now.name command) (B.count book.old) (B.count book.new) }
+    ensures spare { IfSome spare.new (λ s. s ≡ world.now.config) }
 {
-    match try_out(alloc, world, book, &sender.name, &command) {
-        Ok(prepared) => carry_out(alloc, world, book, policy, sender, command, prepared),
+    match try_out(alloc, world, book, spare, &sender.name, &command) {
+        Ok(prepared) => carry_out(alloc, world, book, spare, policy, sender, command, prepared),
         Err(fault) => {
             if is_memory(&fault) {
                 return Proposal::Answer(Reply::Refused(DeskFault::Memory));
@@ -107,16 +111,19 @@ fn act<A: Allocator + Copy, B: PathBook<A>>(
     alloc: A,
     world: &World<A>,
     book: &mut B,
+    spare: &mut Option<Config<A>>,
     policy: &Policy,
     sender: &Sender,
     command: Command<A>,
 ) -> Proposal<A, B::Ready>
     requires sound { IsSound world.now }
     requires stands { B.stands book.old (records_of world.now) }
+    requires spare { IfSome spare.old (λ s. s ≡ world.now.config) }
     requires change { IsSome (action_of command) }
     ensures stays { B.stands book.new (records_of world.now) }
     ensures proposes { IsProposalFor (B.leads book.new) (IsAnswerTo policy.now world.now sender.now.id sender.now.name sender.now.moment command) world.now result }
     ensures bounds { MayAccept result → CountsStep B.bounds world.now (IsEffect world.now sender.now.name command) (B.count book.old) (B.count book.new) }
+    ensures spare { IfSome spare.new (λ s. s ≡ world.now.config) }
 {
     if !is_given(&command) {
         return Proposal::Answer(Reply::Refused(DeskFault::BadBody { line: 0 }));
@@ -124,7 +131,7 @@ fn act<A: Allocator + Copy, B: PathBook<A>>(
     if !is_there(world, &command) {
         return Proposal::Answer(Reply::Refused(DeskFault::NotFound));
     }
-    end(alloc, world, book, policy, sender, command)
+    end(alloc, world, book, spare, policy, sender, command)
 }
 
 /// What is proposed for the command of a known caller.
@@ -132,19 +139,22 @@ fn answer_to<A: Allocator + Copy, B: PathBook<A>>(
     alloc: A,
     world: &World<A>,
     book: &mut B,
+    spare: &mut Option<Config<A>>,
     policy: &Policy,
     sender: &Sender,
     command: Command<A>,
 ) -> Proposal<A, B::Ready>
     requires sound { IsSound world.now }
     requires stands { B.stands book.old (records_of world.now) }
+    requires spare { IfSome spare.old (λ s. s ≡ world.now.config) }
     ensures stays { B.stands book.new (records_of world.now) }
     ensures proposes { IsProposalFor (B.leads book.new) (IsAnswerTo policy.now world.now sender.now.id sender.now.name sender.now.moment command) world.now result }
     ensures bounds { MayAccept result → CountsStep B.bounds world.now (IsEffect world.now sender.now.name command) (B.count book.old) (B.count book.new) }
+    ensures spare { IfSome spare.new (λ s. s ≡ world.now.config) }
 {
     match query_of(&command) {
         Some(query) => Proposal::Answer(read(alloc, world, book, policy, sender, &query)),
-        None => act(alloc, world, book, policy, sender, command),
+        None => act(alloc, world, book, spare, policy, sender, command),
     }
 }
 
@@ -175,9 +185,37 @@ pub fn sender_of(policy: &Policy, token: &str, moment: u64) -> Option<Sender>
 /// records, the limits on paths and on changes the last of them; of a dry run the lists of paths
 /// that the activation gains and loses; else the change. Want of memory is answered `Memory`.
 ///
+/// A spare configuration, equal to the world's, saves the steps of a plan the copy of the world's. It is
+/// taken for them, and a dry run that is answered leaves one.
+///
 /// The count of the book's questions rises within the bounds of a step to the command's effect, where
 /// the command is done or its dry run is answered; of what is refused nothing is said of it.
 pub fn propose<A: Allocator + Copy, B: PathBook<A>>(
+    alloc: A,
+    world: &World<A>,
+    book: &mut B,
+    spare: &mut Option<Config<A>>,
+    policy: &Policy,
+    token: &str,
+    moment: u64,
+    command: Command<A>,
+) -> Proposal<A, B::Ready>
+    requires sound { IsSound world.now }
+    requires stands { B.stands book.old (records_of world.now) }
+    requires spare { IfSome spare.old (λ s. s ≡ world.now.config) }
+    ensures stays { B.stands book.new (records_of world.now) }
+    ensures proposes { IsProposalFor (B.leads book.new) (IsStep policy.now world.now (request_of token.now moment command)) world.now result }
+    ensures bounds { MayAccept result → CountsStep B.bounds world.now (IsEffectOf policy.now world.now (request_of token.now moment command)) (B.count book.old) (B.count book.new) }
+    ensures spare { IfSome spare.new (λ s. s ≡ world.now.config) }
+{
+    match sender_of(policy, token, moment) {
+        Some(sender) => answer_to(alloc, world, book, spare, policy, &sender, command),
+        None => Proposal::Answer(Reply::Refused(DeskFault::NoCaller)),
+    }
+}
+
+/// What is proposed for a request where no spare configuration is kept: as `propose` says.
+pub fn propose_on_copies<A: Allocator + Copy, B: PathBook<A>>(
     alloc: A,
     world: &World<A>,
     book: &mut B,
@@ -192,8 +230,8 @@ pub fn propose<A: Allocator + Copy, B: PathBook<A>>(
     ensures proposes { IsProposalFor (B.leads book.new) (IsStep policy.now world.now (request_of token.now moment command)) world.now result }
     ensures bounds { MayAccept result → CountsStep B.bounds world.now (IsEffectOf policy.now world.now (request_of token.now moment command)) (B.count book.old) (B.count book.new) }
 {
-    match sender_of(policy, token, moment) {
-        Some(sender) => answer_to(alloc, world, book, policy, &sender, command),
-        None => Proposal::Answer(Reply::Refused(DeskFault::NoCaller)),
-    }
+    let mut spare = None;
+    propose(
+        alloc, world, book, &mut spare, policy, token, moment, command,
+    )
 }

@@ -262,7 +262,17 @@ fn taken_over<'a, R: Abort + AllocGlobal, B: PathBook<Heap<'a>>>(
 {
     let mut book: B = filled(rt, means, world, case.before.0);
     let command = command(rt, means.heap, case.order);
-    match propose(means.heap, world, &mut book, means.policy, ADA, 0, command) {
+    let mut spare = None;
+    match propose(
+        means.heap,
+        world,
+        &mut book,
+        &mut spare,
+        means.policy,
+        ADA,
+        0,
+        command,
+    ) {
         Proposal::Answer(_) => panic!(rt; "a change"),
         Proposal::Ready(change) => come_without(rt, means, world, &mut book, change),
     }

@@ -34,6 +34,7 @@ pub enum Order {
     Volume,
     /// A plan that gives the host the volume.
     Stage,
+    DryRun,
     Activate,
     Rollback,
     /// The target, and another initiator in place of the first.
@@ -130,6 +131,9 @@ pub fn command<'a, R: Abort + AllocGlobal>(
         Order::Array => put(rt, heap, HolderKind::Array, "arr1", FIRST_TARGET),
         Order::Volume => put_volume(rt),
         Order::Stage => stage(rt, heap),
+        Order::DryRun => Command::DryRun {
+            plan: named(rt, "p1"),
+        },
         Order::Activate => Command::Activate {
             plan: named(rt, "p1"),
         },

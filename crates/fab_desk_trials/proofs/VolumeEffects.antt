@@ -1,5 +1,5 @@
 -- A command on a volume leaves an inventory that is one with that before, but for the volume.
-use Rattle.std.proofs.Common.{◌≡◌, List, ℕ, sym, ap, subst}
+use Rattle.std.proofs.Common.{List, ℕ, sym, ap, subst}
 use Rattle.fab_reach_base.specs.fab_inventory.declared.holder.Volume.{Volume}
 use Rattle.fab_reach_base.specs.fab_inventory.Inventories.{InventoryRows}
 use Rattle.fab_store_world.specs.Inventories.{AreOneButVolume}

@@ -1,5 +1,5 @@
 //! What a command would make of the world, the limits on paths and on changes aside.
-ghost use Rattle.std.specs.Prelude.{◌≡◌, ℕ, IsSome, IfOk, IfErr};
+ghost use Rattle.std.specs.Prelude.{◌≡◌, ℕ, IsSome, IfOk, IfErr, IfSome};
 ghost use Rattle.fab_store_world.specs.Inventories.{AreOneButVolume};
 ghost use Rattle.fab_world.specs.Soundness.{IsSound};
 ghost use Rattle.fab_policy.specs.fab_policy_base.Policies.{PolicyRows};
@@ -13,6 +13,7 @@ use fab_desk_commands::{
     Next, activated, approved, holder_dropped, holder_put, imported, is_staged_already,
     rolled_back, volume_dropped, volume_put, withdrawn,
 };
+use fab_reach_base::Config;
 use fab_reach_base::inventory::Inventory;
 use fab_reach_base::names::Name;
 use fab_store_world::{inventory_difference, volume_difference};
@@ -97,22 +98,26 @@ fn of_staging<A: Allocator + Copy>(tried: Result<bool, DeskFault>) -> Result<Eff
 }
 
 /// What the command would make of the world, the limits on paths and on changes aside. A dry run
-/// is tried as the activation. A read has no effect, and is not asked.
+/// is tried as the activation, on the spare configuration, which is taken, if there is one. A read has
+/// no effect, and is not asked.
 ///
 /// # Errors
 /// The first refusal of the records, or `Memory`.
 pub fn effect_of<A: Allocator + Copy>(
     alloc: A,
     world: &World<A>,
+    spare: &mut Option<Config<A>>,
     caller: &Name,
     command: &Command<A>,
 ) -> Result<Effect<A>, DeskFault>
     requires sound { IsSound world.now }
+    requires spare { IfSome spare.old (λ s. s ≡ world.now.config) }
     requires given { IsGiven command.now }
     requires there { (p : PolicyRows) (id : ℕ) → IsThere p world.now id command.now }
     requires change { IsSome (action_of command.now) }
     ensures ok { IfOk result (IsTried world.now caller.now command.now) }
     ensures err { IfErr result (IsTryFault world.now caller.now (tried command.now)) }
+    ensures spare { IfSome spare.new (λ s. s ≡ world.now.config) }
 {
     match command {
         Command::Import { fabric, rows } => of_stock(alloc, world, imported(world, *fabric, rows)),
@@ -139,9 +144,9 @@ pub fn effect_of<A: Allocator + Copy>(
         )),
         Command::Withdraw { plan } => of_plan(withdrawn(world, plan)),
         Command::Approve { plan } => of_plan(approved(alloc, world, caller, plan)),
-        Command::DryRun { plan } => of_plan(activated(alloc, world, plan)),
-        Command::Activate { plan } => of_plan(activated(alloc, world, plan)),
-        Command::Rollback { plan } => of_plan(rolled_back(alloc, world, plan)),
+        Command::DryRun { plan } => of_plan(activated(alloc, world, spare, plan)),
+        Command::Activate { plan } => of_plan(activated(alloc, world, spare, plan)),
+        Command::Rollback { plan } => of_plan(rolled_back(alloc, world, spare, plan)),
         Command::Show(_) => unreachable!(),
     }
 }

@@ -1,5 +1,5 @@
 //! The step of a book of paths.
-ghost use Rattle.std.specs.Prelude.{◌≡◌, ◌↔◌, ℕ, List, IsSome, IfOk, OnOk, IfErr};
+ghost use Rattle.std.specs.Prelude.{◌≡◌, ◌↔◌, ℕ, List, IsSome, IfOk, OnOk, IfErr, IfSome};
 ghost use Rattle.fab_reach_base.specs.Limits.{MoreThan};
 ghost use Rattle.fab_reach_base.specs.Reach.{Reaches};
 ghost use Rattle.fab_reach_base.specs.Serving.{IsServing};
@@ -22,8 +22,8 @@ use crate::effects::{Effect, effect_of};
 use crate::limits::check_changes;
 use crate::moves::{moved_rows, moved_view};
 use fab_desk_base::{Command, DeskFault, DeskLimit};
-use fab_reach_base::View;
 use fab_reach_base::names::Name;
+use fab_reach_base::{Config, View};
 use fab_reach_books::{Limited, PathBook, RowDiff, ViewSight};
 use fab_world::World;
 use std::alloc::Allocator;
@@ -136,7 +136,7 @@ fn step<A: Allocator + Copy, B: PathBook<A>>(
 }
 
 /// Tries a command: what it would make of the world, with the step of the book. The book stands
-/// where it stood.
+/// where it stood. Steps of a plan are done on the spare configuration, which is taken, if there is one.
 ///
 /// # Errors
 /// The first refusal of the records, the limits on paths and on changes the last of them; or `Memory`.
@@ -144,11 +144,13 @@ pub fn try_out<A: Allocator + Copy, B: PathBook<A>>(
     alloc: A,
     world: &World<A>,
     book: &mut B,
+    spare: &mut Option<Config<A>>,
     caller: &Name,
     command: &Command<A>,
 ) -> Result<Prepared<A, B::Ready>, DeskFault>
     requires stands { B.stands book.old (records_of world.now) }
     requires sound { IsSound world.now }
+    requires spare { IfSome spare.old (λ s. s ≡ world.now.config) }
     requires given { IsGiven command.now }
     requires there { (p : PolicyRows) (id : ℕ) → IsThere p world.now id command.now }
     requires change { IsSome (action_of command.now) }
@@ -156,8 +158,9 @@ pub fn try_out<A: Allocator + Copy, B: PathBook<A>>(
     ensures ok { IfOk result (IsPrepared (B.leads book.new) world.now caller.now command.now) }
     ensures bounds { IfOk result (λ prepared. B.bounds (records_of world.now) (records_of (effect_world world.now caller.now command.now prepared.effect)) (B.count book.old) (B.count book.new)) }
     ensures err { IfErr result (IsTryFault world.now caller.now (tried command.now)) }
+    ensures spare { IfSome spare.new (λ s. s ≡ world.now.config) }
 {
-    let effect = match effect_of(alloc, world, caller, command) {
+    let effect = match effect_of(alloc, world, spare, caller, command) {
         Ok(effect) => effect,
         Err(fault) => return Err(fault),
     };

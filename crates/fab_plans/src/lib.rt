@@ -18,6 +18,6 @@ pub use fab_plans_kept::texts::{
 };
 pub use fab_plans_kept::{PlanText, base, texts};
 pub use fault::{Item, Refusal, StepLimit, TrialFault};
-pub use outcome::trial;
+pub use outcome::{take_steps, trial};
 pub use plan::{ApprovalFault, Plan};
 pub use states::{Active, RolledBack, Staged, Withdrawn};

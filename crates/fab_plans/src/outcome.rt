@@ -51,12 +51,12 @@ fn numbered(place: usize, fault: StepFault) -> TrialFault
     }
 }
 
-/// Does steps on a configuration, one after the other.
+/// Does steps on a configuration, one after the other. Unit clashes are no part of it.
 ///
 /// # Errors
-/// `Refused` with the number of the first step that is refused, and its first refusal, or `Memory`.
-/// The configuration is then what the steps before it made.
-fn take_steps<A: Allocator + Copy>(
+/// `Refused` with the number of the first step that is refused, from 1, and its first refusal, in
+/// the order of a step's checks; or `Memory`. The configuration is then what the steps before it made.
+pub fn take_steps<A: Allocator + Copy>(
     config: &mut Config<A>,
     inventory: &Inventory<A>,
     steps: &[Step<A>],

@@ -1,3 +1,4 @@
 mod Elsewhere
 mod Steps
 mod KeysNamed
+mod NoneTouched

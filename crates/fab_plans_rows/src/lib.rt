@@ -1,7 +1,12 @@
-//! The rows of a configuration that the steps of a plan change.
+//! What the steps of a plan make of a configuration: the one after them and the rows that they change,
+//! done on a spare configuration where there is one.
 #![tactic(auto)]
 
 mod changed;
+mod clash;
 mod keys;
+mod outcome;
+mod spare;
 
-pub use changed::changed_rows;
+pub use outcome::outcome_of;
+pub use spare::{spare_after, take_spare};

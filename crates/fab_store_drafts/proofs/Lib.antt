@@ -4,7 +4,7 @@ mod IfThere
 mod Sizes
 mod ZoningThere
 mod MappingThere
-mod ClashThere
+pub mod ClashThere
 pub mod Law
 mod Beside
 mod Gathering
