@@ -1,17 +1,20 @@
 //! The steps of an import, over maps and records.
-ghost use Rattle.std.specs.Prelude.{◌≡◌, ℕ, OnOk, IfOk, IfErr};
+ghost use Rattle.std.specs.Prelude.{◌≡◌, ◌≤◌, ℕ, OnOk, IfOk, IfErr};
 ghost use Rattle.std.specs.Option.{option_map, option_copied};
 ghost use Rattle.std.specs.Ordering.{nat_cmp};
 ghost use Rattle.std.specs.BTreeMap.{get};
-ghost use Rattle.fab_inventory.specs.Imports.{Agrees, CheckFails, logged_in, logged_out, ListsIn};
+ghost use Rattle.std.specs.FinMap as map;
+ghost use Rattle.fab_inventory.specs.Imports.{Agrees, CheckFails, ImportFails, IsImported, logged_in, logged_out, ListsIn};
+ghost use Rattle.fab_inventory.specs.Limits.{most_ports};
 
-use crate::{InventoryFault, Known, PortRow};
+use crate::limits::MOST_PORTS;
+use crate::{InventoryFault, InventoryLimit, Known, PortRow};
 use fab_names::{Fabric, Wwn};
 use std::alloc::{AllocError, Allocator};
 use std::collections::BTreeMap;
 
 /// Whether the records of each port name are equal.
-pub fn check_rows<A: Allocator + Clone>(alloc: A, rows: &[PortRow]) -> Result<(), InventoryFault>
+fn check_rows<A: Allocator + Clone>(alloc: A, rows: &[PortRow]) -> Result<(), InventoryFault>
     ensures ok { OnOk result (Agrees rows.now) }
     ensures err { IfErr result (CheckFails rows.now) }
 {
@@ -44,7 +47,7 @@ fn log_out(known: &mut Known, fabric: Fabric)
 }
 
 /// The ports, where those at the fabric are logged in nowhere.
-pub fn all_logged_out<A: Allocator + Clone>(
+fn all_logged_out<A: Allocator + Clone>(
     ports: &BTreeMap<Wwn, Known, A>,
     fabric: Fabric,
 ) -> Result<BTreeMap<Wwn, Known, A>, AllocError>
@@ -76,7 +79,7 @@ fn logged_in(fabric: Fabric, row: &PortRow, had: Option<&Known>) -> Known
 }
 
 /// Logs the listed ports in at the fabric, each with the holder that it had.
-pub fn log_in<A: Allocator + Clone>(
+fn log_in<A: Allocator + Clone>(
     next: &mut BTreeMap<Wwn, Known, A>,
     ports: &BTreeMap<Wwn, Known, A>,
     fabric: Fabric,
@@ -90,4 +93,28 @@ pub fn log_in<A: Allocator + Clone>(
         next.insert(row.name, known)?;
     }
     Ok(())
+}
+
+/// The ports once the whole list of a fabric's ports is taken.
+///
+/// # Errors
+/// `PortClash` at the first record that differs from an earlier one of its port name,
+/// `Limit(Ports)` where more than 4096 ports would be known, or `Memory`.
+pub fn imported_ports<A: Allocator + Copy>(
+    alloc: A,
+    ports: &BTreeMap<Wwn, Known, A>,
+    fabric: Fabric,
+    rows: &[PortRow],
+) -> Result<BTreeMap<Wwn, Known, A>, InventoryFault>
+    ensures ok { IfOk result (λ next. IsImported fabric rows.now (map.from_entries ports.now.entries) (map.from_entries next.entries)) }
+    ensures few { IfOk result (λ next. map.len (map.from_entries {R = nat_cmp} next.entries) ≤ most_ports) }
+    ensures err { IfErr result (ImportFails fabric rows.now (map.from_entries ports.now.entries)) }
+{
+    check_rows(alloc, rows)?;
+    let mut next = all_logged_out(ports, fabric)?;
+    log_in(&mut next, ports, fabric, rows)?;
+    if next.len() > MOST_PORTS {
+        return Err(InventoryFault::Limit(InventoryLimit::Ports));
+    }
+    Ok(next)
 }

@@ -13,8 +13,8 @@ ghost use Rattle.fab_inventory.specs.Inventories.{no_rows, IsSound, CanPutHolder
 use crate::holding::{
     first_on, hand_over_all, is_array, is_other_kind, kind_of, leaving, port_fault,
 };
-use crate::import::{all_logged_out, check_rows, log_in};
-use crate::limits::{MOST_BYTES, MOST_HOLDERS, MOST_PORTS, MOST_PORTS_OF_HOLDER, MOST_VOLUMES};
+use crate::import::imported_ports;
+use crate::limits::{MOST_BYTES, MOST_HOLDERS, MOST_PORTS_OF_HOLDER, MOST_VOLUMES};
 use crate::restore::{are_ports_sound, are_seated, are_volumes_sound, seated};
 use crate::{
     Holder, HolderKind, InventoryFault, InventoryLimit, Known, Port, PortRow, RestoreFault, Seat,
@@ -237,14 +237,27 @@ impl<A: Allocator + Copy> Inventory<A> {
         ensures unchanged { OnErr result (self.new ≡ self.old) }
         ensures sound { IsSound self.new }
     {
-        check_rows(self.alloc, rows)?;
-        let mut next = all_logged_out(&self.ports, fabric)?;
-        log_in(&mut next, &self.ports, fabric, rows)?;
-        if next.len() > MOST_PORTS {
-            return Err(InventoryFault::Limit(InventoryLimit::Ports));
-        }
-        self.ports = next;
+        self.ports = imported_ports(self.alloc, &self.ports, fabric, rows)?;
         Ok(())
+    }
+
+    /// The inventory that `import` would make of this one, which stays as it is. It copies no port
+    /// twice.
+    ///
+    /// # Errors
+    /// As `import` tells.
+    pub fn after_import(&self, fabric: Fabric, rows: &[PortRow]) -> Result<Self, InventoryFault>
+        ensures ok { IfOk result (λ next. IsImported fabric rows.now self.now.ports next.ports) }
+        ensures rest { IfOk result (λ next. next ≡ record self.now { ports = next.ports }) }
+        ensures err { IfErr result (ImportFails fabric rows.now self.now.ports) }
+        ensures sound { IfOk result IsSound }
+    {
+        Ok(Inventory {
+            alloc: self.alloc,
+            ports: imported_ports(self.alloc, &self.ports, fabric, rows)?,
+            holders: self.holders.clone()?,
+            volumes: self.volumes.clone()?,
+        })
     }
 
     /// Makes or replaces a host or an array, which holds just the listed ports from now on. Ports
