@@ -13,3 +13,4 @@ pub mod KeyOrders
 pub mod OneWorld
 pub mod WorldMade
 pub mod OneVolume
+pub mod OneHolder

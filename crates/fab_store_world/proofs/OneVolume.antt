@@ -26,7 +26,7 @@ use Rattle.fab_store_world.specs.InventoryGathering.{IsPushed}
 use Rattle.fab_store_world.proofs.NamedRows.{sorted_none}
 
 -- a name is another's or not
-same_or : (a b : List ℕ) → (a ≡ b) ⊎ ¬ (a ≡ b)
+pub same_or : (a b : List ℕ) → (a ≡ b) ⊎ ¬ (a ≡ b)
 same_or a b = by (eq_by_cmp name_cmp a b) refl
   where
     by : (t : Bool) → eq_by_cmp name_cmp a b ≡ t → (a ≡ b) ⊎ ¬ (a ≡ b)
@@ -92,7 +92,7 @@ module _ (v w : InventoryRows) (n : List ℕ) (one : AreOneButVolume v w n) wher
           by (Some x) at e = subst (λ (y : VolumeRow). map.get v.volumes y.name ≡ Some (volume_of y)) (let same : volume_row n x ≡ k = cc in same) at
 
 -- a name that is not another's is told apart
-apart : (m n : List ℕ) → ¬ (m ≡ n) → eq_by_cmp name_cmp m n ≡ false
+pub apart : (m n : List ℕ) → ¬ (m ≡ n) → eq_by_cmp name_cmp m n ≡ false
 apart m n other = by (eq_by_cmp name_cmp m n) refl
   where
     by : (b : Bool) → eq_by_cmp name_cmp m n ≡ b → eq_by_cmp name_cmp m n ≡ false

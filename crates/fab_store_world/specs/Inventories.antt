@@ -79,3 +79,9 @@ pub record AreOneButVolume (v w : InventoryRows) (n : List ℕ) : Type 0 where
   pub ports : v.ports ≡ w.ports
   pub holders : v.holders ≡ w.holders
   pub others : (m : List ℕ) → ¬ (m ≡ n) → map.get v.volumes m ≡ map.get w.volumes m
+
+-- the inventories are one, but for their ports, and for what stands under this name, if there is one,
+-- among the holders
+pub record AreOneButHolder (v w : InventoryRows) (named : Option (List ℕ)) : Type 0 where
+  pub volumes : v.volumes ≡ w.volumes
+  pub others : (m : List ℕ) → ¬ (named ≡ Some m) → map.get v.holders m ≡ map.get w.holders m

@@ -110,7 +110,7 @@ fn push_port<A: Allocator + Copy>(
 }
 
 /// Adds the ports of an inventory and their rows, but for those that stand in the other.
-fn add_ports<A: Allocator + Copy>(
+pub fn add_ports<A: Allocator + Copy>(
     ports: &mut Vec<Port, A>,
     entries: &mut Vec<PortEntry, A>,
     addresses: &mut Vec<AddressRow, A>,

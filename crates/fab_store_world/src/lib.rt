@@ -4,6 +4,7 @@
 
 mod counts;
 mod faulty;
+mod holders;
 mod inventories;
 mod kinds;
 pub mod laws;
@@ -18,6 +19,7 @@ mod volumes;
 mod whole;
 mod world;
 
+pub use holders::holder_difference;
 pub use inventories::{InventoryDifference, InventoryLists, inventory_difference};
 pub use order::order_of;
 pub use paths::{PathRowDifference, are_path_rows};
