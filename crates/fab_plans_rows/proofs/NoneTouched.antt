@@ -8,7 +8,7 @@ use Rattle.fab_store_rows.specs.declared.config_row.ConfigRow.TheVariants as con
 use Rattle.fab_store_drafts.proofs.fab_store_edits.Differing.{led_back, turned}
 use Rattle.fab_store_drafts.specs.There.{Touches}
 use Rattle.fab_store_drafts.proofs.ClashThere.{no_clash}
-use Rattle.fab_plans_rows.specs.Mapped.{IsOfMapping}
+use Rattle.fab_plans_rows.specs.Inner.Mapped.{IsOfMapping}
 
 of_mapping : (v : MappingRows) (r : ConfigRow) (n : List ℕ) → Touches v r n → IsOfMapping r
 of_mapping v (config.Setting r) n t = absurd t

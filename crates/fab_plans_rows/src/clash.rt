@@ -3,7 +3,7 @@ ghost use Rattle.std.specs.Prelude.{◌↔◌, Contains, IsTrue, IfOk, MatchOpti
 ghost use Rattle.fab_mapping.specs.Mappings.{HasNoClash, IsLeastClash};
 ghost use Rattle.fab_store_rows.specs.Differences.{IsDifference};
 ghost use Rattle.fab_store_rows.specs.declared.config_row.ConfigRow.{ConfigRow as Row};
-ghost use Rattle.fab_plans_rows.specs.Mapped.{IsOfMapping};
+ghost use Rattle.fab_plans_rows.specs.Inner.Mapped.{IsOfMapping};
 
 use fab_mapping::Nexus;
 use fab_reach_base::Config;

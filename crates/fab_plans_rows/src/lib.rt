@@ -9,4 +9,4 @@ mod outcome;
 mod spare;
 
 pub use outcome::outcome_of;
-pub use spare::{spare_after, take_spare};
+pub use spare::{spare_after, spare_ahead, take_spare};

@@ -2,7 +2,7 @@ use Rattle.std.proofs.Common.{List, Contains, IfOk, MatchOption, sym, ◌∙◌,
 use mathlib.Core.Bool.{true≢false}
 use Rattle.fab_mapping.specs.Mappings.{HasNoClash, IsLeastClash, MappingRows}
 use Rattle.fab_store_rows.specs.declared.config_row.ConfigRow.{ConfigRow}
-use Rattle.fab_plans_rows.specs.Mapped.{IsOfMapping}
+use Rattle.fab_plans_rows.specs.Inner.Mapped.{IsOfMapping}
 use Rattle.fab_plans_rows.proofs.NoneTouched.{still_clear}
 use Rattle.fab_plans_rows.proofs.clash.clash_after.Goals as goal
 

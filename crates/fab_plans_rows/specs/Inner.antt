@@ -1,0 +1,2 @@
+-- What private functions are proved by. No public contract names it.
+pub mod Mapped
