@@ -5,17 +5,15 @@ ghost use Rattle.fab_desk_machine.specs.fab_desk_base.declared.command.Query.The
 ghost use Rattle.fab_desk_machine.specs.fab_desk_base.declared.fault.DeskFault.TheVariants as faults;
 ghost use Rattle.fab_desk_machine.specs.fab_desk_base.declared.reply.Reply.TheVariants as replies;
 ghost use Rattle.fab_desk_machine.specs.Proposals.{CountsStep, IsAccepted, IsEffectOf, request_of};
-ghost use Rattle.fab_desk_machine.specs.fab_desk_commands.Nexts.{next_world};
 ghost use Rattle.fab_store_base.specs.Calls.{Rises};
 ghost use Rattle.fab_world.specs.Soundness.{IsSound};
-ghost use Rattle.fab_world.specs.Worlds.{WorldRows, records_of};
+ghost use Rattle.fab_world.specs.Worlds.{records_of};
 ghost use Rattle.fab_desk.specs.Desks.{IsHandled, IsInDoubt, IsTied, IsRead};
 
 use crate::carrying::{Served, carry_out};
 use crate::ledger::Ledger;
 use crate::reading::show_paths;
 use fab_desk_machine::base::{Command, DeskFault, Query, Reply, holders_are_kept, steps_are_done};
-use fab_desk_machine::commands::Next;
 use fab_desk_machine::{Proposal, propose, sender_of};
 use fab_names::Name;
 use fab_policy_base::Policy;
@@ -58,16 +56,6 @@ fn read_paths<A: Allocator + Copy, S: Store<A>>(
     }
 }
 
-/// Lets a spare configuration go where the parts bring another configuration.
-fn drop_if_other<A: Allocator + Copy>(spare: &mut Option<Config<A>>, next: &Next<A>)
-    ensures before { (w : WorldRows) → IfSome spare.old (λ s. s ≡ w.config) → IfSome spare.new (λ s. s ≡ w.config) }
-    ensures after { (w : WorldRows) → IfSome spare.old (λ s. s ≡ w.config) → IfSome spare.new (λ s. s ≡ (next_world w next.now).config) }
-{
-    if !next.keeps_config() {
-        *spare = None;
-    }
-}
-
 /// Answers a request by the machine, and has the store take its change.
 fn act<A: Allocator + Copy, S: Store<A>, B: PathBook<A>>(
     alloc: A,
@@ -105,10 +93,7 @@ fn act<A: Allocator + Copy, S: Store<A>, B: PathBook<A>>(
             reply,
             is_shut: false,
         },
-        Proposal::Ready(change) => {
-            drop_if_other(spare, &change.next);
-            carry_out(alloc, world, book, store, change)
-        }
+        Proposal::Ready(change) => carry_out(alloc, world, book, spare, store, change),
     }
 }
 

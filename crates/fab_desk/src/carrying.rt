@@ -1,5 +1,5 @@
 //! Changes carried out over a store.
-ghost use Rattle.std.specs.Prelude.{◌≡◌, ◌⊎◌, IfOk, OnOk, OnErr, true, false};
+ghost use Rattle.std.specs.Prelude.{◌≡◌, ◌⊎◌, IfOk, IfSome, OnOk, OnErr, true, false};
 ghost use Rattle.fab_desk_machine.specs.fab_desk_base.Answers.{IsMove};
 ghost use Rattle.fab_desk_machine.specs.fab_desk_base.declared.fault.DeskFault.TheVariants as faults;
 ghost use Rattle.fab_desk_machine.specs.fab_desk_base.declared.reply.Reply.TheVariants as replies;
@@ -19,6 +19,7 @@ ghost use Rattle.fab_desk_machine.specs.fab_desk_base.Keeping.{KeepsHosts};
 use crate::moves::moves;
 use fab_desk_machine::base::{DeskFault, Reply};
 use fab_desk_machine::{Change, lists_of, take_over};
+use fab_reach_base::Config;
 use fab_reach_books::PathBook;
 use fab_store_base::laws::holds_keys;
 use fab_store_base::{LineChanges, Store};
@@ -81,11 +82,13 @@ fn make_ready<A: Allocator + Copy, B: PathBook<A>>(
 }
 
 /// Carries out a change that is ready: the store has its lines before it is taken over. Where there is
-/// no memory, or the store refuses, the world and the book are as they were.
+/// no memory, or the store refuses, the world and the book are as they were. A spare configuration is
+/// equal to the world's, before and after.
 pub fn carry_out<A: Allocator + Copy, S: Store<A>, B: PathBook<A>>(
     alloc: A,
     world: &mut World<A>,
     book: &mut B,
+    spare: &mut Option<Config<A>>,
     store: &mut S,
     change: Change<A, B::Ready>,
 ) -> Served<A>
@@ -95,6 +98,8 @@ pub fn carry_out<A: Allocator + Copy, S: Store<A>, B: PathBook<A>>(
     requires sound { IsSound world.old }
     requires next_sound { IsSound (next_world world.old change.next) }
     requires hosts { (d : Delta A) → IsMove world.old (next_world world.old change.next) d → KeepsHosts (records_of world.old) (records_of (next_world world.old change.next)) }
+    requires spare { IfSome spare.old (λ s. s ≡ world.old.config) }
+    ensures spare { IfSome spare.new (λ s. s ≡ world.new.config) }
     ensures stands { B.stands book.new (records_of world.new) }
     ensures unasked { B.count book.new ≡ B.count book.old }
     ensures done { ((result.reply ≡ replies.Refused faults.Memory) × (world.new ≡ world.old) × (result.is_shut ≡ false) × (store.new ≡ store.old))
@@ -119,7 +124,7 @@ pub fn carry_out<A: Allocator + Copy, S: Store<A>, B: PathBook<A>>(
     holds_keys();
     match store.commit(&lines) {
         Ok(()) => Served {
-            reply: take_over(alloc, change, world, book),
+            reply: take_over(alloc, change, world, book, spare),
             is_shut: false,
         },
         Err(_) => {

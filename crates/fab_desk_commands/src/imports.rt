@@ -29,11 +29,8 @@ pub fn imported<A: Allocator + Copy>(
     ensures sound { IfOk result (λ v. IsSoundAfter world.now (Import fabric rows.now) (counted (with_inventory v world.now))) }
     ensures err { (caller : List ℕ) → IfErr result (IsTryFault world.now caller (Import fabric rows.now)) }
 {
-    let Ok(mut next) = world.inventory.copy() else {
-        return Err(DeskFault::Memory);
-    };
-    match next.import(fabric, rows.as_slice()) {
-        Ok(()) => Ok(next),
+    match world.inventory.after_import(fabric, rows.as_slice()) {
+        Ok(next) => Ok(next),
         Err(fault) => Err(refusal(fault)),
     }
 }

@@ -1,6 +1,7 @@
 //! The parts of the world after a change.
-ghost use Rattle.std.specs.Prelude.{◌≡◌, ◌<◌, OnOk, OnErr, IfSome, IsTrue, true};
+ghost use Rattle.std.specs.Prelude.{◌≡◌, ◌<◌, OnOk, OnErr, IfSome, true};
 ghost use Rattle.std.specs.FinMap as map;
+ghost use Rattle.fab_reach_base.specs.Soundness.{IsSoundAlone};
 ghost use Rattle.fab_world.specs.declared.limits.TheConstants.{MOST_CHANGES};
 ghost use Rattle.fab_desk_base.specs.Effects.{counted, with_inventory, with_plan};
 ghost use Rattle.fab_world.specs.Worlds.{WorldRows};
@@ -8,6 +9,7 @@ ghost use Rattle.fab_desk_commands.specs.Nexts.{blank_plan, next_world, order_fr
 
 use crate::rooms::{make_place, pop_last, push_last, put_in_place, remove_place};
 use crate::turns::turn_at;
+use fab_plans_rows::spare_ahead;
 use fab_reach_base::Config;
 use fab_reach_base::inventory::Inventory;
 use fab_reach_base::names::Name;
@@ -16,6 +18,7 @@ use fab_store_world::InventoryDifference;
 use fab_world::{KeptPlan, World};
 use std::alloc::{AllocError, Allocator};
 use std::collections::BTreeMap;
+use std::mem::replace;
 
 /// What becomes of a plan.
 #[derive(Drop)]
@@ -97,13 +100,31 @@ fn stock<A: Allocator + Copy>(world: &mut World<A>, inventory: Inventory<A>)
     count(world);
 }
 
-/// Takes over a configuration, by one change more.
-fn reconfigure<A: Allocator + Copy>(world: &mut World<A>, config: Config<A>)
+/// Takes over a configuration, by one change more, and gives the one that it replaces.
+fn reconfigure<A: Allocator + Copy>(world: &mut World<A>, config: Config<A>) -> Config<A>
     requires { world.old.revision < MOST_CHANGES }
-    ensures { world.new ≡ counted (record world.old { config = config }) }
+    ensures world { world.new ≡ counted (record world.old { config = config }) }
+    ensures left { result ≡ world.old.config }
 {
-    world.config = config;
+    let left = replace(&mut world.config, config);
     count(world);
+    left
+}
+
+/// The configuration after a turn once more, led to from the one before, if there is memory for it.
+fn spare_after_turn<A: Allocator + Copy>(
+    alloc: A,
+    before: Config<A>,
+    now: &Config<A>,
+    turn: &Turn<A>,
+) -> Option<Config<A>>
+    ensures { IsSoundAlone before → IsSoundAlone now.now → TellsChange before now.now turn.now → IfSome result (λ s. s ≡ now.now) }
+{
+    match turn {
+        Turn::Activated(change) => spare_ahead(alloc, before, now, change),
+        Turn::RolledBack(change) => spare_ahead(alloc, before, now, change),
+        Turn::Withdrawn | Turn::Approved(_) => None,
+    }
 }
 
 /// Makes a place for a plan.
@@ -173,34 +194,27 @@ fn reorder<A: Allocator + Copy>(world: &mut World<A>, turn: &Turn<A>)
 }
 
 /// Takes over a configuration to which the turn of a plan leads, with the plan and the order after the
-/// turn, by one change more. There is room in the order.
+/// turn, by one change more, and leads the one that it replaces to it. There is room in the order.
 fn reconfigure_by<A: Allocator + Copy>(
     alloc: A,
     world: &mut World<A>,
     config: Config<A>,
     name: &Name,
     turn: Turn<A>,
-)
+) -> Option<Config<A>>
     requires few { world.old.revision < MOST_CHANGES }
     requires leads { LeadsAt world.old name.now turn }
-    ensures { world.new ≡ counted (record (turned_at name.now turn world.old) { config = config; order = order_from_room turn world.old.order }) }
+    ensures world { world.new ≡ counted (record (turned_at name.now turn world.old) { config = config; order = order_from_room turn world.old.order }) }
+    ensures spare { IsSoundAlone world.old.config → IsSoundAlone config → TellsChange world.old.config config turn → IfSome result (λ s. s ≡ config) }
 {
     reorder(world, &turn);
+    let left = reconfigure(world, config);
+    let spare = spare_after_turn(alloc, left, &world.config, &turn);
     turn_in(alloc, world, name, turn);
-    reconfigure(world, config);
+    spare
 }
 
 impl<A: Allocator + Copy> Next<A> {
-    /// Whether the configuration stays as it is.
-    pub fn keeps_config(&self) -> bool
-        ensures { IsTrue result → (w : WorldRows) → (next_world w self.now).config ≡ w.config }
-    {
-        match self {
-            Next::Reconfigured { .. } => false,
-            Next::Same | Next::Stock { .. } | Next::Staged { .. } | Next::Turned { .. } => true,
-        }
-    }
-
     /// The other configuration that the parts have, with the turn that led to it, if they have one.
     pub fn into_config(self) -> Option<(Config<A>, Turn<A>)>
         ensures { (w : WorldRows) → Suits w self → IfSome result (λ c. TellsChange w.config c.0 c.1 × ((next_world w self).config ≡ c.0)) }
@@ -246,11 +260,15 @@ impl<A: Allocator + Copy> Next<A> {
     /// Takes over the parts: the world is the one that they make of the world before there was room
     /// for them. It asks that the parts are for that world: a plan that is new is not there, one that
     /// takes a turn is there, in the state that the turn leads from, and one change more may be
-    /// counted where one is; and that there is room for them in this one. It takes no memory and can
+    /// counted where one is; and that there is room for them in this one. It needs no memory and can
     /// not fail.
-    pub fn take_over(self, alloc: A, world: &mut World<A>)
+    ///
+    /// A spare configuration stays equal to the world's: where the parts bring another one, the one that
+    /// it replaces is led to it, if there is memory for that, and is the spare one then.
+    pub fn take_over(self, alloc: A, world: &mut World<A>, spare: &mut Option<Config<A>>)
         requires { IsReadyFor world.old self }
-        ensures { (before : WorldRows) → world.old ≡ with_room before self → world.new ≡ next_world before self }
+        ensures world { (before : WorldRows) → world.old ≡ with_room before self → world.new ≡ next_world before self }
+        ensures spare { IfSome spare.old (λ s. s ≡ world.old.config) → IsSoundAlone world.old.config → IsSoundAlone world.new.config → IfSome spare.new (λ s. s ≡ world.new.config) }
     {
         match self {
             Next::Same => {}
@@ -261,7 +279,7 @@ impl<A: Allocator + Copy> Next<A> {
             Next::Staged { name, plan } => put_plan(world, &name, plan),
             Next::Turned { name, turn } => turn_in(alloc, world, &name, turn),
             Next::Reconfigured { config, name, turn } => {
-                reconfigure_by(alloc, world, config, &name, turn);
+                *spare = reconfigure_by(alloc, world, config, &name, turn);
             }
         }
     }

@@ -52,17 +52,6 @@ fn copied<A: Allocator + Copy>(
     Ok(copy)
 }
 
-/// The approvals of the plan, in a map of their own.
-fn approvals_of<A: Allocator + Copy>(
-    alloc: A,
-    kept: &KeptPlan<A>,
-) -> Result<BTreeMap<Name, u64, A>, AllocError>
-    ensures { IfOk result (λ approvals. map.from_entries {R = name_cmp} approvals.entries ≡ kept.now.approvals) }
-{
-    let plan = kept.plan();
-    copied(alloc, &plan.approvals)
-}
-
 /// The approvals of the plan, with this one in place of an earlier one of the caller.
 fn approvals_with<A: Allocator + Copy>(
     alloc: A,
@@ -72,7 +61,8 @@ fn approvals_with<A: Allocator + Copy>(
 ) -> Result<BTreeMap<Name, u64, A>, AllocError>
     ensures { IfOk result (λ approvals. map.from_entries {R = name_cmp} approvals.entries ≡ map.insert kept.now.approvals caller.now revision) }
 {
-    let mut approvals = approvals_of(alloc, kept)?;
+    let plan = kept.plan();
+    let mut approvals = copied(alloc, &plan.approvals)?;
     approvals.insert(*caller, revision)?;
     Ok(approvals)
 }
@@ -89,8 +79,7 @@ fn approvals_now<A: Allocator + Copy>(
     approvals_with(alloc, kept, caller, world.revision)
 }
 
-/// What the approval of the plan by the caller would make: the plan, with all approvals that it has
-/// then.
+/// What the approval of the plan by the caller would make: the plan, with all its approvals then.
 ///
 /// # Errors
 /// `WrongState` with its state, where the plan is not staged; `OwnPlan` where the caller is its

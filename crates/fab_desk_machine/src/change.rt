@@ -1,7 +1,8 @@
 //! A change that is ready, and how it is taken over.
-ghost use Rattle.std.specs.Prelude.{◌≡◌, ◌⊎◌, IfOk};
+ghost use Rattle.std.specs.Prelude.{◌≡◌, ◌⊎◌, IfOk, IfSome};
 ghost use Rattle.fab_reach_base.specs.Books.{IsDelta};
 ghost use Rattle.fab_reach_base.specs.Records.{Records};
+ghost use Rattle.fab_reach_base.specs.Soundness.{IsSoundAlone};
 ghost use Rattle.fab_reach_base.specs.declared.book.Delta.{Delta};
 ghost use Rattle.fab_world.specs.Worlds.{WorldRows, records_of};
 ghost use Rattle.fab_desk_trials.specs.fab_desk_commands.Nexts.{next_world, with_room, IsReadyFor, Suits};
@@ -13,7 +14,7 @@ ghost use Rattle.fab_desk_trials.specs.Trials.{IsStepReady};
 use crate::report::{Report, reply_with};
 use fab_desk_base::{DeskFault, Reply};
 use fab_desk_trials::commands::Next;
-use fab_reach_base::{Delta, Path};
+use fab_reach_base::{Config, Delta, Path};
 use fab_reach_books::PathBook;
 use fab_world::World;
 use std::alloc::{AllocError, Allocator};
@@ -88,13 +89,16 @@ pub fn adopt<A: Allocator + Copy, B: PathBook<A>>(
 }
 
 /// Takes over a change: the world is the one that the change makes of the world before there was room
-/// for it, the book stands at it, and this is answered. It takes no memory and can not fail. The
-/// change has to be one that was proposed for that world and this book.
+/// for it, the book stands at it, and this is answered. It needs no memory and can not fail. The
+/// change has to be one that was proposed for that world and this book. A spare configuration that is
+/// equal to the world's is equal to the new one's then; a change of the configuration leaves one, if
+/// there is memory for it.
 pub fn take_over<A: Allocator + Copy, B: PathBook<A>>(
     alloc: A,
     change: Change<A, B::Ready>,
     world: &mut World<A>,
     book: &mut B,
+    spare: &mut Option<Config<A>>,
 ) -> Reply<A>
     requires room { IsReadyFor world.old change.next }
     requires step { IsStepReady (B.leads book.old) (records_of world.old) (records_of (next_world world.old change.next)) change.step }
@@ -103,9 +107,10 @@ pub fn take_over<A: Allocator + Copy, B: PathBook<A>>(
     ensures stands { B.stands book.new (records_of world.new) }
     ensures reply { (delta : Delta A) × (result ≡ reply_of change.report delta) × IsMove world.old world.new delta }
     ensures uncounted { B.count book.new ≡ B.count book.old }
+    ensures spare { IfSome spare.old (λ s. s ≡ world.old.config) → IsSoundAlone world.old.config → IsSoundAlone world.new.config → IfSome spare.new (λ s. s ≡ world.new.config) }
 {
     let delta = adopt(alloc, book, change.step);
-    change.next.take_over(alloc, world);
+    change.next.take_over(alloc, world, spare);
     reply_with(change.report, delta)
 }
 
@@ -126,7 +131,7 @@ pub fn carry_through<A: Allocator + Copy, B: PathBook<A>>(
     ensures uncounted { B.count book.new ≡ B.count book.old }
 {
     match change.next.make_room(alloc, world) {
-        Ok(()) => take_over(alloc, change, world, book),
+        Ok(()) => take_over(alloc, change, world, book, &mut None),
         Err(_) => Reply::Refused(DeskFault::Memory),
     }
 }

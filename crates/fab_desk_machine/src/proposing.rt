@@ -186,7 +186,8 @@ pub fn sender_of(policy: &Policy, token: &str, moment: u64) -> Option<Sender>
 /// that the activation gains and loses; else the change. Want of memory is answered `Memory`.
 ///
 /// A spare configuration, equal to the world's, saves the steps of a plan the copy of the world's. It is
-/// taken for them, and a dry run that is answered leaves one.
+/// taken for them; a dry run that is answered, and a plan that the policy denies, leave one, if there is
+/// memory for the way back.
 ///
 /// The count of the book's questions rises within the bounds of a step to the command's effect, where
 /// the command is done or its dry run is answered; of what is refused nothing is said of it.

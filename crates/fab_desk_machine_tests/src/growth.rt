@@ -1,20 +1,19 @@
 //! Each request for memory of a command refused in turn: the desk answers as with ample memory, or
 //! want of memory, and is as it was; then it answers the same command as ever. A change that is
-//! ready is taken over without memory.
+//! ready is taken over where each request is refused.
 ghost use Rattle.fab_world.specs.Soundness.{IsSound};
 ghost use Rattle.fab_world.specs.Worlds.{records_of};
-ghost use Rattle.fab_desk_commands.specs.Nexts.{next_world, Suits};
-ghost use Rattle.fab_desk_trials.specs.Trials.{IsStepReady};
 
 use crate::small::{
-    Came, Heap, Means, Order, ask, came_of, carry_out, command, filled, is_made_by,
+    Came, Heap, Means, Order, STAGED, ask, carry_out, command, filled, is_made_by, read_policy,
+    taken,
 };
-use fab_desk_machine::{Change, Proposal, propose, take_over};
+use fab_desk_machine::{Proposal, propose};
 use fab_policy::Policy;
 use fab_reach::IndexBook;
 use fab_reach_books::PathBook;
 use fab_test_alloc::Refusing;
-use fab_test_machine::{ADA, policy};
+use fab_test_machine::ADA;
 use fab_world::World;
 use std::process::Abort;
 
@@ -26,15 +25,6 @@ struct Case<'c> {
     before: (&'c [Order], usize),
     after: (&'c [Order], usize),
 }
-
-/// The plan is staged.
-const STAGED: &[Order] = &[
-    Order::Ports,
-    Order::Host,
-    Order::Array,
-    Order::Volume,
-    Order::Stage,
-];
 
 /// The plan is active, and the host has a path.
 const ACTIVE: &[Order] = &[
@@ -204,14 +194,6 @@ fn refusals(rt: &(impl Abort + AllocGlobal), policy: &Policy, case: &Case<'_>) -
     panic!(rt; "each command met a refusal")
 }
 
-/// The policy of the tests.
-fn read_policy(rt: &(impl Abort + AllocGlobal)) -> Policy {
-    match policy(rt.alloc()) {
-        Ok(policy) => policy,
-        Err(_) => panic!(rt; "a policy"),
-    }
-}
-
 /// Whether some request of the case's command was answered with want of memory. Ends the test where
 /// one led astray.
 fn is_refused_in_turn(rt: &(impl Abort + AllocGlobal), case: &Case<'_>) -> bool {
@@ -226,32 +208,9 @@ fn each_request_is_refused_in_turn(rt: HostRuntime) {
     }
 }
 
-/// What came of a change that is taken over without memory, once there is room for it. Ends the test
-/// where a request is made for it.
-fn come_without<'a, R: Abort, B: PathBook<Heap<'a>>>(
-    rt: &R,
-    means: Means<'a>,
-    world: &mut World<Heap<'a>>,
-    book: &mut B,
-    change: Change<Heap<'a>, B::Ready>,
-) -> Came
-    requires suits { Suits world.old change.next }
-    requires step { IsStepReady (B.leads book.old) (records_of world.old) (records_of (next_world world.old change.next)) change.step }
-    requires stands { B.stands book.old (records_of world.old) }
-{
-    match change.next.make_room(means.heap, world) {
-        Ok(()) => {
-            means.heap.refuse_after(0);
-            let reply = take_over(means.heap, change, world, book);
-            assert!(rt; !means.heap.has_refused());
-            came_of(&reply)
-        }
-        Err(_) => panic!(rt; "room"),
-    }
-}
-
-/// What came of the case's command on a new world, where it was taken over without memory. Ends the
-/// test where what is proposed for it is no change.
+/// What came of the case's command on a new world, where each request for memory was refused as it was
+/// taken over. Ends the test where what is proposed for it is no change, or where it leaves a spare
+/// configuration.
 fn taken_over<'a, R: Abort + AllocGlobal, B: PathBook<Heap<'a>>>(
     rt: &R,
     means: Means<'a>,
@@ -274,11 +233,15 @@ fn taken_over<'a, R: Abort + AllocGlobal, B: PathBook<Heap<'a>>>(
         command,
     ) {
         Proposal::Answer(_) => panic!(rt; "a change"),
-        Proposal::Ready(change) => come_without(rt, means, world, &mut book, change),
+        Proposal::Ready(change) => {
+            let came = taken(rt, means, world, &mut book, &mut spare, change, true);
+            assert!(rt; spare.is_none());
+            came
+        }
     }
 }
 
-/// Whether the change that the case's command makes is taken over without memory.
+/// Whether the change that the case's command makes is taken over where each request is refused.
 fn needs_no_memory<R: Abort + AllocGlobal>(rt: &R, case: &Case<'_>) -> bool {
     let policy = read_policy(rt);
     let heap = Refusing::new(rt.alloc());

@@ -2,16 +2,19 @@
 ghost use Rattle.std.specs.Prelude.{◌<◌};
 ghost use Rattle.fab_world.specs.Soundness.{IsSound};
 ghost use Rattle.fab_world.specs.Worlds.{records_of};
+ghost use Rattle.fab_desk_commands.specs.Nexts.{next_world, Suits};
+ghost use Rattle.fab_desk_trials.specs.Trials.{IsStepReady};
 
 use fab_desk_base::{Command, DeskFault, Query, Reply, Shown};
-use fab_desk_machine::answer;
+use fab_desk_machine::{Change, answer, take_over};
 use fab_inventory::{HolderKind, Volume};
 use fab_names::{Fabric, Name, Wwn};
 use fab_plans_text::read_plan;
 use fab_policy::Policy;
+use fab_reach::Config;
 use fab_reach_books::PathBook;
 use fab_test_alloc::Refusing;
-use fab_test_machine::{ADA, FIRST_INITIATOR, FIRST_PLAN, FIRST_TARGET, opened};
+use fab_test_machine::{ADA, FIRST_INITIATOR, FIRST_PLAN, FIRST_TARGET, opened, policy};
 use fab_test_world::is_same;
 use fab_wire_requests::port_list::read_ports;
 use fab_world::World;
@@ -69,6 +72,15 @@ const MOVED: &str = "port_name,node_name,domain,port
 10:00:00:00:00:00:00:02,20:00:00:00:00:00:00:02,1,1
 50:00:00:00:00:00:00:01,50:00:00:00:00:00:00:00,1,2
 ";
+
+/// The plan is staged.
+pub const STAGED: &[Order] = &[
+    Order::Ports,
+    Order::Host,
+    Order::Array,
+    Order::Volume,
+    Order::Stage,
+];
 
 /// The name of this text.
 fn named(rt: &impl Abort, text: &str) -> Name {
@@ -163,6 +175,14 @@ pub fn came_of(reply: &Reply<Heap<'_>>) -> Came {
     }
 }
 
+/// The policy of the tests.
+pub fn read_policy(rt: &(impl Abort + AllocGlobal)) -> Policy {
+    match policy(rt.alloc()) {
+        Ok(policy) => policy,
+        Err(_) => panic!(rt; "a policy"),
+    }
+}
+
 /// What a desk stands on.
 #[derive(Clone, Copy)]
 pub struct Means<'a> {
@@ -184,6 +204,33 @@ pub fn carry_out<'a, B: PathBook<Heap<'a>>>(
 {
     let reply = answer(means.heap, world, book, means.policy, ADA, 0, command);
     came_of(&reply)
+}
+
+/// What came of a change that is taken over, once there is room for it, where each request for memory
+/// is refused from then on, or none is. Ends the test where there is no room.
+pub fn taken<'a, R: Abort, B: PathBook<Heap<'a>>>(
+    rt: &R,
+    means: Means<'a>,
+    world: &mut World<Heap<'a>>,
+    book: &mut B,
+    spare: &mut Option<Config<Heap<'a>>>,
+    change: Change<Heap<'a>, B::Ready>,
+    refuses: bool,
+) -> Came
+    requires suits { Suits world.old change.next }
+    requires step { IsStepReady (B.leads book.old) (records_of world.old) (records_of (next_world world.old change.next)) change.step }
+    requires stands { B.stands book.old (records_of world.old) }
+{
+    match change.next.make_room(means.heap, world) {
+        Ok(()) => {
+            if refuses {
+                means.heap.refuse_after(0);
+            }
+            let reply = take_over(means.heap, change, world, book, spare);
+            came_of(&reply)
+        }
+        Err(_) => panic!(rt; "room"),
+    }
 }
 
 /// Asks the desk.

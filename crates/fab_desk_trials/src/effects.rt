@@ -1,6 +1,7 @@
 //! What a command would make of the world, the limits on paths and on changes aside.
 ghost use Rattle.std.specs.Prelude.{◌≡◌, ℕ, IsSome, IfOk, IfErr, IfSome};
-ghost use Rattle.fab_store_world.specs.Inventories.{AreOneButVolume};
+ghost use Rattle.std.specs.Option.{option_copied};
+ghost use Rattle.fab_store_world.specs.Inventories.{AreOneButHolder, AreOneButVolume};
 ghost use Rattle.fab_world.specs.Soundness.{IsSound};
 ghost use Rattle.fab_policy.specs.fab_policy_base.Policies.{PolicyRows};
 ghost use Rattle.fab_desk_base.specs.Answers.{IsThere};
@@ -16,7 +17,7 @@ use fab_desk_commands::{
 use fab_reach_base::Config;
 use fab_reach_base::inventory::Inventory;
 use fab_reach_base::names::Name;
-use fab_store_world::{inventory_difference, volume_difference};
+use fab_store_world::{holder_difference, volume_difference};
 use fab_world::World;
 use std::alloc::Allocator;
 
@@ -29,15 +30,18 @@ pub enum Effect<A: Allocator + Copy> {
     NewPlan,
 }
 
-/// The effect of a command on the inventory: it tells the rows in which the inventory differs.
+/// The effect of a command on ports and on the holder of this name, if there is a name: it tells the
+/// rows in which the inventory differs, and looks at no volume and at no other holder.
 ///
 /// # Errors
 /// The refusal, or `Memory`.
-fn of_stock<A: Allocator + Copy>(
+fn of_holder<A: Allocator + Copy>(
     alloc: A,
     world: &World<A>,
+    named: Option<&Name>,
     tried: Result<Inventory<A>, DeskFault>,
 ) -> Result<Effect<A>, DeskFault>
+    requires { IfOk tried (λ v. AreOneButHolder world.now.inventory v (option_copied named)) }
     ensures ok { IfOk result (IsStockEffect world.now tried) }
     ensures err { IfErr result (IsStockFault tried) }
 {
@@ -45,7 +49,7 @@ fn of_stock<A: Allocator + Copy>(
         Ok(inventory) => inventory,
         Err(fault) => return Err(fault),
     };
-    match inventory_difference(alloc, &world.inventory, &inventory) {
+    match holder_difference(alloc, &world.inventory, &inventory, named) {
         Ok(change) => Ok(Effect::Parts(Next::Stock { inventory, change })),
         Err(_) => Err(DeskFault::Memory),
     }
@@ -120,22 +124,33 @@ pub fn effect_of<A: Allocator + Copy>(
     ensures spare { IfSome spare.new (λ s. s ≡ world.now.config) }
 {
     match command {
-        Command::Import { fabric, rows } => of_stock(alloc, world, imported(world, *fabric, rows)),
+        Command::Import { fabric, rows } => of_holder(
+            alloc,
+            world,
+            None,
+            imported(world, *fabric, rows),
+        ),
         Command::PutHolder {
             kind,
             name,
             tenant,
             ports,
-        } => of_stock(alloc, world, holder_put(world, *kind, name, tenant, ports)),
+        } => of_holder(
+            alloc,
+            world,
+            Some(name),
+            holder_put(world, *kind, name, tenant, ports),
+        ),
         Command::PutVolume { name, volume } => of_volume(
             alloc,
             world,
             name,
             volume_put(world, name, volume),
         ),
-        Command::DropHolder { kind, name } => of_stock(
+        Command::DropHolder { kind, name } => of_holder(
             alloc,
             world,
+            Some(name),
             holder_dropped(world, *kind, name),
         ),
         Command::DropVolume { name } => of_volume(alloc, world, name, volume_dropped(world, name)),

@@ -1,9 +1,8 @@
-use Rattle.std.proofs.Common.{◌≡◌, ◌∙◌, IfSome, inl, inr, sym, subst}
+use Rattle.std.proofs.Common.{◌∙◌, inl, inr, sym, subst}
 use Rattle.fab_desk_machine.specs.fab_desk_base.Answers.{IsMove, IsStep}
 use Rattle.fab_desk_machine.specs.Proposals.{request_of}
 use Rattle.fab_desk_machine.specs.Reports.{reply_of}
 use Rattle.fab_desk_machine.specs.fab_desk_commands.Nexts.{next_world}
-use Rattle.fab_world.specs.Worlds.{WorldRows}
 use Rattle.fab_desk.proofs.Changing.{no_read}
 use Rattle.fab_desk.proofs.answering.act.Goals as goal
 
@@ -62,15 +61,4 @@ returns-in-Ready-clause-doubt g c clean tied left leaves =
     elim (c.carry_out.ensures.doubt clean tied left leaves) [
       | inl before ↦ inl before
       | inr after ↦ inr (_, (_, c.in-Ready.ensures.proposes.replies after.1.0 after.1.1), after.0)
-    ]
-
-pub returns-in-Ready-clause-spare : goal.returns-in-Ready-clause-spare
-returns-in-Ready-clause-spare g c =
-    let w = c.args.world.now in
-    let is_spare = λ (v : WorldRows). IfSome c.drop_if_other.new.spare (λ s. s ≡ v.config) in
-    let kept = c.drop_if_other.ensures.before w c.propose.ensures.spare in
-    elim c.carry_out.ensures.done [
-      | inl memory ↦ subst is_spare (sym memory.1) kept
-      | inr (inl store) ↦ subst is_spare (sym store.1) kept
-      | inr (inr done) ↦ subst is_spare (sym done.1) (c.drop_if_other.ensures.after w c.propose.ensures.spare)
     ]

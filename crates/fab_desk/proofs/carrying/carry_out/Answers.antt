@@ -1,11 +1,13 @@
-use Rattle.std.proofs.Common.{inl, inr, refl, sym, ap, subst, ◌∙◌}
+use Rattle.std.proofs.Common.{◌≡◌, IfSome, inl, inr, refl, sym, ap, subst}
+use Rattle.fab_reach_base.specs.Records.{ConfigRows, Records}
+use Rattle.fab_reach_base.specs.Soundness.{IsSoundAlone}
 use Rattle.fab_desk_machine.proofs.Rooms.{same_records, room_for, ready_there, moved_there, back_there}
 use Rattle.fab_desk_machine.specs.fab_desk_commands.Nexts.{next_world}
 use Rattle.fab_store_base.specs.Worlds.{HoldsWorld}
 use Rattle.fab_store_tables.specs.Tables.{Tables, HaveKeys}
 use Rattle.fab_desk.specs.Desks.{IsTied}
 use Rattle.fab_desk.proofs.Tied.{can, tied_after, left_after}
-use Rattle.fab_world.specs.Worlds.{records_of}
+use Rattle.fab_world.specs.Worlds.{WorldRows, records_of}
 use Rattle.fab_desk.proofs.carrying.carry_out.Goals as goal
 
 pub take_over-requires-clause-room : goal.take_over-requires-clause-room
@@ -63,3 +65,15 @@ returns-in-Err-commit-clause-doubt g c clean tied left leaves =
       | inl before ↦ inl before
       | inr after ↦ inr (after, c.in-Ok.ensures.paths)
     ]
+
+pub returns-in-Ok-commit-clause-spare : goal.returns-in-Ok-commit-clause-spare
+returns-in-Ok-commit-clause-spare g c =
+    let w = c.args.world.now in
+    let same = ap (λ (r : Records). r.config) (same_records w c.make_ready.new.world c.args.change.next c.in-Ok.ensures.room) in
+    let after = subst (λ (v : WorldRows). IsSoundAlone v.config) {y = c.take_over.new.world} (sym (c.take_over.ensures.world w c.in-Ok.ensures.room)) c.requires.next_sound.config in
+    c.take_over.ensures.spare (subst (λ (d : ConfigRows). IfSome c.args.spare.now (λ s. s ≡ d)) (sym same) c.requires.spare) (subst IsSoundAlone (sym same) c.requires.sound.config) after
+
+pub returns-in-Err-commit-clause-spare : goal.returns-in-Err-commit-clause-spare
+returns-in-Err-commit-clause-spare g c =
+    let back = back_there c.args.world.now c.make_ready.new.world c.args.change.next c.in-Ok.ensures.room c.give_back.new.world c.requires.suits c.give_back.ensures in
+    subst (λ (v : WorldRows). IfSome c.args.spare.now (λ s. s ≡ v.config)) (sym back) c.requires.spare

@@ -10,7 +10,7 @@ pub returns-clause-stands : goal.returns-clause-stands
 returns-clause-stands g c =
     let w = c.args.world.now in
     let next = c.args.change.next in
-    subst (g.B.PathBook.stands c.adopt-delta.new.book) (taken_records w c.take_over.new.world next c.requires.room c.take_over.ensures) (c.adopt-delta.ensures.stands (records_of w) (records_of (next_world w next)) c.requires.step c.requires.stands)
+    subst (g.B.PathBook.stands c.adopt-delta.new.book) (taken_records w c.take_over.new.world next c.requires.room c.take_over.ensures.world) (c.adopt-delta.ensures.stands (records_of w) (records_of (next_world w next)) c.requires.step c.requires.stands)
 
 pub returns-clause-reply : goal.returns-clause-reply
 returns-clause-reply g c =
@@ -19,5 +19,5 @@ returns-clause-reply g c =
     let next = c.args.change.next in (
       d,
       c.reply_with.ensures,
-      subst (λ (r : Records). IsDelta (records_of w) r d.gained.items d.lost.items) (taken_records w c.take_over.new.world next c.requires.room c.take_over.ensures) (c.adopt-delta.ensures.delta (records_of w) (records_of (next_world w next)) c.requires.step),
+      subst (λ (r : Records). IsDelta (records_of w) r d.gained.items d.lost.items) (taken_records w c.take_over.new.world next c.requires.room c.take_over.ensures.world) (c.adopt-delta.ensures.delta (records_of w) (records_of (next_world w next)) c.requires.step),
     )

@@ -22,8 +22,8 @@ reconfigure_by-requires-clause-leads g c =
     let ready = subst (IsReadyFor c.args.world.now) c.in-Reconfigured.is c.requires in
     subst (λ (w : WorldRows). LeadsAt w c.in-Reconfigured.name c.in-Reconfigured.turn) (sym ready.2) ready.1.0
 
-pub returns-in-Staged : goal.returns-in-Staged
-returns-in-Staged g c before room =
+pub returns-in-Staged-clause-world : goal.returns-in-Staged-clause-world
+returns-in-Staged-clause-world g c before room =
     let n = c.in-Staged.name in
     let p = c.in-Staged.plan in
     c.put_plan.ensures
