@@ -17,8 +17,8 @@ TOP = pathlib.Path(__file__).resolve().parent.parent
 MOST_LINES = 150
 # So many words of a contract in a row are the contract told again.
 SAME_WORDS = 14
-# Before and after a library's proof rt sums the crates below it, along each way down anew: 3 ms a way.
-MOST_WAYS = 12_000
+# Before and after a library's proof one kit sums the crates below it, along each way down anew: 3 ms a way.
+MOST_WAYS = 24_000
 # Names in it may be gone: a figure stays that of its day.
 DATED = "docs/measurements.md"
 CONTRACTS = "docs/CONTRACTS.md"

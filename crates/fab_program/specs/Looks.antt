@@ -11,12 +11,12 @@ use Rattle.fab_program_words.specs.declared.words.Who.{Who}
 use Rattle.fab_program_words.specs.declared.words.WhoOf.{WhoOf}
 use Rattle.fab_program_words.specs.declared.words.WhoOf.TheVariants as of
 use Rattle.fab_program_words.specs.declared.words.Why.{Why}
-use Rattle.fab_program_serving.specs.fab_program_outside.Coming.{Then}
-use Rattle.fab_program_serving.specs.fab_program_outside.Contents.{IsPolicyAt}
-use Rattle.fab_program_serving.specs.fab_program_outside.declared.faults.Fault.{Fault}
-use Rattle.fab_program_serving.specs.fab_program_outside.declared.files.Files as files
-use Rattle.fab_program_serving.specs.fab_store.declared.Store as store
-use Rattle.fab_program_serving.specs.fab_program_desks.declared.database.Databases as databases
+use Rattle.fab_program_outside.specs.Coming.{Then}
+use Rattle.fab_program_outside.specs.Contents.{IsPolicyAt}
+use Rattle.fab_program_outside.specs.declared.faults.Fault.{Fault}
+use Rattle.fab_program_outside.specs.declared.files.Files as files
+use Rattle.fab_store.specs.declared.Store as store
+use Rattle.fab_program_desks.specs.declared.database.Databases as databases
 
 abbrev pub who_look : WhoOf → Look
 who_look (of.Volume volume) = look.Who volume

@@ -4,16 +4,16 @@ use Rattle.std.specs.declared.alloc.Global.{Global}
 use Rattle.fab_desk_base.specs.declared.command.Query.TheVariants as query
 use Rattle.fab_files.specs.declared.forms.Form.TheVariants as form
 use Rattle.fab_files.specs.declared.printing.End.{End}
-use Rattle.fab_program_serving.specs.fab_program_outside.Faults.{line_of, words_line}
-use Rattle.fab_program_serving.specs.fab_program_outside.Moments.{IsMoment}
-use Rattle.fab_program_serving.specs.fab_program_outside.Telling.{IsTold}
-use Rattle.fab_program_serving.specs.fab_program_outside.declared.faults.Fault.{Fault}
-use Rattle.fab_program_serving.specs.fab_program_outside.declared.faults.Fault.TheVariants as fault
-use Rattle.fab_program_serving.specs.fab_program_outside.declared.files.Files as files
+use Rattle.fab_program_outside.specs.Faults.{line_of, words_line}
+use Rattle.fab_program_outside.specs.Moments.{IsMoment}
+use Rattle.fab_program_outside.specs.Telling.{IsTold}
+use Rattle.fab_program_outside.specs.declared.faults.Fault.{Fault}
+use Rattle.fab_program_outside.specs.declared.faults.Fault.TheVariants as fault
+use Rattle.fab_program_outside.specs.declared.files.Files as files
 use Rattle.fab_wire_serving.specs.declared.server.Server as server
-use Rattle.fab_program_serving.specs.fab_wire.declared.outcome.Outcome.{Outcome}
-use Rattle.fab_program_serving.specs.fab_store.declared.OpenFault.{OpenFault}
-use Rattle.fab_program_serving.specs.fab_store.declared.Store as store
+use Rattle.fab_wire.specs.declared.outcome.Outcome.{Outcome}
+use Rattle.fab_store.specs.declared.OpenFault.{OpenFault}
+use Rattle.fab_store.specs.declared.Store as store
 use Rattle.fab_program_options.specs.declared.reading.WordsFault.{WordsFault}
 use Rattle.fab_program_options.specs.declared.reading.WordsFault.TheVariants as wrong
 use Rattle.fab_program_words.specs.declared.words.Words.{Words}
@@ -22,15 +22,15 @@ use Rattle.fab_program_checks.specs.Checks.{CheckComes}
 use Rattle.fab_program_checks.specs.declared.modes.Modes as modes
 use Rattle.fab_program_explains.specs.Explains.{ExplainComes, now_in}
 use Rattle.fab_program_commands.specs.Commands.{DryRunComes, ImportComes, ShowComes}
-use Rattle.fab_program_serving.specs.fab_program_desks.Databases.{IsMade}
-use Rattle.fab_program_serving.specs.fab_program_desks.Desks.{ProgramDesk}
+use Rattle.fab_program_desks.specs.Databases.{IsMade}
+use Rattle.fab_program_desks.specs.Desks.{ProgramDesk}
 use Rattle.fab_program.specs.Exits.{end_of_making, end_only}
 use Rattle.fab_program.specs.Looks.{WhyComes, WhoComes, NamesComes}
 use Rattle.fab_program_serving.specs.Once.{ComesOnce}
 use Rattle.fab_program_serving.specs.Servings.{ComesServing}
 use Rattle.fab_program.specs.Tries.{DiffComes, TryImportComes}
-use Rattle.fab_program_serving.specs.fab_program_desks.declared.addresses.Addresses as addresses
-use Rattle.fab_program_serving.specs.fab_program_desks.declared.database.Databases as databases
+use Rattle.fab_program_desks.specs.declared.addresses.Addresses as addresses
+use Rattle.fab_program_desks.specs.declared.database.Databases as databases
 
 -- a fault has its line on standard error; nothing else is told
 abbrev pub IsToldOf : {E : Type 0} → (E → List ℕ → E → Type 0) → (E → List ℕ → E → Type 0) → E → Result End Fault → E → Type 0

@@ -4,17 +4,17 @@ use Rattle.std.specs.declared.alloc.Global.{Global}
 use Rattle.fab_files.specs.declared.printing.End.{End}
 use Rattle.fab_policy_base.specs.Policies.{PolicyRows}
 use Rattle.fab_program_commands.specs.Commands.{IsReadAt}
-use Rattle.fab_program_serving.specs.fab_program_desks.declared.database.Databases as databases
-use Rattle.fab_program_serving.specs.fab_program_outside.Coming.{Then}
-use Rattle.fab_program_serving.specs.fab_program_outside.Contents.{IsPolicyAt}
-use Rattle.fab_program_serving.specs.fab_program_outside.declared.faults.Fault.{Fault}
-use Rattle.fab_program_serving.specs.fab_program_outside.declared.files.Files as files
+use Rattle.fab_program_desks.specs.declared.database.Databases as databases
+use Rattle.fab_program_outside.specs.Coming.{Then}
+use Rattle.fab_program_outside.specs.Contents.{IsPolicyAt}
+use Rattle.fab_program_outside.specs.declared.faults.Fault.{Fault}
+use Rattle.fab_program_outside.specs.declared.files.Files as files
 use Rattle.fab_program_tries.specs.Telling.{TellsImport, TellsPlan}
 use Rattle.fab_program_tries.specs.Tries.{ComesTold, TriesOver}
 use Rattle.fab_program_tries.specs.declared.tries.Asked.{Asked}
 use Rattle.fab_program_words.specs.declared.words.Diff.{Diff}
 use Rattle.fab_program_words.specs.declared.words.TryImport.{TryImport}
-use Rattle.fab_program_serving.specs.fab_store.declared.Store as store
+use Rattle.fab_store.specs.declared.Store as store
 
 module _ {O T W : Type 0} (d : databases.Ghosts O T) (t : store.Ghosts T Global) (contents : W → Option (List ℕ)) where
   -- the tables at a path are opened, and then it is told what would be done there

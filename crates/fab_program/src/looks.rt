@@ -3,13 +3,13 @@ ghost use Rattle.std.specs.Prelude.{◌≡◌};
 ghost use Rattle.fab_program.specs.Looks as looks;
 ghost use Rattle.fab_program.specs.Looks.{ComesLooking, WhyComes, WhoComes, NamesComes};
 ghost use Rattle.fab_program_looks.specs.Looks.{LooksOver};
-ghost use Rattle.fab_program_serving.specs.fab_program_outside.Coming.{After, Then};
+ghost use Rattle.fab_program_outside.specs.Coming.{After, Then};
 
 use fab_files::End;
 use fab_policy_base::Policy;
+use fab_program_desks::Databases;
 use fab_program_looks::{Asked, Look, look_over};
-use fab_program_serving::desks::Databases;
-use fab_program_serving::outside::{Fault, Files, policy_of};
+use fab_program_outside::{Fault, Files, policy_of};
 use fab_program_words::{Access, Names, Who, WhoOf, Why};
 use std::alloc::Global;
 use std::io::Write;

@@ -2,7 +2,7 @@
 ghost use Rattle.fab_program.specs.Exits.{IsExitStatus};
 
 use crate::running::run;
-use fab_program_serving::outside::{fail, open_standard, refuse_args, seconds, words_of};
+use fab_program_outside::{fail, open_standard, refuse_args, seconds, words_of};
 use fab_wire_streams::counted::Counted;
 use std::io;
 

@@ -1,15 +1,15 @@
 //! What an import or the activation of a plan would do at a database: `tryimport` and `diff`.
 ghost use Rattle.std.specs.Prelude.{◌≡◌};
 ghost use Rattle.fab_program.specs.Tries.{ComesTrying, DiffComes, TryImportComes, TryImportComesIn};
-ghost use Rattle.fab_program_serving.specs.fab_program_outside.Coming.{After, Then};
+ghost use Rattle.fab_program_outside.specs.Coming.{After, Then};
 ghost use Rattle.fab_program_tries.specs.Telling.{TellsImport};
 ghost use Rattle.fab_program_tries.specs.Tries.{ComesTold, TriesOver};
 
 use fab_files::End;
 use fab_names::Fabric;
 use fab_policy_base::Policy;
-use fab_program_serving::desks::Databases;
-use fab_program_serving::outside::{Fault, Files, bytes_of, policy_of};
+use fab_program_desks::Databases;
+use fab_program_outside::{Fault, Files, bytes_of, policy_of};
 use fab_program_tries::{Asked, Trial, try_over};
 use fab_program_words::{Diff, TryImport};
 use std::alloc::Global;

@@ -8,11 +8,11 @@ use Rattle.fab_policy_base.specs.Policies.{PolicyRows}
 use Rattle.fab_files.specs.declared.forms.Form.{Form}
 use Rattle.fab_files.specs.declared.forms.Form.TheVariants.{Json}
 use Rattle.fab_files.specs.declared.printing.End.{End}
-use Rattle.fab_program_desks.specs.fab_program_outside.Coming.{Then}
-use Rattle.fab_program_desks.specs.fab_program_outside.Contents.{HasContent, IsPolicyAt, IsUnread}
-use Rattle.fab_program_desks.specs.fab_program_outside.declared.faults.Fault.{Fault}
-use Rattle.fab_program_desks.specs.fab_program_outside.declared.files.Files as files
-use Rattle.fab_program_desks.specs.fab_store.declared.Store as store
+use Rattle.fab_program_outside.specs.Coming.{Then}
+use Rattle.fab_program_outside.specs.Contents.{HasContent, IsPolicyAt, IsUnread}
+use Rattle.fab_program_outside.specs.declared.faults.Fault.{Fault}
+use Rattle.fab_program_outside.specs.declared.files.Files as files
+use Rattle.fab_store.specs.declared.Store as store
 use Rattle.fab_program_words.specs.declared.words.Access.{Access}
 use Rattle.fab_program_words.specs.declared.words.DryRun.{DryRun}
 use Rattle.fab_program_words.specs.declared.words.Import.{Import}

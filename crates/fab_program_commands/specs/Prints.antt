@@ -7,8 +7,8 @@ use Rattle.fab_files.specs.Printed.{IsPrinted}
 use Rattle.fab_files.specs.declared.forms.Form.{Form}
 use Rattle.fab_files.specs.declared.printing.End.{End}
 use Rattle.fab_files.specs.declared.printing.PrintFault.{PrintFault}
-use Rattle.fab_program_desks.specs.fab_program_outside.Printing.{fault_of_printing}
-use Rattle.fab_program_desks.specs.fab_program_outside.declared.faults.Fault.{Fault}
+use Rattle.fab_program_outside.specs.Printing.{fault_of_printing}
+use Rattle.fab_program_outside.specs.declared.faults.Fault.{Fault}
 
 -- the writer is printed the text of the answer in the form, and how it ended is what the answer says;
 -- or there was no memory, or the writer failed

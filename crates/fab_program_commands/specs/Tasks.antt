@@ -16,10 +16,10 @@ use Rattle.fab_policy_base.specs.Policies.{PolicyRows}
 use Rattle.fab_files.specs.declared.forms.Form.{Form}
 use Rattle.fab_files.specs.declared.forms.Form.TheVariants.{Json}
 use Rattle.fab_files.specs.declared.printing.End.{End}
-use Rattle.fab_program_desks.specs.fab_program_outside.Coming.{After, Then}
-use Rattle.fab_program_desks.specs.fab_program_outside.declared.faults.Fault.{Fault}
-use Rattle.fab_program_desks.specs.fab_store.declared.Store as store
-use Rattle.fab_program_desks.specs.fab_wire.Handled.{Handles, policy_of}
+use Rattle.fab_program_outside.specs.Coming.{After, Then}
+use Rattle.fab_program_outside.specs.declared.faults.Fault.{Fault}
+use Rattle.fab_store.specs.declared.Store as store
+use Rattle.fab_wire.specs.Handled.{Handles, policy_of}
 use Rattle.fab_wire_base.specs.declared.requests.Refusal.TheVariants as no
 use Rattle.fab_program_desks.specs.Databases.{IsDeskOver}
 use Rattle.fab_program_desks.specs.Desks.{ProgramDesk}

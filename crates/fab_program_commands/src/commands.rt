@@ -2,7 +2,7 @@
 ghost use Rattle.std.specs.Prelude.{◌≡◌, ℕ, Ok};
 ghost use Rattle.fab_desk_base.specs.declared.command.Query.TheVariants as queries;
 ghost use Rattle.fab_files.specs.declared.forms.Form.TheVariants as forms;
-ghost use Rattle.fab_program_desks.specs.fab_program_outside.Coming.{After, Then};
+ghost use Rattle.fab_program_outside.specs.Coming.{After, Then};
 ghost use Rattle.fab_program_commands.specs.Commands.{ComesBy, ComesIn, DryRunComes, ImportComes, ImportComesIn, ShowComes};
 ghost use Rattle.fab_program_commands.specs.Tasks.{AnswersTask};
 ghost use Rattle.fab_program_commands.specs.Tasks as tasks;
@@ -12,7 +12,7 @@ use fab_desk_base::Query;
 use fab_files::{End, Form};
 use fab_policy_base::Policy;
 use fab_program_desks::Databases;
-use fab_program_desks::outside::{Fault, Files, bytes_of, policy_of};
+use fab_program_outside::{Fault, Files, bytes_of, policy_of};
 use fab_program_words::{Access, DryRun, Export, Import, Paths};
 use std::alloc::Global;
 use std::io::Write;

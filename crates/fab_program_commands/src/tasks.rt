@@ -1,6 +1,6 @@
 //! What is done once at a desk, over any store.
 ghost use Rattle.std.specs.Prelude.{◌≡◌};
-ghost use Rattle.fab_program_desks.specs.fab_program_outside.Coming.{After, Then};
+ghost use Rattle.fab_program_outside.specs.Coming.{After, Then};
 ghost use Rattle.fab_program_desks.specs.Databases.{IsDeskOver};
 ghost use Rattle.fab_program_commands.specs.Prints.{IsPrintedTo};
 ghost use Rattle.fab_program_commands.specs.Tasks.{AnswersTask, ImportsAt, ImportsKnown, ComesOver, IsDone};
@@ -10,9 +10,9 @@ use fab_desk_base::{Command, DeskFault, Query, Reply};
 use fab_files::{End, Form, print};
 use fab_names::{Fabric, Name};
 use fab_policy_base::Policy;
-use fab_program_desks::outside::{Fault, is_too_large, of_printing};
-use fab_program_desks::store::Store;
 use fab_program_desks::{ProgramDesk, desk_over};
+use fab_program_outside::{Fault, is_too_large, of_printing};
+use fab_store::Store;
 use fab_wire_answers::answers::Answer;
 use fab_wire_base::requests::Refusal;
 use fab_wire_requests::port_list::{FileFault, read_ports};

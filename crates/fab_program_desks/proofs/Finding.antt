@@ -5,7 +5,7 @@ use Rattle.sqlite.specs.Held.{Held}
 use Rattle.sqlite.specs.State.{HasCleanDisk}
 use Rattle.sqlite_disk.specs.declared.Disk as disk
 use Rattle.sqlite_store.specs.declared.store.FileStore.{FileStore}
-use Rattle.fab_program_loading.specs.fab_program_outside.declared.faults.Fault.{Fault}
+use Rattle.fab_program_outside.specs.declared.faults.Fault.{Fault}
 use Rattle.fab_program_desks.specs.Tables.{IsBrought, IsFound, IsUnbrought, IsUnfound}
 
 -- by what a call answers

@@ -3,14 +3,14 @@ use Rattle.std.specs.Prelude.{◌≡◌, ◌⊎◌, Result, Ok, Err}
 use Rattle.std.specs.declared.alloc.Global.{Global}
 use Rattle.fab_policy_base.specs.Policies.{PolicyRows}
 use Rattle.fab_program_loading.specs.Loading.{fault_of_opening}
-use Rattle.fab_program_loading.specs.fab_program_outside.Coming.{Then}
-use Rattle.fab_program_loading.specs.fab_program_outside.Contents.{IsFree, IsUsed}
-use Rattle.fab_program_loading.specs.fab_program_outside.declared.faults.Fault.{Fault}
-use Rattle.fab_program_loading.specs.fab_program_outside.declared.faults.Fault.TheVariants as fault
-use Rattle.fab_program_loading.specs.fab_program_outside.declared.files.Size.{Size}
-use Rattle.fab_program_loading.specs.fab_store.declared.OpenFault.{OpenFault}
-use Rattle.fab_program_loading.specs.fab_store.declared.OpenFault.TheVariants as opening
-use Rattle.fab_program_loading.specs.fab_store.declared.Store as store
+use Rattle.fab_program_outside.specs.Coming.{Then}
+use Rattle.fab_program_outside.specs.Contents.{IsFree, IsUsed}
+use Rattle.fab_program_outside.specs.declared.faults.Fault.{Fault}
+use Rattle.fab_program_outside.specs.declared.faults.Fault.TheVariants as fault
+use Rattle.fab_program_outside.specs.declared.files.Size.{Size}
+use Rattle.fab_store.specs.declared.OpenFault.{OpenFault}
+use Rattle.fab_store.specs.declared.OpenFault.TheVariants as opening
+use Rattle.fab_store.specs.declared.Store as store
 use Rattle.fab_wire.specs.Desks.{IsOpened, IsUnopened}
 use Rattle.fab_wire.specs.Handled.{policy_of, serving_of, world_of}
 use Rattle.fab_program_desks.specs.Desks.{ProgramDesk}

@@ -8,16 +8,16 @@ use Rattle.sqlite.specs.declared.error.Error.TheVariants.{SqliteFailure}
 use Rattle.sqlite.specs.declared.error.ErrorCode.TheVariants as code
 use Rattle.sqlite_disk.specs.declared.Disk as disk
 use Rattle.sqlite_store.specs.declared.store.FileStore.{FileStore}
-use Rattle.fab_program_loading.specs.fab_store.Laws.{Leaves}
-use Rattle.fab_program_loading.specs.fab_store.declared.OpenFault.{OpenFault}
-use Rattle.fab_program_loading.specs.fab_store.fab_store_base.Calls.{MigratesNot}
+use Rattle.fab_store.specs.Laws.{Leaves}
+use Rattle.fab_store.specs.declared.OpenFault.{OpenFault}
+use Rattle.fab_store.specs.fab_store_base.Calls.{MigratesNot}
 use Rattle.fab_store_migration.specs.Migrations.{IsKnown, IsOld}
 use Rattle.fab_store_schema.specs.Trees.{tables_of}
 use Rattle.fab_store_tables.specs.Tables.{Tables}
 use Rattle.fab_store_tables.specs.Versions.{IsMigrated}
 use Rattle.fab_program_loading.specs.Loading.{fault_of_opening}
-use Rattle.fab_program_loading.specs.fab_program_outside.declared.faults.Fault.{Fault}
-use Rattle.fab_program_loading.specs.fab_program_outside.declared.faults.Fault.TheVariants as fault
+use Rattle.fab_program_outside.specs.declared.faults.Fault.{Fault}
+use Rattle.fab_program_outside.specs.declared.faults.Fault.TheVariants as fault
 
 -- it cannot be opened, there was no memory, or else the store refused
 abbrev pub opened_fault : Error → Fault

@@ -1,13 +1,13 @@
 //! Databases: files with the tables of a desk, and tables in memory.
 ghost use Rattle.std.specs.Prelude.{ℕ, List, Result};
-ghost use Rattle.fab_program_loading.specs.fab_program_outside.declared.faults.Fault.{Fault};
+ghost use Rattle.fab_program_outside.specs.declared.faults.Fault.{Fault};
 ghost use Rattle.fab_program_desks.specs.Databases.{IsAgain, IsDeskOver, IsMade};
 
 use fab_policy_base::Policy;
 use fab_program_loading::of_opening;
-use fab_program_loading::outside::{Fault, Files, is_free};
-use fab_program_loading::store::{OpenFault, Store};
+use fab_program_outside::{Fault, Files, is_free};
 use fab_reach::IndexBook;
+use fab_store::{OpenFault, Store};
 use fab_wire::Desk;
 use std::alloc::Global;
 

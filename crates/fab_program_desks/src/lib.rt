@@ -8,6 +8,4 @@ mod machine;
 
 pub use addresses::Addresses;
 pub use database::{Databases, ProgramDesk, desk_over, make, tables_again};
-pub use fab_program_loading::{outside, store};
-pub use fab_wire as wire;
 pub use machine::new_tables;

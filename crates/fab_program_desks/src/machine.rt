@@ -11,8 +11,8 @@ ghost use Rattle.fab_program_desks.specs.Tables.{IsBrought, IsFound, IsUnbrought
 use crate::addresses::Addresses;
 use crate::database::Databases;
 use fab_program_loading::of_opening;
-use fab_program_loading::outside::{Fault, Machine};
-use fab_program_loading::store::{SqlStore, Store};
+use fab_program_outside::{Fault, Machine};
+use fab_store::{SqlStore, Store};
 use fab_wire_serving::listen_at;
 use sqlite::{Alter, Connection, Error, ErrorCode, File as DatabaseFile, FileStore, MemStore};
 use sqlite_disk::Disk;

@@ -3,6 +3,4 @@
 
 mod loading;
 
-pub use fab_program_outside as outside;
-pub use fab_store as store;
 pub use loading::{of_opening, world_of};

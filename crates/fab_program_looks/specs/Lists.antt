@@ -13,13 +13,13 @@ use Rattle.fab_looks.specs.declared.listing.Kind.{Kind}
 use Rattle.fab_looks.specs.declared.listing.Kind.TheVariants as kind
 use Rattle.fab_names.specs.declared.fabric.Fabric.TheVariants.{A, B}
 use Rattle.fab_policy_base.specs.Policies.{PolicyRows}
-use Rattle.fab_program_loading.specs.fab_program_outside.Printing.{Prints}
+use Rattle.fab_program_outside.specs.Printing.{Prints}
 use Rattle.fab_program_words.specs.declared.words.ListKind.{ListKind}
 use Rattle.fab_program_words.specs.declared.words.ListKind.TheVariants as list
 use Rattle.fab_program_words.specs.declared.words.ListState.{ListState}
 use Rattle.fab_program_words.specs.declared.words.ListState.TheVariants as state
-use Rattle.fab_program_loading.specs.fab_program_outside.declared.faults.Fault.{Fault}
-use Rattle.fab_program_loading.specs.fab_program_outside.declared.faults.Fault.TheVariants as fault
+use Rattle.fab_program_outside.specs.declared.faults.Fault.{Fault}
+use Rattle.fab_program_outside.specs.declared.faults.Fault.TheVariants as fault
 use Rattle.fab_store_rows.specs.declared.record_row.PlanState.{PlanState}
 use Rattle.fab_store_rows.specs.declared.record_row.PlanState.TheVariants as plan
 use Rattle.fab_world.specs.Worlds.{WorldRows}

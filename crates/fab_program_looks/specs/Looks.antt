@@ -11,9 +11,9 @@ use Rattle.fab_program_looks.specs.Telling.{IsTurnedAway, TellsPort, TellsWay, T
 use Rattle.fab_program_looks.specs.declared.looks.Asked.{Asked}
 use Rattle.fab_program_looks.specs.declared.looks.Look.{Look}
 use Rattle.fab_program_looks.specs.declared.looks.Look.TheVariants as look
-use Rattle.fab_program_loading.specs.fab_program_outside.Coming.{Then}
-use Rattle.fab_program_loading.specs.fab_program_outside.declared.faults.Fault.{Fault}
-use Rattle.fab_program_loading.specs.fab_store.declared.Store as store
+use Rattle.fab_program_outside.specs.Coming.{Then}
+use Rattle.fab_program_outside.specs.declared.faults.Fault.{Fault}
+use Rattle.fab_store.specs.declared.Store as store
 use Rattle.fab_world.specs.Worlds.{WorldRows}
 
 module _ {W : Type 0} (contents : W → Option (List ℕ)) where

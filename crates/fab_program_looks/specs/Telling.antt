@@ -20,9 +20,9 @@ use Rattle.fab_looks_ways.specs.Pairs.{ArePairs}
 use Rattle.fab_looks_ways.specs.declared.pairing.Pair.{Pair}
 use Rattle.fab_looks_ways.specs.declared.reachers.Reacher.{Reacher}
 use Rattle.fab_policy_base.specs.Policies.{PolicyRows}
-use Rattle.fab_program_loading.specs.fab_program_outside.Printing.{Prints}
-use Rattle.fab_program_loading.specs.fab_program_outside.declared.faults.Fault.{Fault}
-use Rattle.fab_program_loading.specs.fab_program_outside.declared.faults.Fault.TheVariants as fault
+use Rattle.fab_program_outside.specs.Printing.{Prints}
+use Rattle.fab_program_outside.specs.declared.faults.Fault.{Fault}
+use Rattle.fab_program_outside.specs.declared.faults.Fault.TheVariants as fault
 use Rattle.fab_wire_answers.specs.declared.answers.Answer.{Answer}
 use Rattle.fab_wire_answers.specs.declared.answers.Answer.TheVariants as answer
 use Rattle.fab_world.specs.Worlds.{WorldRows}

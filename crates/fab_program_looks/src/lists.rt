@@ -3,7 +3,7 @@ ghost use Rattle.std.specs.Prelude.{◌≡◌, ◌++◌, List, IfOk, filter};
 ghost use Rattle.fab_desk_base.specs.declared.reply.Shown.{Shown};
 ghost use Rattle.fab_looks.specs.Rows.{AreRows};
 ghost use Rattle.fab_program_looks.specs.Lists.{AreBoth, AreListed, TellsList, chosen, is_in, list_output, number_asked, number_of, table_of};
-ghost use Rattle.fab_program_loading.specs.fab_program_outside.Printing.{Prints};
+ghost use Rattle.fab_program_outside.specs.Printing.{Prints};
 ghost use Rattle.fab_world.specs.Soundness.{IsSound};
 
 use fab_desk_base::Shown;
@@ -12,7 +12,7 @@ use fab_files_looks::{RowsJson, RowsText, Table};
 use fab_looks::{Kind, list_rows, port_rows};
 use fab_names::Fabric;
 use fab_policy::{CallerId, Policy};
-use fab_program_loading::outside::{Fault, print_as};
+use fab_program_outside::{Fault, print_as};
 use fab_program_words::{ListKind, ListState};
 use fab_store_rows::PlanState;
 use fab_world::World;

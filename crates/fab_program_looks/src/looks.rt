@@ -2,7 +2,7 @@
 ghost use Rattle.std.specs.Prelude.{IfOk};
 ghost use Rattle.fab_program_loading.specs.Loading.{IsLoaded};
 ghost use Rattle.fab_program_looks.specs.Looks.{LooksAs, LooksAt, LooksOver};
-ghost use Rattle.fab_program_loading.specs.fab_program_outside.Coming.{After, Then};
+ghost use Rattle.fab_program_outside.specs.Coming.{After, Then};
 ghost use Rattle.fab_world.specs.Soundness.{IsSound};
 
 use crate::lists::list_at;
@@ -10,10 +10,10 @@ use crate::printing::{port_at, turn_away, who_at, why_at};
 use fab_files::End;
 use fab_names::{Name, Wwn};
 use fab_policy::{CallerId, Policy};
-use fab_program_loading::outside::Fault;
-use fab_program_loading::store::Store;
 use fab_program_loading::world_of;
+use fab_program_outside::Fault;
 use fab_program_words::{ListKind, ListState};
+use fab_store::Store;
 use fab_world::World;
 use std::alloc::Global;
 use std::io::Write;

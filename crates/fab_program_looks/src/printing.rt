@@ -1,7 +1,7 @@
 //! Looks whose answers are printed.
 ghost use Rattle.std.specs.Prelude.{◌≡◌};
 ghost use Rattle.fab_program_looks.specs.Telling.{IsTurnedAway, TellsPort, TellsWay, TellsWho, end_of_port, end_of_why, port_output, way_output, who_output};
-ghost use Rattle.fab_program_loading.specs.fab_program_outside.Printing.{Prints};
+ghost use Rattle.fab_program_outside.specs.Printing.{Prints};
 ghost use Rattle.fab_world.specs.Soundness.{IsSound};
 
 use fab_desk_base::{DeskFault, Reply, Shown};
@@ -12,7 +12,7 @@ use fab_looks_base::Why;
 use fab_looks_ways::{Pair, Reacher, pairs_told, reachers_told};
 use fab_names::{Name, Wwn};
 use fab_policy::{CallerId, Policy};
-use fab_program_loading::outside::{Fault, of_printing, print_as};
+use fab_program_outside::{Fault, of_printing, print_as};
 use fab_wire_answers::answers::Answer;
 use fab_world::World;
 use std::alloc::Global;

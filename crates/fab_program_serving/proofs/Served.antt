@@ -5,15 +5,15 @@ use Rattle.std.specs.declared.alloc.Global.{Global}
 use Rattle.std.specs.declared.net.TcpListener.{TcpListener}
 use Rattle.fab_policy_base.specs.Policies.{PolicyRows}
 use Rattle.fab_files.specs.declared.printing.End.{End}
-use Rattle.fab_program_desks.specs.fab_program_outside.Coming.{After}
-use Rattle.fab_program_desks.specs.fab_program_outside.declared.faults.Fault.{Fault}
+use Rattle.fab_program_outside.specs.Coming.{After}
+use Rattle.fab_program_outside.specs.declared.faults.Fault.{Fault}
 use Rattle.fab_wire_streams.specs.declared.counted.Counted.{Counted}
 use Rattle.fab_wire_serving.specs.Turns.{AreTurns, IsReopened, IsRestored}
 use Rattle.fab_wire_serving.specs.declared.server.Server as server
 use Rattle.fab_wire_serving.specs.declared.serving.ServeFault.{ServeFault}
-use Rattle.fab_program_desks.specs.fab_wire.declared.outcome.Outcome.{Outcome}
-use Rattle.fab_program_desks.specs.fab_store.declared.OpenFault.{OpenFault}
-use Rattle.fab_program_desks.specs.fab_store.declared.Store as store
+use Rattle.fab_wire.specs.declared.outcome.Outcome.{Outcome}
+use Rattle.fab_store.specs.declared.OpenFault.{OpenFault}
+use Rattle.fab_store.specs.declared.Store as store
 use Rattle.fab_program_desks.specs.Desks.{ProgramDesk}
 use Rattle.fab_program_serving.specs.Servings.{AreServed, EndsFrom, IsServedBy, IsServedOver, connection_time}
 

@@ -1,16 +1,16 @@
 -- What a desk that serves connections does.
 use Rattle.std.specs.Prelude.{ℕ, ◌≡◌, List, Bool, None, is_none}
 use Rattle.fab_wire_serving.specs.Sides.{Side, Sides}
-use Rattle.fab_program_desks.specs.fab_store.declared.OpenFault.{OpenFault}
-use Rattle.fab_program_desks.specs.fab_store.declared.Store as store
+use Rattle.fab_store.specs.declared.OpenFault.{OpenFault}
+use Rattle.fab_store.specs.declared.Store as store
 use Rattle.fab_wire_base.specs.Whole.{IsWhole}
-use Rattle.fab_program_desks.specs.fab_wire.Desks.{IsOpened, IsUnopened}
-use Rattle.fab_program_desks.specs.fab_wire.Handled.{policy_of, world_of, serving_of}
-use Rattle.fab_program_desks.specs.fab_wire.Known.{is_known}
-use Rattle.fab_program_desks.specs.fab_wire.Serving.{Serves}
-use Rattle.fab_program_desks.specs.fab_wire.Serving as wire
-use Rattle.fab_program_desks.specs.fab_wire.declared.Desk.{Desk}
-use Rattle.fab_program_desks.specs.fab_wire.declared.outcome.Outcome.{Outcome}
+use Rattle.fab_wire.specs.Desks.{IsOpened, IsUnopened}
+use Rattle.fab_wire.specs.Handled.{policy_of, world_of, serving_of}
+use Rattle.fab_wire.specs.Known.{is_known}
+use Rattle.fab_wire.specs.Serving.{Serves}
+use Rattle.fab_wire.specs.Serving as wire
+use Rattle.fab_wire.specs.declared.Desk.{Desk}
+use Rattle.fab_wire.specs.declared.outcome.Outcome.{Outcome}
 
 -- no store serves
 abbrev pub is_halted_desk : {A S B R : Type 0} → Desk A S B R → Bool

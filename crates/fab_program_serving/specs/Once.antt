@@ -5,15 +5,15 @@ use Rattle.fab_policy_base.specs.Policies.{PolicyRows}
 use Rattle.fab_policy_base.specs.declared.trial.TheConstants.{TRIAL_POLICY}
 use Rattle.fab_files.specs.declared.printing.End.{End}
 use Rattle.fab_files.specs.declared.printing.End.TheVariants.{Done}
-use Rattle.fab_program_desks.specs.fab_program_outside.Coming.{After, Then}
-use Rattle.fab_program_desks.specs.fab_program_outside.Contents.{IsPolicyAt, IsPolicyFrom}
-use Rattle.fab_program_desks.specs.fab_program_outside.declared.faults.Fault.{Fault}
-use Rattle.fab_program_desks.specs.fab_program_outside.declared.faults.Fault.TheVariants as fault
-use Rattle.fab_program_desks.specs.fab_program_outside.declared.files.Files as files
-use Rattle.fab_program_desks.specs.fab_store.declared.Store as store
-use Rattle.fab_program_desks.specs.fab_wire.Serving.{Side, side, Serves}
-use Rattle.fab_program_desks.specs.fab_wire.declared.outcome.Outcome.{Outcome}
-use Rattle.fab_program_desks.specs.fab_wire.declared.outcome.Outcome.TheVariants as outcomes
+use Rattle.fab_program_outside.specs.Coming.{After, Then}
+use Rattle.fab_program_outside.specs.Contents.{IsPolicyAt, IsPolicyFrom}
+use Rattle.fab_program_outside.specs.declared.faults.Fault.{Fault}
+use Rattle.fab_program_outside.specs.declared.faults.Fault.TheVariants as fault
+use Rattle.fab_program_outside.specs.declared.files.Files as files
+use Rattle.fab_store.specs.declared.Store as store
+use Rattle.fab_wire.specs.Serving.{Side, side, Serves}
+use Rattle.fab_wire.specs.declared.outcome.Outcome.{Outcome}
+use Rattle.fab_wire.specs.declared.outcome.Outcome.TheVariants as outcomes
 use Rattle.fab_program_words.specs.declared.words.Over.{Over}
 use Rattle.fab_program_words.specs.declared.words.Over.TheVariants as over
 use Rattle.fab_program_desks.specs.Databases.{IsDeskOver}

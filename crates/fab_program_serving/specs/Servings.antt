@@ -5,20 +5,20 @@ use Rattle.std.specs.declared.net.TcpListener.{TcpListener}
 use Rattle.fab_policy_base.specs.Policies.{PolicyRows}
 use Rattle.fab_files.specs.declared.printing.End.{End}
 use Rattle.fab_files.specs.declared.printing.End.TheVariants.{Done}
-use Rattle.fab_program_desks.specs.fab_program_outside.Coming.{Then}
-use Rattle.fab_program_desks.specs.fab_program_outside.Contents.{IsPolicyAt}
-use Rattle.fab_program_desks.specs.fab_program_outside.declared.faults.Fault.{Fault}
-use Rattle.fab_program_desks.specs.fab_program_outside.declared.faults.Fault.TheVariants as fault
-use Rattle.fab_program_desks.specs.fab_program_outside.declared.files.Files as files
+use Rattle.fab_program_outside.specs.Coming.{Then}
+use Rattle.fab_program_outside.specs.Contents.{IsPolicyAt}
+use Rattle.fab_program_outside.specs.declared.faults.Fault.{Fault}
+use Rattle.fab_program_outside.specs.declared.faults.Fault.TheVariants as fault
+use Rattle.fab_program_outside.specs.declared.files.Files as files
 use Rattle.fab_wire_streams.specs.Counting.{inner_of}
 use Rattle.fab_wire_streams.specs.declared.counted.Counted.{Counted}
 use Rattle.fab_wire_serving.specs.Turns.{AreTurns, most_turns}
 use Rattle.fab_wire_serving.specs.declared.server.Server as server
 use Rattle.fab_wire_serving.specs.declared.serving.ServeFault.{ServeFault}
 use Rattle.fab_wire_serving.specs.declared.serving.ServeFault.TheVariants as serving
-use Rattle.fab_program_desks.specs.fab_wire.declared.outcome.Outcome.{Outcome}
-use Rattle.fab_program_desks.specs.fab_store.declared.OpenFault.{OpenFault}
-use Rattle.fab_program_desks.specs.fab_store.declared.Store as store
+use Rattle.fab_wire.specs.declared.outcome.Outcome.{Outcome}
+use Rattle.fab_store.specs.declared.OpenFault.{OpenFault}
+use Rattle.fab_store.specs.declared.Store as store
 use Rattle.fab_program_words.specs.declared.words.Serve.{Serve}
 use Rattle.fab_program_desks.specs.Databases.{IsDeskOver}
 use Rattle.fab_program_desks.specs.Desks.{ProgramDesk}

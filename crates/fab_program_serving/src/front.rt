@@ -2,8 +2,8 @@
 ghost use Rattle.std.specs.Prelude.{◌≡◌};
 
 use fab_program_desks::ProgramDesk;
-use fab_program_desks::store::{OpenFault, Store};
-use fab_program_desks::wire::{KnownTo, Outcome, serve_one};
+use fab_store::{OpenFault, Store};
+use fab_wire::{KnownTo, Outcome, serve_one};
 use fab_wire_base::routes::Routes;
 use fab_wire_base::whole::lacks;
 use fab_wire_gathering::bounds::Bounded;
@@ -33,7 +33,7 @@ impl<S: Store<Global>> Server for Front<S> {
 
     ghost use Rattle.fab_program_serving.specs.Fronts.{is_halted_desk, IsWholeDesk, ServesDesk, ReleasesDesk, ReopensDesk, RefusesDesk};
     ghost use Rattle.fab_wire_log.specs.Shown.{shown_text};
-    ghost use Rattle.fab_program_desks.specs.fab_wire.Telling.{outcome_text};
+    ghost use Rattle.fab_wire.specs.Telling.{outcome_text};
 
     ghost is_halted = { λ f. is_halted_desk f.desk };
 

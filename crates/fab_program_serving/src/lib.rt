@@ -7,7 +7,5 @@ mod front;
 mod serving;
 
 pub use asking::once;
-pub use fab_program_desks as desks;
-pub use fab_program_desks::{outside, store, wire};
 pub use front::Front;
 pub use serving::serve;

@@ -1,16 +1,16 @@
 //! Connections served over a database.
 ghost use Rattle.std.specs.Prelude.{◌≡◌, ⊤};
-ghost use Rattle.fab_program_desks.specs.fab_program_outside.Coming.{After};
+ghost use Rattle.fab_program_outside.specs.Coming.{After};
 ghost use Rattle.fab_wire_serving.specs.Turns.{Gives};
 ghost use Rattle.fab_program_serving.specs.Servings.{AreServed, ComesServing, IsServedAt, IsServedBy, IsServedOver, served};
 
 use crate::front::Front;
 use fab_files::End;
 use fab_policy_base::Policy;
-use fab_program_desks::outside::{Fault, Files, policy_of};
-use fab_program_desks::store::{OpenFault, Store};
 use fab_program_desks::{Addresses, Databases, ProgramDesk, desk_over, tables_again};
+use fab_program_outside::{Fault, Files, policy_of};
 use fab_program_words::Serve;
+use fab_store::{OpenFault, Store};
 use fab_wire_base::routes::Routes;
 use fab_wire_log::Watch;
 use fab_wire_serving::{ServeFault, Server, serve_on};

@@ -21,8 +21,8 @@ use Rattle.fab_files_tries.specs.fab_looks_tries.declared.plans.TriedPlan.{Tried
 use Rattle.fab_names.specs.declared.fabric.Fabric.{Fabric}
 use Rattle.fab_policy_base.specs.Callers.{HasToken}
 use Rattle.fab_policy_base.specs.Policies.{PolicyRows}
-use Rattle.fab_program_loading.specs.fab_program_outside.Printing.{Prints}
-use Rattle.fab_program_loading.specs.fab_program_outside.declared.faults.Fault.{Fault}
+use Rattle.fab_program_outside.specs.Printing.{Prints}
+use Rattle.fab_program_outside.specs.declared.faults.Fault.{Fault}
 use Rattle.fab_wire_answers.specs.declared.answers.Answer.{Answer}
 use Rattle.fab_wire_answers.specs.declared.answers.Answer.TheVariants as answer
 use Rattle.fab_wire_base.specs.declared.requests.Refusal.{Refusal}

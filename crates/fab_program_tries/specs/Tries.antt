@@ -4,14 +4,14 @@ use Rattle.std.specs.declared.alloc.Global.{Global}
 use Rattle.fab_files.specs.declared.printing.End.{End}
 use Rattle.fab_policy_base.specs.Policies.{PolicyRows}
 use Rattle.fab_program_loading.specs.Loading.{IsLoaded}
-use Rattle.fab_program_loading.specs.fab_program_outside.Coming.{After, Then}
-use Rattle.fab_program_loading.specs.fab_program_outside.declared.faults.Fault.{Fault}
-use Rattle.fab_program_loading.specs.fab_program_outside.declared.faults.Fault.TheVariants as fault
+use Rattle.fab_program_outside.specs.Coming.{After, Then}
+use Rattle.fab_program_outside.specs.declared.faults.Fault.{Fault}
+use Rattle.fab_program_outside.specs.declared.faults.Fault.TheVariants as fault
 use Rattle.fab_program_tries.specs.Telling.{TellsImport, TellsPlan}
 use Rattle.fab_program_tries.specs.declared.tries.Asked.{Asked}
 use Rattle.fab_program_tries.specs.declared.tries.Trial.{Trial}
 use Rattle.fab_program_tries.specs.declared.tries.Trial.TheVariants as trial
-use Rattle.fab_program_loading.specs.fab_store.declared.Store as store
+use Rattle.fab_store.specs.declared.Store as store
 use Rattle.fab_world.specs.Worlds.{WorldRows}
 
 module _ {W : Type 0} (contents : W → Option (List ℕ)) where

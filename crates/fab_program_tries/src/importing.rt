@@ -13,7 +13,7 @@ use fab_files_tries::looks_tries::try_import;
 use fab_inventory::PortRow;
 use fab_names::Fabric;
 use fab_policy::Policy;
-use fab_program_loading::outside::{Fault, is_too_large};
+use fab_program_outside::{Fault, is_too_large};
 use fab_reach_books::PathBook;
 use fab_wire_base::requests::Refusal;
 use fab_world::World;

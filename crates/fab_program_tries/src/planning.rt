@@ -9,7 +9,7 @@ use fab_files::End;
 use fab_files_tries::looks_tries::try_plan;
 use fab_names::Name;
 use fab_policy::Policy;
-use fab_program_loading::outside::Fault;
+use fab_program_outside::Fault;
 use fab_reach_books::PathBook;
 use fab_world::World;
 use std::alloc::Global;

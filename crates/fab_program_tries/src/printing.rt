@@ -2,7 +2,7 @@
 ghost use Rattle.std.specs.Prelude.{◌≡◌};
 ghost use Rattle.fab_files.specs.Printed.{json_line};
 ghost use Rattle.fab_files.specs.declared.printing.End.TheVariants.{Done, Refused};
-ghost use Rattle.fab_program_loading.specs.fab_program_outside.Printing.{Prints};
+ghost use Rattle.fab_program_outside.specs.Printing.{Prints};
 ghost use Rattle.fab_program_tries.specs.Telling as telling;
 ghost use Rattle.fab_program_tries.specs.Telling.{import_output, plan_output, refused_with};
 
@@ -10,7 +10,7 @@ use fab_desk_base::{DeskFault, Reply};
 use fab_files::{End, Form, print};
 use fab_files_tries::looks_tries::{TriedImport, TriedPlan};
 use fab_files_tries::{ImportJson, ImportText, PlanJson, PlanText, is_over};
-use fab_program_loading::outside::{Fault, of_printing, print_as};
+use fab_program_outside::{Fault, of_printing, print_as};
 use fab_wire_answers::answers::Answer;
 use fab_wire_base::requests::Refusal;
 use std::alloc::Global;

@@ -1,7 +1,7 @@
 //! What an import or a plan would do, over a store.
 ghost use Rattle.std.specs.Prelude.{IfOk};
 ghost use Rattle.fab_program_loading.specs.Loading.{IsLoaded};
-ghost use Rattle.fab_program_loading.specs.fab_program_outside.Coming.{After, Then};
+ghost use Rattle.fab_program_outside.specs.Coming.{After, Then};
 ghost use Rattle.fab_program_tries.specs.Tries.{IsToldAt, TriesAs, TriesOver};
 ghost use Rattle.fab_world.specs.Soundness.{IsSound};
 ghost use Rattle.fab_world.specs.Worlds.{records_of};
@@ -12,11 +12,11 @@ use crate::planning::plan_at;
 use fab_files::End;
 use fab_names::{Fabric, Name};
 use fab_policy::Policy;
-use fab_program_loading::outside::Fault;
-use fab_program_loading::store::Store;
 use fab_program_loading::world_of;
+use fab_program_outside::Fault;
 use fab_reach::IndexBook;
 use fab_reach_books::PathBook;
+use fab_store::Store;
 use fab_world::World;
 use std::alloc::Global;
 use std::io::Write;

@@ -1,10 +1,10 @@
 //! A desk whose memory comes from an allocator of the test's, and what the tests ask of it.
 
 use fab_policy_base::{Policy, TRIAL_POLICY};
-use fab_program_serving::store::{SqlStore, Store};
-use fab_program_serving::wire::{Desk, serve_one};
 use fab_reach_books::PathBook;
+use fab_store::{SqlStore, Store};
 use fab_test_world::is_same;
+use fab_wire::{Desk, serve_one};
 use fab_wire_base::routes::Routes;
 use fab_wire_streams::counted::Counted;
 use fab_world::World;

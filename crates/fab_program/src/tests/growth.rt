@@ -8,9 +8,9 @@
 use super::answers::{Asking, asking_of, is_given};
 use super::desks::{Asked, Trial, desk_of, made};
 use super::quiet::is_quiet;
-use fab_program_serving::store::{SqlStore, Store};
 use fab_reach::IndexBook;
 use fab_reach_books::PathBook;
+use fab_store::{SqlStore, Store};
 use fab_test_alloc::Refusing;
 use fab_test_wire::rows::{
     ALIAS_PUT_ANEW, APPROVALS, FIRST_PLAN, ROLLED_BACK, SECOND_PLAN, UNIT_CLASH, UNMAPPED,

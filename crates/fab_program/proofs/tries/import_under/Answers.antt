@@ -1,5 +1,5 @@
 use Rattle.std.proofs.Common.{ℕ, List, Ok, Err, refl, subst}
-use Rattle.fab_program_serving.specs.fab_program_outside.Coming.{Then}
+use Rattle.fab_program_outside.specs.Coming.{Then}
 use Rattle.fab_program_tries.specs.Telling.{TellsImport}
 use Rattle.fab_program_tries.specs.Tries.{ComesTold}
 use Rattle.fab_program.proofs.tries.import_under.Goals as goal

@@ -1,6 +1,6 @@
 use Rattle.std.proofs.Common.{◌∙◌, ap, sym}
 use Rattle.fab_wire_streams.specs.Counting.{inner_of, failures_of}
-use Rattle.fab_program_desks.specs.fab_wire.Serving.{Serves, side}
+use Rattle.fab_wire.specs.Serving.{Serves, side}
 use Rattle.fab_program_serving.proofs.Beginnings.{begun}
 use Rattle.fab_program_serving.proofs.asking.once_now.Goals as goal
 
