@@ -2,3 +2,5 @@ mod Elsewhere
 mod Steps
 mod KeysNamed
 mod NoneTouched
+mod Clearing
+mod Touching

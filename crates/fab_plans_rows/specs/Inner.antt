@@ -1,2 +1,3 @@
 -- What private functions are proved by. No public contract names it.
 pub mod Mapped
+pub mod Beside

@@ -2,6 +2,7 @@
 //! done on a spare configuration where there is one.
 #![tactic(auto)]
 
+mod beside;
 mod changed;
 mod clash;
 mod keys;
