@@ -1,5 +1,5 @@
 //! What a command would make of the world, the limits on paths and on changes aside.
-ghost use Rattle.std.specs.Prelude.{◌≡◌, ℕ, IsSome, IfOk, IfErr, IfSome};
+ghost use Rattle.std.specs.Prelude.{◌≡◌, ℕ, None, IsSome, IfOk, IfErr, IfSome};
 ghost use Rattle.std.specs.Option.{option_copied};
 ghost use Rattle.fab_store_world.specs.Inventories.{AreOneButHolder, AreOneButVolume};
 ghost use Rattle.fab_world.specs.Soundness.{IsSound};
@@ -53,6 +53,22 @@ fn of_holder<A: Allocator + Copy>(
         Ok(change) => Ok(Effect::Parts(Next::Stock { inventory, change })),
         Err(_) => Err(DeskFault::Memory),
     }
+}
+
+/// The effect of an import: it tells the rows of ports in which the inventory differs.
+///
+/// # Errors
+/// The refusal, or `Memory`.
+fn of_import<A: Allocator + Copy>(
+    alloc: A,
+    world: &World<A>,
+    tried: Result<Inventory<A>, DeskFault>,
+) -> Result<Effect<A>, DeskFault>
+    requires { IfOk tried (λ v. AreOneButHolder world.now.inventory v None) }
+    ensures ok { IfOk result (IsStockEffect world.now tried) }
+    ensures err { IfErr result (IsStockFault tried) }
+{
+    of_holder(alloc, world, None, tried)
 }
 
 /// The effect of a command on a volume: it tells the row in which the inventory differs, and looks at
@@ -124,12 +140,7 @@ pub fn effect_of<A: Allocator + Copy>(
     ensures spare { IfSome spare.new (λ s. s ≡ world.now.config) }
 {
     match command {
-        Command::Import { fabric, rows } => of_holder(
-            alloc,
-            world,
-            None,
-            imported(world, *fabric, rows),
-        ),
+        Command::Import { fabric, rows } => of_import(alloc, world, imported(world, *fabric, rows)),
         Command::PutHolder {
             kind,
             name,

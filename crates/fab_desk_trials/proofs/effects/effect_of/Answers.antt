@@ -31,16 +31,16 @@ pub rolled_back-requires-clause-there : goal.rolled_back-requires-clause-there
 rolled_back-requires-clause-there g c = there c.args.world.now c.args.command.now (command.Rollback c.in-Rollback.plan) c.in-Rollback.is c.requires.there no_policy 0
 
 pub returns-in-Import-clause-ok : goal.returns-in-Import-clause-ok
-returns-in-Import-clause-ok g c = stock_ok c.args.world.now c.args.caller.now c.args.command.now (command.Import c.in-Import.fabric c.in-Import.rows) (ap tried (sym c.in-Import.is)) c.imported.result c.of_holder.result refl (c.imported.ensures.ok c.args.caller.now) c.imported.ensures.sound c.of_holder.ensures.ok
+returns-in-Import-clause-ok g c = stock_ok c.args.world.now c.args.caller.now c.args.command.now (command.Import c.in-Import.fabric c.in-Import.rows) (ap tried (sym c.in-Import.is)) c.imported.result c.of_import.result refl (c.imported.ensures.ok c.args.caller.now) c.imported.ensures.sound c.of_import.ensures.ok
 
 pub returns-in-Import-clause-err : goal.returns-in-Import-clause-err
-returns-in-Import-clause-err g c = stock_err c.args.world.now c.args.caller.now c.args.command.now (command.Import c.in-Import.fabric c.in-Import.rows) (ap tried (sym c.in-Import.is)) c.imported.result c.of_holder.result (c.imported.ensures.err c.args.caller.now) c.of_holder.ensures.err
+returns-in-Import-clause-err g c = stock_err c.args.world.now c.args.caller.now c.args.command.now (command.Import c.in-Import.fabric c.in-Import.rows) (ap tried (sym c.in-Import.is)) c.imported.result c.of_import.result (c.imported.ensures.err c.args.caller.now) c.of_import.ensures.err
 
 pub returns-in-PutHolder-clause-ok : goal.returns-in-PutHolder-clause-ok
-returns-in-PutHolder-clause-ok g c = stock_ok c.args.world.now c.args.caller.now c.args.command.now (command.PutHolder c.in-PutHolder.kind c.in-PutHolder.name c.in-PutHolder.tenant c.in-PutHolder.ports) (ap tried (sym c.in-PutHolder.is)) c.holder_put.result c.of_holder-in-PutHolder.result refl (c.holder_put.ensures.ok c.args.caller.now) c.holder_put.ensures.sound c.of_holder-in-PutHolder.ensures.ok
+returns-in-PutHolder-clause-ok g c = stock_ok c.args.world.now c.args.caller.now c.args.command.now (command.PutHolder c.in-PutHolder.kind c.in-PutHolder.name c.in-PutHolder.tenant c.in-PutHolder.ports) (ap tried (sym c.in-PutHolder.is)) c.holder_put.result c.of_holder.result refl (c.holder_put.ensures.ok c.args.caller.now) c.holder_put.ensures.sound c.of_holder.ensures.ok
 
 pub returns-in-PutHolder-clause-err : goal.returns-in-PutHolder-clause-err
-returns-in-PutHolder-clause-err g c = stock_err c.args.world.now c.args.caller.now c.args.command.now (command.PutHolder c.in-PutHolder.kind c.in-PutHolder.name c.in-PutHolder.tenant c.in-PutHolder.ports) (ap tried (sym c.in-PutHolder.is)) c.holder_put.result c.of_holder-in-PutHolder.result (c.holder_put.ensures.err c.args.caller.now) c.of_holder-in-PutHolder.ensures.err
+returns-in-PutHolder-clause-err g c = stock_err c.args.world.now c.args.caller.now c.args.command.now (command.PutHolder c.in-PutHolder.kind c.in-PutHolder.name c.in-PutHolder.tenant c.in-PutHolder.ports) (ap tried (sym c.in-PutHolder.is)) c.holder_put.result c.of_holder.result (c.holder_put.ensures.err c.args.caller.now) c.of_holder.ensures.err
 
 pub returns-in-PutVolume-clause-ok : goal.returns-in-PutVolume-clause-ok
 returns-in-PutVolume-clause-ok g c = stock_ok c.args.world.now c.args.caller.now c.args.command.now (command.PutVolume c.in-PutVolume.name c.in-PutVolume.volume) (ap tried (sym c.in-PutVolume.is)) c.volume_put.result c.of_volume.result refl (c.volume_put.ensures.ok c.args.caller.now) c.volume_put.ensures.sound c.of_volume.ensures.ok
@@ -99,11 +99,11 @@ of_volume-requires g c = ok_as c.volume_put.result (put_volume c.args.world.now 
 pub of_volume-requires-in-DropVolume : goal.of_volume-requires-in-DropVolume
 of_volume-requires-in-DropVolume g c = ok_as c.volume_dropped.result (volume_dropped c.args.world.now c.args.caller.now c.in-DropVolume.name) (c.volume_dropped.ensures.ok c.args.caller.now)
 
-pub of_holder-requires : goal.of_holder-requires
-of_holder-requires g c = ok_as c.imported.result (import_one c.args.world.now c.args.caller.now c.in-Import.fabric c.in-Import.rows) (c.imported.ensures.ok c.args.caller.now)
+pub of_import-requires : goal.of_import-requires
+of_import-requires g c = ok_as c.imported.result (import_one c.args.world.now c.args.caller.now c.in-Import.fabric c.in-Import.rows) (c.imported.ensures.ok c.args.caller.now)
 
-pub of_holder-requires-in-PutHolder : goal.of_holder-requires-in-PutHolder
-of_holder-requires-in-PutHolder g c = ok_as c.holder_put.result (put_one c.args.world.now c.args.caller.now c.in-PutHolder.kind c.in-PutHolder.name c.in-PutHolder.tenant c.in-PutHolder.ports) (c.holder_put.ensures.ok c.args.caller.now)
+pub of_holder-requires : goal.of_holder-requires
+of_holder-requires g c = ok_as c.holder_put.result (put_one c.args.world.now c.args.caller.now c.in-PutHolder.kind c.in-PutHolder.name c.in-PutHolder.tenant c.in-PutHolder.ports) (c.holder_put.ensures.ok c.args.caller.now)
 
 pub of_holder-requires-in-DropHolder : goal.of_holder-requires-in-DropHolder
 of_holder-requires-in-DropHolder g c = ok_as c.holder_dropped.result (dropped_one c.args.world.now c.args.caller.now c.in-DropHolder.kind c.in-DropHolder.name) (c.holder_dropped.ensures.ok c.args.caller.now)
