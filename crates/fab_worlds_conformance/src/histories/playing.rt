@@ -1,18 +1,12 @@
 //! The lines of a file, played one after the other.
 
-use crate::answers::{Answer, first_scarce, loading, word_of};
-use crate::making::{begin, hold, no_rows, put_config, put_plan, put_volume, row_of};
+use super::answers::{Answer, first_scarce, loading, word_of};
+use super::making::{begin, hold, no_rows, put_config, put_plan, put_volume, row_of};
+use crate::tally::Tally;
 use fab_inventory::HolderKind;
 use fab_store_rows::{ConfigRow, TableRows};
 use fab_test_alloc::Refusing;
 use std::alloc::Global;
-
-/// How many histories are as expected, and how many are not.
-#[derive(Clone, Copy)]
-pub struct Tally {
-    pub right: u64,
-    pub wrong: u64,
-}
 
 /// The rows that are known by number.
 type Known = Vec<ConfigRow, Global>;
@@ -68,14 +62,15 @@ fn is_told<'a>(
     rt: &HostRuntime,
     heap: &'a Refusing<Global>,
     tables: &TableRows<&'a Refusing<Global>>,
-    number: usize,
+    place: (&str, usize),
     line: (&str, &str),
 ) -> Option<bool> {
     let Some(odd) = odd_answer(heap, tables, line.0, line.1)? else {
         return Some(true);
     };
+    let (file, number) = place;
     let word = word_of(odd);
-    println!(rt; "line {number}: {word}").ok()?;
+    println!(rt; "{file}, line {number}: {word}").ok()?;
     Some(false)
 }
 
@@ -85,7 +80,7 @@ fn play_line<'a>(
     heap: &'a Refusing<Global>,
     known: &mut Known,
     tables: &mut TableRows<&'a Refusing<Global>>,
-    number: usize,
+    place: (&str, usize),
     line: &str,
 ) -> Option<Option<bool>> {
     let (word, text) = line.split_once(' ').unwrap_or((line, ""));
@@ -96,7 +91,7 @@ fn play_line<'a>(
             Some(None)
         }
         "opens" | "undo" | "scarce" => {
-            Some(Some(is_told(rt, heap, tables, number, (word, text))?))
+            Some(Some(is_told(rt, heap, tables, place, (word, text))?))
         }
         _ => {
             make(heap, known.as_slice(), tables, word, text)?;
@@ -105,34 +100,25 @@ fn play_line<'a>(
     }
 }
 
-/// One history more, if it is one.
-fn counted(tally: Tally, history: Option<bool>) -> Tally {
-    let Tally { right, wrong } = tally;
-    match history {
-        Some(true) => Tally {
-            right: right.saturating_add(1),
-            wrong,
-        },
-        Some(false) => Tally {
-            right,
-            wrong: wrong.saturating_add(1),
-        },
-        None => tally,
-    }
-}
-
-/// Plays the lines of a text, and counts the histories.
-pub fn play(rt: &HostRuntime, heap: &Refusing<Global>, text: &str) -> Option<Tally> {
+/// Plays the lines of a file's text, with memory from this heap, and counts the histories.
+fn play_lines(rt: &HostRuntime, heap: &Refusing<Global>, file: &str, text: &str) -> Option<Tally> {
     let mut known = Vec::new(rt.alloc());
     let mut tables = no_rows(heap)?;
-    let mut tally = Tally { right: 0, wrong: 0 };
+    let mut tally = Tally::new();
     for (place, line) in text.lines().enumerate() {
         let number = place.saturating_add(1);
-        let Some(history) = play_line(rt, heap, &mut known, &mut tables, number, line) else {
-            let _ = eprintln!(rt; "line {number} is not of the form");
+        let place = (file, number);
+        let Some(history) = play_line(rt, heap, &mut known, &mut tables, place, line) else {
+            let _ = eprintln!(rt; "{file}, line {number} is not of the form");
             return None;
         };
-        tally = counted(tally, history);
+        tally = tally.with(history);
     }
     Some(tally)
+}
+
+/// Plays the lines of a file's text, and counts the histories.
+pub fn play(rt: &HostRuntime, file: &str, text: &str) -> Option<Tally> {
+    let heap = Refusing::new(rt.alloc());
+    play_lines(rt, &heap, file, text)
 }

@@ -1,6 +1,6 @@
 //! What callers are told, as texts.
 
-use crate::making::name_of;
+use super::making::name_of;
 use fab_files_looks::link_word;
 use fab_looks::{told, who_told};
 use fab_looks_base::{Counts, Why};

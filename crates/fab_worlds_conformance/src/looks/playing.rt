@@ -1,7 +1,8 @@
 //! The lines of a file, played one after the other.
 
-use crate::asking::answer;
-use crate::making::Making;
+use super::asking::answer;
+use super::making::Making;
+use crate::tally::Tally;
 use fab_policy::Policy;
 use std::alloc::Global;
 
@@ -21,19 +22,12 @@ roles = []
 tenants = ["blue"]
 "#;
 
-/// How many looks are as expected, and how many are not.
-#[derive(Clone, Copy)]
-pub struct Tally {
-    pub right: u64,
-    pub wrong: u64,
-}
-
 /// Whether the caller of a line is told what it says; what differs is printed.
 fn is_told(
     rt: &HostRuntime,
     policy: &Policy,
     making: &Making,
-    number: usize,
+    place: (&str, usize),
     word: &str,
     text: &str,
 ) -> Option<bool> {
@@ -42,7 +36,8 @@ fn is_told(
     if told.as_str() == wanted {
         return Some(true);
     }
-    println!(rt; "line {number}: {word} {asked}: {told}").ok()?;
+    let (file, number) = place;
+    println!(rt; "{file}, line {number}: {word} {asked}: {told}").ok()?;
     Some(false)
 }
 
@@ -51,7 +46,7 @@ fn play_line(
     rt: &HostRuntime,
     policy: &Policy,
     making: &mut Making,
-    number: usize,
+    place: (&str, usize),
     line: &str,
 ) -> Option<Option<bool>> {
     let (word, text) = line.split_once(' ').unwrap_or((line, ""));
@@ -62,7 +57,7 @@ fn play_line(
             Some(None)
         }
         "why" | "who" | "pairs" | "by" => Some(Some(is_told(
-            rt, policy, making, number, word, text,
+            rt, policy, making, place, word, text,
         )?)),
         _ => {
             making.make(word, text)?;
@@ -71,39 +66,23 @@ fn play_line(
     }
 }
 
-/// One look more, if it is one.
-fn counted(tally: Tally, look: Option<bool>) -> Tally {
-    let Tally { right, wrong } = tally;
-    match look {
-        Some(true) => Tally {
-            right: right.saturating_add(1),
-            wrong,
-        },
-        Some(false) => Tally {
-            right,
-            wrong: wrong.saturating_add(1),
-        },
-        None => tally,
-    }
-}
-
 /// The policy of those who ask.
 fn policy(alloc: Global) -> Option<Policy> {
     Policy::read(alloc, POLICY).ok()
 }
 
-/// Plays the lines of a text, and counts the looks.
-pub fn play(rt: &HostRuntime, text: &str) -> Option<Tally> {
+/// Plays the lines of a file's text, and counts the looks.
+pub fn play(rt: &HostRuntime, file: &str, text: &str) -> Option<Tally> {
     let policy = policy(rt.alloc())?;
     let mut making = Making::new(rt.alloc());
-    let mut tally = Tally { right: 0, wrong: 0 };
+    let mut tally = Tally::new();
     for (place, line) in text.lines().enumerate() {
         let number = place.saturating_add(1);
-        let Some(look) = play_line(rt, &policy, &mut making, number, line) else {
-            let _ = eprintln!(rt; "line {number} is not of the form, or can not be done");
+        let Some(look) = play_line(rt, &policy, &mut making, (file, number), line) else {
+            let _ = eprintln!(rt; "{file}, line {number} is not of the form, or can not be done");
             return None;
         };
-        tally = counted(tally, look);
+        tally = tally.with(look);
     }
     Some(tally)
 }
