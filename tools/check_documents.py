@@ -2,7 +2,7 @@
 """Looks whether the documents are true of the repository: each crate is under a room's heading in crates.txt,
 names each crate that its line there has below it, is reached by few enough ways, and has one line in docs/house.md, each contract is told in
 docs/CONTRACTS.md alone and is in the file that is named, what documents name is there, there are as many recorded
-requests and wrong bodies as they say, and the README is short.
+requests and wrong bodies as they say, each wrong body fits the code that it changes, and the README is short.
 Commands that are shown with what they answer are run by examples/readme.sh and examples/session.sh.
 
 A line for each fault, and status 1 where there is one."""
@@ -127,10 +127,37 @@ def check_counts():
             faults.append(f"{name}: there are {told}")
 
 
+def misfit(path):
+    """Why a wrong body does not fit the code, if it does not: each 'old:' text stands once in its file, after those
+    before it were replaced. `rt ci` passes over one that does not fit."""
+    crate, texts, file, old = path.split("/must-fail/")[0], {}, "", ""
+    for line in (TOP / path).read_text().splitlines():
+        word, _, rest = line.partition(": ")
+        if word == "file":
+            file = f"{crate}/{rest.strip()}"
+            if file not in places:
+                return f"there is no {file}"
+        elif word == "old":
+            old = rest
+        elif line.startswith("new:"):
+            text = texts.get(file) or (TOP / file).read_text()
+            if text.count(old) != 1:
+                return f"{file} has {text.count(old)} times, and not once: {old.strip()}"
+            texts[file] = text.replace(old, rest)
+    return None if texts else "it changes nothing"
+
+
+def check_wrong_bodies():
+    for path in those(r"crates/\w+/must-fail/\w+\.(edit|md)"):
+        if why := misfit(path):
+            faults.append(f"{path}: {why}")
+
+
 check_rooms()
 check_ways()
 check_contracts()
 check_counts()
+check_wrong_bodies()
 for name, text in documents.items():
     for line in [] if name == DATED else text.splitlines():
         check_names(name, line)
