@@ -3,7 +3,6 @@ ghost use Rattle.std.specs.Prelude.{◌≡◌, ◌↔◌, Contains, IsTrue};
 ghost use Rattle.fab_reach_base.specs.fab_names.declared.fabric.Fabric.{Fabric};
 ghost use Rattle.fab_reach_base.specs.fab_names.declared.fabric.Fabric.TheVariants as fabric;
 ghost use Rattle.fab_world.specs.fab_plans.Steps.{fabric_of};
-ghost use Rattle.fab_world.specs.fab_plans_base.Actions.{zoning_step};
 ghost use Rattle.fab_world.specs.fab_plans_base.Steps.{PlanStep};
 ghost use Rattle.fab_world.specs.Worlds.{WorldRows};
 ghost use Rattle.fab_desk_base.specs.Commands.{NamesFabric};
@@ -11,25 +10,9 @@ ghost use Rattle.fab_desk_verdicts.specs.Named.{AreSteps};
 
 use fab_desk_base::Command;
 use fab_reach_base::names::Fabric;
-use fab_world::plans::base::{Action, Step, ZoningAction};
+use fab_world::plans::base::{Action, Step};
+use fab_world::plans::zoned;
 use std::alloc::Allocator;
-
-/// The fabric whose zoning the action changes.
-fn zoned<A: Allocator + Copy>(action: &ZoningAction<A>) -> Fabric
-    ensures { fabric_of (zoning_step action.now) ≡ Some result }
-{
-    match action {
-        ZoningAction::AliasPut { fabric, .. }
-        | ZoningAction::AliasDrop { fabric, .. }
-        | ZoningAction::ZonePut { fabric, .. }
-        | ZoningAction::ZoneDrop { fabric, .. }
-        | ZoningAction::SetPut { fabric, .. }
-        | ZoningAction::SetDrop { fabric, .. }
-        | ZoningAction::Activate { fabric, .. }
-        | ZoningAction::Deactivate { fabric }
-        | ZoningAction::Default { fabric, .. } => *fabric,
-    }
-}
 
 /// Whether the step is of the zoning of the fabric.
 fn is_of<A: Allocator + Copy>(step: &Step<A>, fabric: Fabric) -> bool

@@ -1,8 +1,7 @@
 //! Why a host reaches a volume or does not, as texts.
-ghost use Rattle.std.specs.Prelude.{◌≡◌, count_by};
+ghost use Rattle.std.specs.Prelude.{◌≡◌};
 ghost use Rattle.fab_files_looks.specs.Ways as ways;
 ghost use Rattle.fab_files_looks.specs.Ways.{found_line, found_lines, missing_data, no_line, path_line, path_lines, reaches_data, way_json, way_text, yes_line};
-ghost use Rattle.fab_looks_base.specs.Reachers.{is_in};
 ghost use Rattle.fab_looks_base.specs.declared.explaining.Why.TheVariants.{Missing, Reaches};
 ghost use Rattle.fab_wire_streams.specs.JsonText.{json_text};
 ghost use Rattle.fab_wire_streams.specs.Taking.{Takes};
@@ -14,7 +13,7 @@ use crate::words::{link_word, missing_words};
 use fab_desk_base::Shown;
 use fab_files::Printable;
 use fab_inventory::HolderKind;
-use fab_looks_base::{Link, Why};
+use fab_looks_base::{Link, Why, count_at};
 use fab_looks_ways::Pair;
 use fab_names::{Fabric, Name};
 use fab_reach_base::Path;
@@ -268,29 +267,6 @@ fn paths_word(count: usize) -> &'static str
     } else {
         " paths: A "
     }
-}
-
-/// Whether the path is in the fabric.
-fn is_in(fabric: Fabric, path: &Path) -> bool
-    ensures { result ≡ is_in fabric path.now }
-{
-    match fabric {
-        Fabric::A => match path.fabric {
-            Fabric::A => true,
-            Fabric::B => false,
-        },
-        Fabric::B => match path.fabric {
-            Fabric::A => false,
-            Fabric::B => true,
-        },
-    }
-}
-
-/// How many of the paths are in the fabric.
-fn count_at(paths: &[Path], fabric: Fabric) -> usize
-    ensures { result ≡ count_by (is_in fabric) paths.now }
-{
-    paths.iter().filter(|path| is_in(fabric, path)).count()
 }
 
 /// Puts the last line of a host that reaches a volume by these paths: how many there are, and how many of

@@ -1,5 +1,4 @@
 //! A policy in TOML, as its file has it, but for the tokens.
-ghost use Rattle.std.specs.Prelude.{◌≡◌, ◌++◌, codes};
 ghost use Rattle.std.specs.List.{flat_map};
 ghost use Rattle.fab_policy_base.specs.Words.{action_word};
 ghost use Rattle.fab_policy_base.specs.Policies.{tenants_of};
@@ -13,22 +12,6 @@ use fab_policy_base::{
 use fab_wire_streams::sink::{Sink, put_all};
 use fab_wire_streams::streams::WriteFailed;
 use itoa::Buffer;
-
-/// The word for an action.
-fn action_word(action: Action) -> &'static str
-    ensures { result.now ≡ action_word action }
-{
-    match action {
-        Action::Import => "import",
-        Action::Inventory => "inventory",
-        Action::Stage => "stage",
-        Action::Withdraw => "withdraw",
-        Action::Approve => "approve",
-        Action::DryRun => "dryrun",
-        Action::Activate => "activate",
-        Action::Rollback => "rollback",
-    }
-}
 
 /// Puts a fixed text.
 #[tactic(auto, unfolding(crate::specs::Shown::said))]
@@ -272,7 +255,7 @@ fn put_windows<S: Sink>(sink: &mut S, windows: &[Window]) -> Result<(), WriteFai
 fn put_action<S: Sink>(sink: &mut S, action: &Action) -> Result<(), WriteFailed>
     ensures { Takes S.took S.cut sink.old (item_line (action_word action.now)) sink.new result }
 {
-    put_item(sink, action_word(*action).as_bytes())
+    put_item(sink, action.word().as_bytes())
 }
 
 /// Puts actions, as elements of a list.

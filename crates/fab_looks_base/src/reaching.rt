@@ -42,7 +42,7 @@ fn is_in(fabric: Fabric, path: &Path) -> bool
 }
 
 /// How many of the paths are in the fabric.
-fn count_at(paths: &[Path], fabric: Fabric) -> usize
+pub fn count_at(paths: &[Path], fabric: Fabric) -> usize
     ensures { result ≡ count_by (is_in fabric) paths.now }
 {
     paths.iter().filter(|path| is_in(fabric, path)).count()

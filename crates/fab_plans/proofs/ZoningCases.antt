@@ -28,7 +28,8 @@ use Rattle.fab_plans.specs.declared.fault.Refusal.{Refusal}
 use Rattle.fab_plans.specs.declared.fault.Refusal.TheVariants as refusal
 use Rattle.fab_plans.proofs.FirstChecks.{passes_all, first_own, first_other, first_user, first_room}
 use Rattle.fab_plans.proofs.Facts.{not_both, none_without, room_or_full}
-use Rattle.fab_plans.proofs.SetSizes.{some_member, part_is_no_larger}
+use Rattle.fab_reach_base.proofs.fab_lemmas.Sizes.{some_member}
+use Rattle.fab_plans.proofs.SetSizes.{part_is_no_larger}
 
 -- a check that no step has
 none : (r : Refusal) → ⊥ → ⊥

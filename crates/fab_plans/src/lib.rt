@@ -21,3 +21,4 @@ pub use fault::{Item, Refusal, StepLimit, TrialFault};
 pub use outcome::{take_steps, trial};
 pub use plan::{ApprovalFault, Plan};
 pub use states::{Active, RolledBack, Staged, Withdrawn};
+pub use zoning_steps::zoned;

@@ -7,7 +7,7 @@ ghost use Rattle.fab_plans.specs.Telling.{IsFaultOf, fault_at};
 
 use crate::fault::StepFault;
 use crate::mapping_steps::take_mapping_step;
-use crate::zoning_steps::{fabric, take_zoning_step};
+use crate::zoning_steps::{take_zoning_step, zoned};
 use crate::{Refusal, TrialFault};
 use fab_plans_kept::base::{Action, Step};
 use fab_reach_base::Config;
@@ -29,7 +29,7 @@ fn take_step<A: Allocator + Copy>(
     ensures err { IfErr result (IsFaultOf (FailsIn (fabric_of step.now) inventory.now config.old step.now)) }
 {
     match step.action() {
-        Action::Zoning(action) => match fabric(action) {
+        Action::Zoning(action) => match zoned(action) {
             Fabric::A => take_zoning_step(&mut config.a, action),
             Fabric::B => take_zoning_step(&mut config.b, action),
         },

@@ -17,8 +17,8 @@ use fab_reach_base::names::Fabric;
 use fab_reach_base::zoning::{Zoning, ZoningFault, ZoningLimit};
 use std::alloc::Allocator;
 
-/// The fabric whose zoning the step is of.
-pub fn fabric<A: Allocator + Copy>(action: &ZoningAction<A>) -> Fabric
+/// The fabric whose zoning the action changes.
+pub fn zoned<A: Allocator + Copy>(action: &ZoningAction<A>) -> Fabric
     ensures { fabric_of (actions.zoning_step action.now) ≡ Some result }
 {
     match action {

@@ -1,4 +1,7 @@
 //! A policy: its callers, its windows and its rules.
+ghost use Rattle.std.specs.Prelude.{◌≡◌};
+ghost use Rattle.fab_policy_base.specs.Words.{action_word};
+
 use crate::text::Text;
 use fab_names::{Fabric, Name};
 use std::marker::Model;
@@ -22,6 +25,24 @@ pub enum Action {
     Activate,
     /// Rolls back the plan that was activated last.
     Rollback,
+}
+
+impl Action {
+    /// The word for the action, as a policy names it.
+    pub fn word(self) -> &'static str
+        ensures { result.now ≡ action_word self }
+    {
+        match self {
+            Action::Import => "import",
+            Action::Inventory => "inventory",
+            Action::Stage => "stage",
+            Action::Withdraw => "withdraw",
+            Action::Approve => "approve",
+            Action::DryRun => "dryrun",
+            Action::Activate => "activate",
+            Action::Rollback => "rollback",
+        }
+    }
 }
 
 /// Which tenants are a caller's.

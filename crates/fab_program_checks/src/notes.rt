@@ -24,22 +24,6 @@ pub fn warnings_in(finding: &Finding) -> &[Warning]
     }
 }
 
-/// The word for an action.
-fn action_word(action: Action) -> &'static str
-    ensures { result.now ≡ action_word action }
-{
-    match action {
-        Action::Import => "import",
-        Action::Inventory => "inventory",
-        Action::Stage => "stage",
-        Action::Withdraw => "withdraw",
-        Action::Approve => "approve",
-        Action::DryRun => "dryrun",
-        Action::Activate => "activate",
-        Action::Rollback => "rollback",
-    }
-}
-
 /// Puts a rule by its number and its name, and what is said of it.
 fn put_rule<S: Sink>(
     sink: &mut S,
@@ -88,7 +72,7 @@ fn put_unruled<S: Sink>(sink: &mut S, action: Action) -> Result<(), WriteFailed>
 {
     let texts = [
         b"no rule is about `".as_slice(),
-        action_word(action).as_bytes(),
+        action.word().as_bytes(),
         b"`: nobody may do it".as_slice(),
     ];
     put_all(sink, &texts)

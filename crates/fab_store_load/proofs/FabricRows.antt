@@ -1,15 +1,13 @@
 -- The zoning of a fabric by its rows.
-use Rattle.std.proofs.Common.{ℕ, ◌≡◌, ◌<◌, ◌⊎◌, ⊎_elim, List, [], ◌∷◌, Option, None, Some, Bool, true, false, ◌||◌, sym, ap, ◌∙◌, subst, refl, arith, MatchOption}
+use Rattle.std.proofs.Common.{ℕ, ◌≡◌, ◌⊎◌, ⊎_elim, List, Option, None, Some, Bool, true, false, sym, ap, ◌∙◌, subst, refl, MatchOption}
 use mathlib.Core.Bool.{true≢false}
 use Rattle.std.specs.declared.cmp.Ordering.{Ordering}
 use Rattle.std.specs.BTreeMap as tree
 use Rattle.std.specs.BTreeMap.{BTreeMap}
 use Rattle.std.specs.BTreeSet.{BTreeSet}
-use Rattle.std.specs.Cmp.{IsTotalOrder, tied_itself}
+use Rattle.std.specs.Cmp.{IsTotalOrder}
 use Rattle.std.specs.FinMap as map
 use Rattle.std.specs.FinSet as set
-use Rattle.std.specs.List.{list_any}
-use Rattle.std.specs.Ordering.{is_eq, eq_by_cmp}
 use Rattle.fab_names.specs.Orders.{name_cmp, member_cmp}
 use Rattle.fab_names.proofs.OrderLaws.{name_total, name_exact, member_total, member_exact}
 use Rattle.fab_names.specs.declared.fabric.Fabric.{Fabric}
@@ -17,6 +15,7 @@ use Rattle.fab_names.specs.declared.member.Member.{Member}
 use Rattle.fab_reach_base.specs.fab_lemmas.MapsOfSets.{MapOfSets, has, in_set, seen_sets}
 use Rattle.fab_reach_base.proofs.fab_lemmas.MapsOfSets.{get_seen, has_seen}
 use Rattle.fab_reach_base.proofs.fab_lemmas.Passing.{seen_some}
+use Rattle.fab_reach_base.proofs.fab_lemmas.Sizes.{some_member}
 use Rattle.fab_reach_base.specs.fab_zoning.declared.flag.DefaultFlag.{DefaultFlag}
 use Rattle.fab_reach_base.specs.fab_zoning_rows.Rows.{Rows}
 use Rattle.fab_reach_base.specs.fab_zoning_rows.Views.{seen_rows}
@@ -67,15 +66,8 @@ active_seen f rows t sorted h = subst (λ (test : Member × List ℕ → Bool). 
 
 -- listed sets are not empty
 module _ {K : Type 0} {R : K → K → Ordering} (o : IsTotalOrder R) (exact : set.IsAntisymmetric R) where
-  some_member : (s : set.FinSet R) → 0 < set.len s → (x : K) × (set.contains s x ≡ true)
-  some_member s h = by (set.items s) (λ q. set.contains-items s q)
-    where
-      by : (ks : List K) → ((q : K) → set.contains s q ≡ list_any (eq_by_cmp R q) ks) → (x : K) × (set.contains s x ≡ true)
-      by [] none = let e : s ≡ set.empty = set.same_set o exact s set.empty (λ q. none q ∙ sym (set.contains-empty R q)) in let n : set.len s ≡ 0 = ap set.len e ∙ set.len-empty R in absurd (omega arith)
-      by (x ∷ xs) is = (x, is x ∙ ap (λ r. is_eq r || list_any (eq_by_cmp R x) xs) (tied_itself o x))
-
   pub some_listed : (m : NamedSets R) → AreListings m → HasNoEmpty m
-  some_listed m h n s at = some_member s (h n s at).0
+  some_listed m h n s at = some_member o exact s (h n s at).0
 
   -- a map of listed sets that says the same rows as one without an empty set is that one
   pub listed_is : {S : Type 0} (row_of : Named K → S) (rows : List S) (m n : NamedSets R) → AreListings m → HasNoEmpty n → AreRows row_of rows (IsPair m) → AreRows row_of rows (IsPair n) → m ≡ n

@@ -1,19 +1,14 @@
 -- One entry more under a name.
 use Rattle.std.proofs.Common.{◌≡◌, [], ◌⊎◌, inl, inr, ⊎_elim, Option, None, Some, Bool, true, false, cond, refl, sym, ap, ◌∙◌, subst}
-use mathlib.Core.Bool.{true≢false}
 use Rattle.std.specs.declared.cmp.Ordering.{Ordering}
-use Rattle.std.specs.Ordering.{is_eq, eq_by_cmp}
+use Rattle.std.specs.Ordering.{is_eq}
 use Rattle.std.specs.BTreeMap.{BTreeMap, get, is_at}
-use Rattle.std.specs.BTreeSet.{BTreeSet, contains}
-use Rattle.std.specs.List.{list_any}
 use Rattle.std.specs.Map.{lookup}
 use Rattle.std.specs.Option.{option_and_then}
 use Rattle.std.specs.Cmp.{IsTotalOrder, Equal-is, tied_itself}
 use Rattle.std.specs.FinSet as set
-use Rattle.fab_reach_base.specs.fab_lemmas.MapsOfSets.{in_tree}
-use Rattle.fab_reach_base.proofs.fab_lemmas.Adding.{tree_adds_one}
 use Rattle.fab_store_load.specs.Rows.{StandsIn}
-use Rattle.fab_store_load.specs.Puts.{Puts}
+use Rattle.fab_reach_base.specs.fab_zoning.Edits.{Puts}
 
 -- the entry stands in the map, if there is one
 abbrev pub FoundIn : {K X : Type 0} → (K → K → Ordering) → Option (BTreeMap K X) → K × X → Type 0
@@ -26,27 +21,6 @@ puts_apart {Q} {K} {X} q k x F G puts d = (
   λ c. (puts (d.0.0, (d.0.1, d.1))).1 (⊎_elim inl (λ same. inr (ap (λ (e : (Q × K) × X). (e.0.0, (e.0.1, e.1))) same)) c),
 )
 
-module _ {Q S E : Type 0} {O : Q → Q → Ordering} (o : IsTotalOrder O) (exact : set.IsAntisymmetric O) (H : Option S → E → Type 0) where
-  -- what stands under a name has one entry more, and the other names have what they had
-  pub puts_under : (f g : Q → Option S) (k : Q) (w : S) (e : E) → ((q : Q) → g q ≡ cond (is_at (O k) q) (Some w) (f q)) → Puts e (H (f k)) (H (Some w)) → Puts {E = Q × E} (k, e) (λ d. H (f d.0) d.1) (λ d. H (g d.0) d.1)
-  puts_under f g k w e updates puts d = (
-    λ h. from (is_at (O k) d.0) refl (subst (λ s. H s d.1) (updates d.0) h),
-    λ c. subst (λ s. H s d.1) (sym (updates d.0)) (to (is_at (O k) d.0) refl c),
-  )
-    where
-      same_key : (q : Q) → is_at (O k) q ≡ true → k ≡ q
-      same_key q is = exact k q ((Equal-is (O k q)).0 is)
-
-      from : (b : Bool) → is_at (O k) d.0 ≡ b → H (cond b (Some w) (f d.0)) d.1 → H (f d.0) d.1 ⊎ (d ≡ (k, e))
-      from true is h = let same = same_key d.0 is in ⊎_elim (λ old. inl (subst (λ q. H (f q) d.1) same old)) (λ item. inr (λ i. (sym same i, item i))) ((puts d.1).0 h)
-      from false is h = inl h
-
-      to : (b : Bool) → is_at (O k) d.0 ≡ b → H (f d.0) d.1 ⊎ (d ≡ (k, e)) → H (cond b (Some w) (f d.0)) d.1
-      to true is c = let same = same_key d.0 is in ⊎_elim (λ old. (puts d.1).1 (inl (subst (λ q. H (f q) d.1) (sym same) old))) (λ whole. (puts d.1).1 (inr (ap (λ (x : Q × E). x.1) whole))) c
-      to false is (inl old) = old
-      to false is (inr whole) =
-          let tied : is_at (O k) d.0 ≡ true = ap (λ (x : Q × E). is_at (O k) x.0) whole ∙ ap is_eq (tied_itself o k) in absurd (true≢false (sym tied ∙ is))
-
 -- no map is empty once this one is written back
 pub some_under : {Q K X : Type 0} (O : Q → Q → Ordering) (P : K → K → Ordering) (f g : Q → Option (BTreeMap K X)) (k : Q) (w : BTreeMap K X) (q : K) (x : X) → ((p : Q) → g p ≡ cond (is_at (O k) p) (Some w) (f p)) → get P w q ≡ Some x
     → ((p : Q) (s : BTreeMap K X) → f p ≡ Some s → (y : K) × (z : X) × (get P s y ≡ Some z)) → (p : Q) (s : BTreeMap K X) → g p ≡ Some s → (y : K) × (z : X) × (get P s y ≡ Some z)
@@ -55,12 +29,6 @@ some_under {Q} {K} {X} O P f g k w q x updates here some p s at = by (is_at (O k
     by : (b : Bool) → cond b (Some w) (f p) ≡ Some s → (y : K) × (z : X) × (get P s y ≡ Some z)
     by true is = let same : w ≡ s = cc in (q, x, subst (λ m. get P m q ≡ Some x) same here)
     by false is = some p s is
-
--- the first item of a set
-pub puts_first_item : {X : Type 0} {R : X → X → Ordering} → IsTotalOrder R → set.IsAntisymmetric R → (s w : BTreeSet X) (v : X) (o : Option (BTreeSet X)) → s.keys ≡ [] → None ≡ o → ((q : X) → contains R w q ≡ cond (is_at (R v) q) true (contains R s q))
-    → Puts v (λ x. in_tree R o x ≡ true) (λ x. contains R w x ≡ true)
-puts_first_item {R = R} total exact s w v o empty none updates =
-    subst (λ (f : _ → Bool). Puts v (λ x. f x ≡ true) (λ x. contains R w x ≡ true)) (λ i x. (ap (λ ks. list_any (eq_by_cmp R x) ks) empty ∙ ap (λ p. in_tree R p x) none) i) (tree_adds_one total exact s w v updates)
 
 -- the first entry of a map
 pub puts_first_entry : {K X : Type 0} {P : K → K → Ordering} → IsTotalOrder P → set.IsAntisymmetric P → (m w : BTreeMap K X) (k : K) (v : X) (o : Option (BTreeMap K X)) → m.entries ≡ [] → None ≡ o → ((q : K) → get P w q ≡ cond (is_at (P k) q) (Some v) (get P m q))

@@ -3,7 +3,8 @@ use Rattle.std.proofs.Common.{ℕ, ◌≡◌, ◌<◌, ◌+◌, inl, inr, ⊎_el
 use Rattle.std.proofs.lemmas.List.{take-append-drop, take_more}
 use Rattle.std.proofs.lemmas.List.Elements.{Contains-push, Contains-push_cases, Contains-append_left}
 use Rattle.fab_store_load.specs.Rows.{AreRows, HasRepeat, StandsIn}
-use Rattle.fab_store_load.specs.Puts.{Puts, HasOther}
+use Rattle.fab_reach_base.specs.fab_zoning.Edits.{Puts}
+use Rattle.fab_store_load.specs.Others.{HasOther}
 
 -- the rows so far with the row of a step
 pub one_more : {X : Type 0} (xs : List X) (i : ℕ) (r : X) → i < length xs → r ≡ get_or xs i r → take i xs ++ r ∷ [] ≡ take (i + 1) xs

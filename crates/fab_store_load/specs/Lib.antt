@@ -1,5 +1,5 @@
 pub mod Rows
-pub mod Puts
+pub mod Others
 pub mod Kinds
 pub mod KindLaws
 pub mod Values

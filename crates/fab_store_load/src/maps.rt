@@ -1,9 +1,10 @@
 //! A map from rows.
-ghost use Rattle.std.specs.Prelude.{◌≡◌, ◌≢◌, Some, MatchOption, IfOk};
+ghost use Rattle.std.specs.Prelude.{Some, MatchOption, IfOk};
 ghost use Rattle.std.specs.Bool.{OnTrue, OnFalse};
 ghost use Rattle.std.specs.BTreeMap.{get};
 ghost use Rattle.fab_store_load.specs.Rows.{StandsIn, AreRows, HasRepeat};
-ghost use Rattle.fab_store_load.specs.Puts.{Puts, HasOther};
+ghost use Rattle.fab_reach_base.specs.fab_zoning.Edits.{Puts};
+ghost use Rattle.fab_store_load.specs.Others.{HasOther};
 
 use crate::kind::{Key, Kind, Value};
 use std::alloc::{AllocError, Allocator};

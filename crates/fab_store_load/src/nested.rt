@@ -1,8 +1,9 @@
 //! Maps under names from rows.
-ghost use Rattle.std.specs.Prelude.{◌≡◌, MatchOption, IfOk, OnOk};
+ghost use Rattle.std.specs.Prelude.{MatchOption, IfOk};
 ghost use Rattle.std.specs.Bool.{OnTrue, OnFalse};
 ghost use Rattle.fab_store_load.specs.Rows.{AreRows, IsAt, at, HasEntries, HasRepeat};
-ghost use Rattle.fab_store_load.specs.Puts.{Puts, HasOther};
+ghost use Rattle.fab_reach_base.specs.fab_zoning.Edits.{Puts};
+ghost use Rattle.fab_store_load.specs.Others.{HasOther};
 
 use crate::kind::{Key, Kind, Value};
 use crate::maps::put;

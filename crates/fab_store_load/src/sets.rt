@@ -1,7 +1,7 @@
 //! Sets under names from rows.
-ghost use Rattle.std.specs.Prelude.{◌≡◌, IfOk, OnOk};
+ghost use Rattle.std.specs.Prelude.{IfOk, OnOk};
 ghost use Rattle.fab_store_load.specs.Rows.{AreRows, IsIn, HasItems};
-ghost use Rattle.fab_store_load.specs.Puts.{Puts};
+ghost use Rattle.fab_reach_base.specs.fab_zoning.Edits.{Puts};
 
 use crate::kind::{Key, Kind};
 use std::alloc::{AllocError, Allocator};

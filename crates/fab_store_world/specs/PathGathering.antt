@@ -1,5 +1,5 @@
--- How the rows of paths are gathered: what the private loops say of themselves. No public contract
--- names anything of this file.
+-- How the rows of paths are gathered. Public contracts name `Has`, `IsRowOf` and `IsRowOfSome`; the rest is
+-- what private loops say of themselves.
 use Rattle.std.specs.Prelude.{◌≡◌, ◌↔◌, List, Contains, IsTrue}
 use Rattle.std.specs.BTreeSet.{BTreeSet, contains}
 use Rattle.fab_reach_base.specs.declared.path.Path.{Path}

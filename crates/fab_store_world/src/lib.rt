@@ -22,7 +22,7 @@ mod world;
 pub use holders::holder_difference;
 pub use inventories::{InventoryDifference, InventoryLists, inventory_difference};
 pub use order::order_of;
-pub use paths::{PathRowDifference, are_path_rows};
+pub use paths::{PathRowDifference, add_path_rows, are_path_rows};
 pub use tables::Changes;
 pub use volumes::volume_difference;
 pub use whole::{Plans, plans_of};

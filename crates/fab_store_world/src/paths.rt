@@ -1,4 +1,5 @@
-//! The rows of a world's paths, each with the host that holds its initiator, compared with given ones.
+//! The rows of paths, each with the host that holds its initiator; and those of a world's paths, compared with
+//! given ones.
 ghost use Rattle.std.specs.Prelude.{◌↔◌, ℕ, List, IsTrue, OnOk, IfOk, IfErr, MatchOption};
 ghost use Rattle.fab_reach_base.specs.Adding.{Adds};
 ghost use Rattle.fab_reach_base.specs.Reach.{IsInitiatorOf};
@@ -6,10 +7,10 @@ ghost use Rattle.fab_reach_base.specs.Views.{seen};
 ghost use Rattle.fab_store_world.specs.Paths.{ArePathRows, HasFewPaths, PathsFail};
 ghost use Rattle.fab_store_world.specs.PathGathering.{Has, HaveSame, IsRowOf, IsRowOfSome, HasPathRows};
 
-use fab_reach_base::inventory::{HolderKind, Inventory};
+use fab_reach_base::inventory::Inventory;
 use fab_reach_base::lemmas::set_of;
 use fab_reach_base::names::{Name, Wwn};
-use fab_reach_base::{Config, Path, PathsFault, View, few_paths};
+use fab_reach_base::{Config, Path, PathsFault, View, few_paths, host_of};
 use fab_world::load::rows::PathRow;
 use std::alloc::{AllocError, Allocator};
 use std::collections::BTreeSet;
@@ -23,22 +24,12 @@ pub struct PathRowDifference<A: Allocator> {
 }
 
 /// The host that holds the port of this name, if one does.
-fn host_of<A: Allocator + Copy>(view: &View<'_, A>, initiator: &Wwn) -> Option<Name>
+fn host_of_port<A: Allocator + Copy>(view: &View<'_, A>, initiator: &Wwn) -> Option<Name>
     ensures { MatchOption result ((h : List ℕ) → ¬ IsInitiatorOf (seen view.now) initiator.now h) (IsInitiatorOf (seen view.now) initiator.now) }
 {
-    let Some(port) = view.inventory.port(initiator) else {
-        return None;
-    };
-    let Some(name) = port.holder else {
-        return None;
-    };
-    let Some(holder) = view.inventory.holder(&name) else {
-        return None;
-    };
-    if holder.kind == HolderKind::Host {
-        Some(name)
-    } else {
-        None
+    match view.inventory.port(initiator) {
+        Some(port) => host_of(view, &port),
+        None => None,
     }
 }
 
@@ -50,15 +41,19 @@ fn add_row<A: Allocator + Copy>(
 ) -> Result<(), AllocError>
     ensures { OnOk result (Adds (IsRowOf (seen view.now) path.now) (Has rows.old) (Has rows.new)) }
 {
-    let Some(host) = host_of(view, &path.initiator) else {
+    let Some(host) = host_of_port(view, &path.initiator) else {
         return Ok(());
     };
     rows.insert(PathRow { host, path: *path })?;
     Ok(())
 }
 
-/// Adds the rows of the paths.
-fn add_rows<A: Allocator + Copy>(
+/// Adds the rows of the paths, each with the host that holds its initiator. A path whose initiator no
+/// host holds has no row.
+///
+/// # Errors
+/// `AllocError` where there is no memory: some of the rows may have been added.
+pub fn add_path_rows<A: Allocator + Copy>(
     rows: &mut BTreeSet<PathRow, A>,
     view: &View<'_, A>,
     paths: &[Path],
@@ -82,7 +77,7 @@ fn gather<A: Allocator + Copy>(
 {
     let paths = few_paths(alloc, view.inventory, view.config)?;
     let mut rows = BTreeSet::new(alloc);
-    add_rows(&mut rows, view, paths.as_slice())?;
+    add_path_rows(&mut rows, view, paths.as_slice())?;
     Ok(rows)
 }
 

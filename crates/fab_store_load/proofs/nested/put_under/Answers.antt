@@ -2,8 +2,9 @@ use Rattle.std.proofs.Common.{Bool, true, false, cond, Some, ap, ◌∙◌, subs
 use Rattle.std.specs.Bool.{OnTrue}
 use Rattle.std.specs.BTreeMap.{get, is_at}
 use Rattle.fab_store_load.specs.Rows.{StandsIn}
-use Rattle.fab_store_load.specs.Puts.{Puts}
-use Rattle.fab_store_load.proofs.Putting.{puts_under, puts_apart, puts_first_entry, some_under, FoundIn}
+use Rattle.fab_reach_base.specs.fab_zoning.Edits.{Puts}
+use Rattle.fab_reach_base.proofs.fab_zoning.Putting.{puts_under}
+use Rattle.fab_store_load.proofs.Putting.{puts_apart, puts_first_entry, some_under, FoundIn}
 use Rattle.fab_store_load.proofs.nested.put_under.Goals as goal
 
 -- where the entry was put

@@ -3,8 +3,8 @@ use Rattle.std.specs.BTreeMap.{get, is_at}
 use Rattle.std.specs.BTreeSet.{contains}
 use Rattle.fab_reach_base.specs.fab_lemmas.MapsOfSets.{in_tree}
 use Rattle.fab_reach_base.proofs.fab_lemmas.Adding.{tree_adds_one}
-use Rattle.fab_store_load.specs.Puts.{Puts}
-use Rattle.fab_store_load.proofs.Putting.{puts_under, puts_first_item}
+use Rattle.fab_reach_base.specs.fab_zoning.Edits.{Puts}
+use Rattle.fab_reach_base.proofs.fab_zoning.Putting.{puts_under, puts_first_item}
 use Rattle.fab_store_load.proofs.sets.add_item.Goals as goal
 
 pub returns-in_ok-insert-in-Some-clause-puts : goal.returns-in_ok-insert-in-Some-clause-puts

@@ -1,7 +1,7 @@
 use Rattle.fab_reach_base.specs.Views.{seen}
 use Rattle.fab_reach_base.proofs.Adding.{before_next}
 use Rattle.fab_store_world.specs.PathGathering.{Has, IsRowOf}
-use Rattle.fab_desk_rows.proofs.paths.add_rows.Goals as goal
+use Rattle.fab_store_world.proofs.paths.add_path_rows.Goals as goal
 
 pub loop-path-preserved : goal.loop-path-preserved
 loop-path-preserved g c =
