@@ -1,4 +1,4 @@
--- The tables of a file: how they are found, and why they are not.
+-- Tables brought to the present schema; those of a file: how they are found, and why they are not.
 use Rattle.std.specs.Prelude.{◌≡◌, ◌⊎◌, IsTrue}
 use Rattle.sqlite.specs.Files.{file_state, IsOpened}
 use Rattle.sqlite.specs.Held.{Held}
@@ -40,21 +40,30 @@ pub record IsBrought (before after : State) : Type 0 where
       ⊎ (IsOld before × IsTrue after.is_open × IsMigrated (tables_of before.now.trees) (tables_of after.now.trees))
   pub stop : MayLeaveBrought before after
 
-module _ {D : Type 0} (g : disk.Ghosts D) where
+module _ {H : Type 0} (state_of : H → State) where
   -- why the tables of a connection were not brought to the present schema: they are those of before
-  pub record IsUnbrought (before : Held (FileStore D g)) (told : Fault) : Type 0 where
-    pub after : Held (FileStore D g)
+  pub record IsUnbrought (before : H) (told : Fault) : Type 0 where
+    pub after : H
     pub why : OpenFault
-    pub same : HasCleanDisk (file_state after) → IsTrue (file_state after).is_open
-        → IsTrue (file_state before).is_open × (tables_of (file_state after).now.trees ≡ tables_of (file_state before).now.trees)
-    pub holds : HasCleanDisk (file_state after) → IsKnown (file_state before).now.schema → MigratesNot (tables_of (file_state before).now.trees) why
-    pub stop : HasCleanDisk (file_state after) → MayLeaveBrought (file_state before) (file_state after)
+    pub same : HasCleanDisk (state_of after) → IsTrue (state_of after).is_open
+        → IsTrue (state_of before).is_open × (tables_of (state_of after).now.trees ≡ tables_of (state_of before).now.trees)
+    pub holds : HasCleanDisk (state_of after) → IsKnown (state_of before).now.schema → MigratesNot (tables_of (state_of before).now.trees) why
+    pub stop : HasCleanDisk (state_of after) → MayLeaveBrought (state_of before) (state_of after)
     pub is : told ≡ fault_of_opening why
 
+  -- a connection of which this holds is the one before, and its tables were brought to the present schema
+  abbrev pub AreBroughtFrom : (H → Type 0) → H → Type 0
+  AreBroughtFrom Opened after = (before : H) × Opened before × (HasCleanDisk (state_of after) → HasCleanDisk (state_of before) × IsBrought (state_of before) (state_of after))
+
+  -- a connection of which this holds is the one before, and its tables were not brought to the present schema
+  abbrev pub AreUnbroughtFrom : (H → Type 0) → Fault → Type 0
+  AreUnbroughtFrom Opened told = (before : H) × Opened before × IsUnbrought before told
+
+module _ {D : Type 0} (g : disk.Ghosts D) where
   -- a file was opened as a database, and its tables were brought to the present schema
   abbrev pub IsFound : Held (FileStore D g) → Type 0
   IsFound after = (before : Held (FileStore D g)) × IsOpened before × IsBrought (file_state before) (file_state after)
 
   -- it was not opened, or its tables were not brought to the present schema
   abbrev pub IsUnfound : Fault → Type 0
-  IsUnfound told = IsUnopened told ⊎ ((before : Held (FileStore D g)) × IsUnbrought before told)
+  IsUnfound told = IsUnopened told ⊎ ((before : Held (FileStore D g)) × IsUnbrought file_state before told)

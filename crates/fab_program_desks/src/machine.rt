@@ -6,7 +6,7 @@ ghost use Rattle.sqlite.specs.State.{HasCleanDisk};
 ghost use Rattle.sqlite.specs.Steps.{over_memory};
 ghost use Rattle.fab_store_sql.specs.NewDesk.{IsNewDesk};
 ghost use Rattle.fab_store_schema.specs.Trees.{tables_of};
-ghost use Rattle.fab_program_desks.specs.Tables.{IsBrought, IsFound, IsUnbrought, IsUnfound, IsUnopened, opened_fault};
+ghost use Rattle.fab_program_desks.specs.Tables.{AreBroughtFrom, AreUnbroughtFrom, IsBrought, IsUnbrought, IsUnopened, opened_fault};
 
 use crate::addresses::Addresses;
 use crate::database::Databases;
@@ -96,9 +96,9 @@ pub fn new_tables(alloc: Global) -> Result<MemoryTables, Fault>
 /// `NewerSchema` where a newer schema stands in the settings; `Damaged` where none stands there that ever
 /// was; `Store` where the store refused, or the tables are not those of the schema that is told; `Memory`.
 /// The tables are as they were then.
-fn brought(tables: FileTables) -> Result<FileTables, Fault>
-    ensures done { IfOk result (λ after. HasCleanDisk (file_state after.conn) → HasCleanDisk (file_state tables.conn) × IsBrought (file_state tables.conn) (file_state after.conn)) }
-    ensures fault { IfErr result (IsUnbrought ⟦<DatabaseFile as Disk>⟧ tables.conn) }
+fn brought<S: Alter + Drop>(tables: SqlStore<S>) -> Result<SqlStore<S>, Fault>
+    ensures done { IfOk result (λ after. HasCleanDisk (state S.Store after.conn) → HasCleanDisk (state S.Store tables.conn) × IsBrought (state S.Store tables.conn) (state S.Store after.conn)) }
+    ensures fault { IfErr result (IsUnbrought (state S.Store) tables.conn) }
 {
     let mut tables = tables;
     match Store::<Global>::migrate(&mut tables) {
@@ -107,16 +107,20 @@ fn brought(tables: FileTables) -> Result<FileTables, Fault>
     }
 }
 
-/// The tables of the database in a file, brought to the present schema.
+/// The tables over a connection, if there is one, brought to the present schema.
 ///
 /// # Errors
-/// As for `connected` and `brought`.
-fn found(rt: &HostRuntime, path: &str) -> Result<FileTables, Fault>
-    ensures done { IfOk result (λ tables. HasCleanDisk (file_state tables.conn) → IsFound ⟦<DatabaseFile as Disk>⟧ tables.conn) }
-    ensures fault { IfErr result (IsUnfound ⟦<DatabaseFile as Disk>⟧) }
+/// Why there is no connection; else as for `brought`.
+fn brought_over<S: Alter + Drop>(
+    alloc: Global,
+    opened: Result<Connection<S>, Fault>,
+) -> Result<SqlStore<S>, Fault>
+    requires { IfOk opened (λ conn. conn.in_transaction ≡ false) }
+    ensures done { IfOk result (λ tables. AreBroughtFrom (state S.Store) (λ before. opened ≡ Ok before) tables.conn) }
+    ensures fault { IfErr result (λ fault. (opened ≡ Err fault) ⊎ AreUnbroughtFrom (state S.Store) (λ before. opened ≡ Ok before) fault) }
 {
-    match connected(rt, path) {
-        Ok(conn) => brought(SqlStore::new(conn, rt.alloc())),
+    match opened {
+        Ok(conn) => brought(SqlStore::new(conn, alloc)),
         Err(fault) => Err(fault),
     }
 }
@@ -140,7 +144,7 @@ impl<'r> Databases for Machine<'r> {
             Ok(file) => drop(file),
             Err(_) => return Err(Fault::File),
         }
-        found(self.rt, path)
+        brought_over(self.rt.alloc(), connected(self.rt, path))
     }
 
     fn new_tables_in(&self, path: &str) -> Result<FileTables, Fault> {

@@ -2,7 +2,7 @@ use Rattle.fab_program_desks.proofs.Finding.{either}
 use Rattle.fab_program_desks.proofs.machine.brought.Goals as goal
 
 pub returns-in-Ok-clause-done : goal.returns-in-Ok-clause-done
-returns-in-Ok-clause-done c clean = (
+returns-in-Ok-clause-done g c clean = (
   c.migrate.ensures.clean clean,
   record {
     tables = either c.in-Ok.field-0 (c.in-Ok.ensures.done clean) (λ told. (c.in-Ok.ensures.present told, c.in-Ok.ensures.unchanged clean told));
@@ -11,7 +11,7 @@ returns-in-Ok-clause-done c clean = (
 )
 
 pub returns-in-Err-clause-fault : goal.returns-in-Err-clause-fault
-returns-in-Err-clause-fault c = record {
+returns-in-Err-clause-fault g c = record {
   after = c.migrate.new.self.conn;
   why = c.in-Err.fault;
   same = λ clean. c.in-Err.ensures.failed clean;
