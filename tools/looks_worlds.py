@@ -1,12 +1,12 @@
 #!/usr/bin/env python3
-"""Makes the worlds that crates/fab_worlds_conformance plays: a few that were written by hand with their answers,
+"""Makes the worlds that crates/fab_worlds_players plays: a few that were written by hand with their answers,
 and 100 random worlds as text, and for each pair of a host and a volume, and for each volume, what two callers
 have to be told who ask `why` and `who`: the answer, the pairs of ports, and by what storage groups. The answers
 follow from the definitions alone, by sets and loops over all there is, and nothing here calls the desk.
 
-    python3 tools/looks_worlds.py > crates/fab_worlds_conformance/data/worlds.txt
+    python3 tools/looks_worlds.py > crates/fab_wire_conformance/data/worlds.txt
 
-The form of a line is told in crates/fab_worlds_conformance/src/looks.rt."""
+The form of a line is told in crates/fab_worlds_players/src/looks.rt."""
 import os
 import random
 

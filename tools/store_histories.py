@@ -1,13 +1,13 @@
 #!/usr/bin/env python3
-"""Makes the histories that crates/fab_worlds_conformance plays: configurations with the changes of the activations in
+"""Makes the histories that crates/fab_worlds_players plays: configurations with the changes of the activations in
 force, the oldest first, and of each whether a desk opens with it, or the changes are damaged. The answers of the told
 ones stand here as they were written; those of the random ones, and again of the told ones, follow from the definitions
 alone: each earlier configuration is made anew as a set of rows and looked at whole. Nothing here calls the desk.
 
-    python3 tools/store_histories.py > crates/fab_worlds_conformance/data/histories.txt
+    python3 tools/store_histories.py > crates/fab_wire_conformance/data/histories.txt
     python3 tools/store_histories.py --counts        # how many there are, by what is wrong first
 
-The form of a line is told in crates/fab_worlds_conformance/src/histories.rt."""
+The form of a line is told in crates/fab_worlds_players/src/histories.rt."""
 import collections
 import random
 import sys

@@ -1,4 +1,4 @@
-//! Why a file of exchanges is not played to its end.
+//! Why a file is not played to its end.
 
 use std::alloc::{AllocError, AllocFailed};
 use std::fmt::{self, Display};
@@ -14,6 +14,8 @@ pub enum Fault {
     Memory,
     /// The line of this number, from 1 on, is not of the form.
     Text(usize),
+    /// The line of this number is not of the form, or what it says can not be done or told.
+    Undone(usize),
     /// The scenario that begins in the line of this number has no policy, or one that is none.
     Policy(usize),
     /// There is no new desk for the scenario that begins in the line of this number.
@@ -27,6 +29,12 @@ impl Display for Fault {
             Fault::Output => write!(f, "what it comes to cannot be written"),
             Fault::Memory => write!(f, "there is no memory"),
             Fault::Text(line) => write!(f, "line {line} is not of the form"),
+            Fault::Undone(line) => {
+                write!(
+                    f,
+                    "line {line} is not of the form, or can not be done or told"
+                )
+            }
             Fault::Policy(line) => write!(f, "the scenario of line {line} has no policy"),
             Fault::Desk(line) => write!(f, "the scenario of line {line} gets no desk"),
         }

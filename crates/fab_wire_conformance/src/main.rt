@@ -8,19 +8,23 @@
 //! - `steps.txt`, ports, holders, zoning and mapping step by step; `plans.txt`, plans and their texts,
 //!   bodies, verdicts; `requests.txt`, tokens, port lists, inputs that end early, values as JSON;
 //!   `addresses.txt`, members by address; `ports.txt`, a list of as many ports as may be known and one of
-//!   a port more; `more.txt`, other cases: answers that were written by hand.
+//!   a port more; `more.txt`, other cases: answers that were written by hand;
+//! - `worlds.txt`, worlds with what two callers are told of each pair of a host and a volume, and of each
+//!   volume; `histories.txt`, configurations with the changes of the activations in force, and whether a
+//!   desk opens with them: made from the definitions by scripts. They are no exchanges:
+//!   `fab_worlds_players` plays them, and tells their form and how what differs is told.
 //!
 //! None is made by the desk itself. Nothing here is part of the product.
 //!
-//! Each scenario is played by a new desk in memory in each of seven ways: each request is read whole; byte
-//! by byte; behind others of which a read fails, of which nothing comes; with an answer that breaks off,
+//! Each scenario of exchanges is played by a new desk in memory in each of seven ways: each request is
+//! read whole; byte by byte; behind others of which a read fails, of which nothing comes; with an answer that breaks off,
 //! or that nobody takes, though the desk has acted; all of them as one list; and by a desk whose book asks
 //! about every pair of ports, which has to answer as the other. For each file a line
-//! says how many answers are as recorded. The form of a file is told in
-//! `texts`; a line that is not of it ends the player, which tells the file and the line on standard
+//! says how many answers are as recorded. The form of a file of exchanges is told in
+//! `texts`; a line that is not of its form ends the player, which tells the file and the line on standard
 //! error, with status 3. So does a policy that is none.
 //!
-//! An answer that differs is told on standard output, in the form of the files, and the status is 1:
+//! An answer that differs is told on standard output, in the form of the exchanges, and the status is 1:
 //!
 //! ```text
 //! rows.txt, line 77: default permit, request 3, read byte by byte: 404
@@ -54,19 +58,48 @@ mod texts;
 mod ways;
 
 use fab_wire_base::routes::Routes;
+use fab_worlds_players::{Tally, histories, looks};
 use faults::Fault;
-use playing::{Tally, play_in_each_way};
+use playing::play_in_each_way;
 use scenarios::scenarios_of;
 use std::process::ExitCode;
 use std::{env, fs};
+
+/// Plays a text of exchanges, in each way.
+fn play_exchanges(
+    rt: &HostRuntime,
+    routes: &Routes,
+    path: &str,
+    text: &str,
+) -> Result<Tally, Fault> {
+    let scenarios = scenarios_of(rt.alloc(), text)?;
+    play_in_each_way(rt, routes, path, scenarios.as_slice())
+}
+
+/// Why worlds or histories are not played to their end, where that is at the line of this number.
+fn undone(line: usize) -> Fault {
+    if line == 0 {
+        Fault::Memory
+    } else {
+        Fault::Undone(line)
+    }
+}
+
+/// Plays the text of a file: worlds and histories by their names, and else exchanges.
+fn play_text(rt: &HostRuntime, routes: &Routes, path: &str, text: &str) -> Result<Tally, Fault> {
+    match path {
+        "worlds.txt" => looks::play(rt, path, text).map_err(undone),
+        "histories.txt" => histories::play(rt, path, text).map_err(undone),
+        _ => play_exchanges(rt, routes, path, text),
+    }
+}
 
 /// Plays a file, says how many answers are as recorded, and tells whether all are.
 fn play_file(rt: &HostRuntime, routes: &Routes, path: &str) -> Result<bool, Fault> {
     let Ok(text) = fs::read_to_string(rt, path) else {
         return Err(Fault::File);
     };
-    let scenarios = scenarios_of(rt.alloc(), text.as_str())?;
-    let Tally { right, wrong } = play_in_each_way(rt, routes, path, scenarios.as_slice())?;
+    let Tally { right, wrong } = play_text(rt, routes, path, text.as_str())?;
     match println!(rt; "{path}: {right} answers as recorded, {wrong} otherwise") {
         Ok(()) => Ok(wrong == 0),
         Err(_) => Err(Fault::Output),

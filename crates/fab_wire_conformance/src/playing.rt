@@ -10,6 +10,7 @@ use fab_reach::{IndexBook, PathBook};
 use fab_reach_plain::PlainBook;
 use fab_wire::laws::serve_all;
 use fab_wire_base::routes::Routes;
+use fab_worlds_players::Tally;
 use std::alloc::Global;
 
 /// How many times a request comes at most of which a read fails.
@@ -17,24 +18,6 @@ const MOST_FAILURES: usize = 12;
 
 /// How many bytes a request of a scenario has at most that is played over the plain book.
 const MOST_BYTES: usize = 8192;
-
-/// How many answers are as recorded, and how many otherwise.
-#[derive(Clone, Copy)]
-pub struct Tally {
-    pub right: u64,
-    pub wrong: u64,
-}
-
-impl Tally {
-    /// Counts one more.
-    fn count(&mut self, is_right: bool) {
-        if is_right {
-            self.right = self.right.saturating_add(1);
-        } else {
-            self.wrong = self.wrong.saturating_add(1);
-        }
-    }
-}
 
 /// What is played: a scenario of a file, in one way.
 #[derive(Clone, Copy)]
@@ -275,7 +258,7 @@ pub fn play_in_each_way(
     path: &str,
     scenarios: &[Scenario<'_>],
 ) -> Result<Tally, Fault> {
-    let mut tally = Tally { right: 0, wrong: 0 };
+    let mut tally = Tally::new();
     for &way in WAYS {
         play_all(rt, routes, path, scenarios, way, &mut tally)?;
     }

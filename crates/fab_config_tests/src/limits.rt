@@ -1,6 +1,7 @@
 //! What no step of a plan can ask for: as many listed hosts as there may be, and the last unit, and one
 //! more of each.
-use crate::stock::{GOOD, named, stock, world};
+use crate::inventory::named;
+use crate::stock::{GOOD, stock, world};
 use fab_inventory::Inventory;
 use fab_mapping::{Mapping, MappingFault, MappingLimit};
 use std::alloc::Global;

@@ -1,5 +1,6 @@
 //! What is walked through of a mapping, groups that are the same, and copies.
-use crate::stock::{Row, named, world};
+use crate::inventory::named;
+use crate::stock::{Row, world};
 use fab_mapping::Mapping;
 use std::alloc::Global;
 use std::process::Abort;

@@ -1,4 +1,5 @@
 //! An inventory of hosts, arrays and volumes, and mappings of rows over it.
+use crate::inventory::{named, port};
 use fab_inventory::{HolderKind, Inventory, PortRow};
 use fab_mapping::{HostGroup, Mapping, StorageGroup};
 use fab_names::{Fabric, Name, Place, Wwn};
@@ -37,19 +38,6 @@ pub type Row = (
 
 /// A storage group that is sound and fits the stock.
 pub const GOOD: Row = ("g1", "arr1", "hosts1", 1, 0, "v1");
-
-/// The port of a number.
-fn port(number: u64) -> Wwn {
-    if number == 0 {
-        return Wwn::new(1);
-    }
-    Wwn::new(number)
-}
-
-/// The name that the text spells.
-pub fn named(rt: &impl Abort, text: &str) -> Name {
-    Name::read(text).expect(rt, "a name")
-}
 
 /// The records of ports 1 to 40.
 fn port_rows(rt: &(impl Abort + AllocGlobal)) -> Vec<PortRow> {

@@ -2,7 +2,7 @@
 
 use super::answers::{Answer, first_scarce, loading, word_of};
 use super::making::{begin, hold, no_rows, put_config, put_plan, put_volume, row_of};
-use crate::tally::Tally;
+use crate::Tally;
 use fab_inventory::HolderKind;
 use fab_store_rows::{ConfigRow, TableRows};
 use fab_test_alloc::Refusing;
@@ -101,24 +101,34 @@ fn play_line<'a>(
 }
 
 /// Plays the lines of a file's text, with memory from this heap, and counts the histories.
-fn play_lines(rt: &HostRuntime, heap: &Refusing<Global>, file: &str, text: &str) -> Option<Tally> {
+fn play_lines(
+    rt: &HostRuntime,
+    heap: &Refusing<Global>,
+    file: &str,
+    text: &str,
+) -> Result<Tally, usize> {
     let mut known = Vec::new(rt.alloc());
-    let mut tables = no_rows(heap)?;
+    let Some(mut tables) = no_rows(heap) else {
+        return Err(0);
+    };
     let mut tally = Tally::new();
     for (place, line) in text.lines().enumerate() {
         let number = place.saturating_add(1);
-        let place = (file, number);
-        let Some(history) = play_line(rt, heap, &mut known, &mut tables, place, line) else {
-            let _ = eprintln!(rt; "{file}, line {number} is not of the form");
-            return None;
-        };
-        tally = tally.with(history);
+        match play_line(rt, heap, &mut known, &mut tables, (file, number), line) {
+            Some(Some(is_right)) => tally.count(is_right),
+            Some(None) => {}
+            None => return Err(number),
+        }
     }
-    Some(tally)
+    Ok(tally)
 }
 
 /// Plays the lines of a file's text, and counts the histories.
-pub fn play(rt: &HostRuntime, file: &str, text: &str) -> Option<Tally> {
+///
+/// # Errors
+/// The number of the line, from 1 on, that is not of the form, or cannot be done for want of memory or told;
+/// 0 where there is no memory before the first. What differed before it was printed.
+pub fn play(rt: &HostRuntime, file: &str, text: &str) -> Result<Tally, usize> {
     let heap = Refusing::new(rt.alloc());
     play_lines(rt, &heap, file, text)
 }

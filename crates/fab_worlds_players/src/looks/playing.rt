@@ -2,7 +2,7 @@
 
 use super::asking::answer;
 use super::making::Making;
-use crate::tally::Tally;
+use crate::Tally;
 use fab_policy::Policy;
 use std::alloc::Global;
 
@@ -72,17 +72,23 @@ fn policy(alloc: Global) -> Option<Policy> {
 }
 
 /// Plays the lines of a file's text, and counts the looks.
-pub fn play(rt: &HostRuntime, file: &str, text: &str) -> Option<Tally> {
-    let policy = policy(rt.alloc())?;
+///
+/// # Errors
+/// The number of the line, from 1 on, that is not of the form, or cannot be done for want of memory or told;
+/// 0 where there is no memory before the first. What differed before it was printed.
+pub fn play(rt: &HostRuntime, file: &str, text: &str) -> Result<Tally, usize> {
+    let Some(policy) = policy(rt.alloc()) else {
+        return Err(0);
+    };
     let mut making = Making::new(rt.alloc());
     let mut tally = Tally::new();
     for (place, line) in text.lines().enumerate() {
         let number = place.saturating_add(1);
-        let Some(look) = play_line(rt, &policy, &mut making, (file, number), line) else {
-            let _ = eprintln!(rt; "{file}, line {number} is not of the form, or can not be done");
-            return None;
-        };
-        tally = tally.with(look);
+        match play_line(rt, &policy, &mut making, (file, number), line) {
+            Some(Some(is_right)) => tally.count(is_right),
+            Some(None) => {}
+            None => return Err(number),
+        }
     }
-    Some(tally)
+    Ok(tally)
 }
