@@ -1,5 +1,5 @@
 #!/usr/bin/env python3
-"""Shows what the player of recorded exchanges does with texts that are not of the form, and with an
+"""Shows what the player of recorded texts does with texts that are not of the form, and with an
 answer that differs: what it writes, and its status. PLAYER names the built player; without it the one
 is taken that `rt run` leaves in its crate. Each case is compared; the status is 1 where one is not as
 it has to be."""
@@ -62,7 +62,7 @@ def difference(way, recorded=OTHER, answered=ANSWERED, outcome="404"):
 
 # What it is, the bytes of the text, the status, and what is written on standard output and error.
 CASES = (
-    ("what is recorded", GOOD.encode(), 0, "text: 6 answers as recorded, 0 otherwise\n", ""),
+    ("what is recorded", GOOD.encode(), 0, "text: 7 answers as recorded, 0 otherwise\n", ""),
     (
         "an answer that differs",
         f"# A text.\n= one host\n{POLICY}{ASKED}{OTHER}{ASKED}{ANSWERED}".encode(),
@@ -72,7 +72,8 @@ CASES = (
         + difference("answered until a write fails", "< HTTP/1.1 200 OK\\r\n< Content-Type: \\\n",
                      "< HTTP/1.1 404 Not Found\\r\n< Content\\\n", "unsent")
         + difference("served in a list")
-        + "text: 7 answers as recorded, 5 otherwise\n",
+        + difference("asked about every pair")
+        + "text: 8 answers as recorded, 6 otherwise\n",
         "",
     ),
     ("no first line", GOOD[10:].encode(), 3, "", "text: line 1 is not of the form\n"),
@@ -99,19 +100,39 @@ CASES = (
     ("half a byte", f"{GOOD}@ 0\n> \\x0\n".encode(), 3, "", "text: line 22 is not of the form\n"),
     (
         "no policy, in which nobody is a caller", f"# A text.\n= a\n{ASKED}{NOBODY}".encode(), 0,
-        "text: 6 answers as recorded, 0 otherwise\n", "",
+        "text: 7 answers as recorded, 0 otherwise\n", "",
     ),
     ("a policy that is none", b"# A text.\n= a\n| x\n", 3, "", "text: the scenario of line 2 has no policy\n"),
     ("no UTF-8", GOOD.encode() + b"@ 0\n> \xff\n", 3, "", "text: it cannot be read\n"),
 )
 
+UNDONE = "is not of the form, or can not be done or told\n"
 
-def is_so(folder, case):
-    """Whether the player does with the text what the case says."""
+# The same of worlds and of histories, which the player knows by the names of their files.
+WORLDS = (
+    (
+        "nobody in a new world", b"# A text.\nworld 1\nwho all v1 = nobody\n", 0,
+        "worlds.txt: 1 answers as recorded, 0 otherwise\n", "",
+    ),
+    (
+        "a look that differs", b"# A text.\nworld 1\nwho all v1 = db1 1 0\nwho all v1 = nobody\n", 1,
+        "worlds.txt, line 3: who all v1: nobody\nworlds.txt: 1 answers as recorded, 1 otherwise\n", "",
+    ),
+    ("no word of worlds", b"world 1\nhosts db1\n", 3, "", f"worlds.txt: line 2 {UNDONE}"),
+    ("a plan of no step", b"world 1\n+ nothing\nplan\n", 3, "", f"worlds.txt: line 3 {UNDONE}"),
+)
+HISTORIES = (
+    ("no history", b"# A text.\n", 0, "histories.txt: 0 answers as recorded, 0 otherwise\n", ""),
+    ("a row that is not known", b"history\nplan p1 +7\n", 3, "", f"histories.txt: line 2 {UNDONE}"),
+)
+
+
+def is_so(folder, name, case):
+    """Whether the player does with the text, in a file of this name, what the case says."""
     what, text, status, output, errors = case
-    with open(os.path.join(folder, "text"), "wb") as file:
+    with open(os.path.join(folder, name), "wb") as file:
         file.write(text)
-    run = subprocess.run([PLAYER, "text"], cwd=folder, capture_output=True, check=False)
+    run = subprocess.run([PLAYER, name], cwd=folder, capture_output=True, check=False)
     found = (run.returncode, run.stdout.decode(), run.stderr.decode())
     if found == (status, output, errors):
         print(f"{what}: as it has to be")
@@ -122,4 +143,5 @@ def is_so(folder, case):
 
 if __name__ == "__main__":
     with tempfile.TemporaryDirectory() as scratch:
-        sys.exit(0 if all([is_so(scratch, case) for case in CASES]) else 1)
+        files = (("text", CASES), ("worlds.txt", WORLDS), ("histories.txt", HISTORIES))
+        sys.exit(0 if all([is_so(scratch, name, case) for name, cases in files for case in cases]) else 1)

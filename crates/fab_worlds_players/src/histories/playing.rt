@@ -126,8 +126,8 @@ fn play_lines(
 /// Plays the lines of a file's text, and counts the histories.
 ///
 /// # Errors
-/// The number of the line, from 1 on, that is not of the form, or cannot be done for want of memory or told;
-/// 0 where there is no memory before the first. What differed before it was printed.
+/// The number of the line, from 1 on, that is not of the form, or that can not be done or told, as for want of
+/// memory; 0 where there is no memory before the first. What differed before it was printed.
 pub fn play(rt: &HostRuntime, file: &str, text: &str) -> Result<Tally, usize> {
     let heap = Refusing::new(rt.alloc());
     play_lines(rt, &heap, file, text)
