@@ -1,5 +1,5 @@
 //! Requests answered over a store.
-ghost use Rattle.std.specs.Prelude.{◌≡◌, ◌≢◌, ◌↔◌, ◌⊎◌, ℕ, List, IfSome, MatchOption, true, false};
+ghost use Rattle.std.specs.Prelude.{◌≡◌, ◌≢◌, ◌↔◌, ℕ, List, IfSome, MatchOption, true, false};
 ghost use Rattle.fab_desk_machine.specs.fab_desk_base.declared.command.Command.TheVariants as command;
 ghost use Rattle.fab_desk_machine.specs.fab_desk_base.declared.command.Query.TheVariants as query;
 ghost use Rattle.fab_desk_machine.specs.fab_desk_base.declared.fault.DeskFault.TheVariants as faults;

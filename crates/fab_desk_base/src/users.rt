@@ -1,5 +1,5 @@
 //! What the configuration uses, so that it can't be dropped or moved.
-ghost use Rattle.std.specs.Prelude.{ℕ, ◌≡◌, List, IfOk, MatchOption};
+ghost use Rattle.std.specs.Prelude.{ℕ, List, IfOk, MatchOption};
 ghost use Rattle.fab_desk_base.specs.Users as users;
 ghost use Rattle.fab_desk_base.specs.UserSearch as search;
 

@@ -1,5 +1,5 @@
 //! What a request would change, were it done.
-ghost use Rattle.std.specs.Prelude.{◌≡◌, ℕ, IsSome, IfOk, IfErr};
+ghost use Rattle.std.specs.Prelude.{ℕ, IsSome, IfOk, IfErr};
 ghost use Rattle.fab_policy.specs.declared.act.Verdict.TheVariants.{Allowed};
 ghost use Rattle.fab_policy.specs.fab_policy_base.Policies.{PolicyRows};
 ghost use Rattle.fab_world.specs.Soundness.{IsSound};

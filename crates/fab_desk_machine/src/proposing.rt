@@ -1,7 +1,6 @@
 //! What is proposed for a request.
-ghost use Rattle.std.specs.Prelude.{◌≡◌, ◌⊎◌, ◌↔◌, ℕ, IfSome, IsSome, IsTrue, slice_get, Some};
-ghost use Rattle.fab_policy.specs.fab_policy_base.Policies.{CallerRow, PolicyRows};
-ghost use Rattle.fab_policy.specs.fab_policy_base.Callers.{IsOnlyWith};
+ghost use Rattle.std.specs.Prelude.{◌≡◌, ◌⊎◌, ◌↔◌, ℕ, IfSome, IsSome, IsTrue, Some};
+ghost use Rattle.fab_policy.specs.fab_policy_base.Policies.{PolicyRows};
 ghost use Rattle.fab_world.specs.Soundness.{IsSound};
 ghost use Rattle.fab_world.specs.Worlds.{records_of};
 ghost use Rattle.fab_desk_base.specs.Answers.{IsAnswerTo, IsStep, IsThere};

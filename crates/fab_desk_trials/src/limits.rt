@@ -1,5 +1,5 @@
 //! The limit on changes.
-ghost use Rattle.std.specs.Prelude.{◌≡◌, ◌≤◌, OnOk, IfErr};
+ghost use Rattle.std.specs.Prelude.{◌≡◌, OnOk, IfErr};
 ghost use Rattle.fab_desk_base.specs.Commands.{is_counted, tried};
 ghost use Rattle.fab_desk_base.specs.declared.fault.DeskFault.TheVariants as fault;
 ghost use Rattle.fab_desk_base.specs.declared.fault.DeskLimit.TheVariants as limit;

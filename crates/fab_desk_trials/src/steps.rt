@@ -1,5 +1,5 @@
 //! The step of a book of paths.
-ghost use Rattle.std.specs.Prelude.{◌≡◌, ◌↔◌, ℕ, List, IsSome, IfOk, OnOk, IfErr, IfSome};
+ghost use Rattle.std.specs.Prelude.{◌≡◌, ℕ, IsSome, IfOk, OnOk, IfErr, IfSome};
 ghost use Rattle.fab_reach_base.specs.Limits.{MoreThan};
 ghost use Rattle.fab_reach_base.specs.Reach.{Reaches};
 ghost use Rattle.fab_reach_base.specs.Serving.{IsServing};

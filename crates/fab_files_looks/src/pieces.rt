@@ -1,5 +1,5 @@
 //! Lists of what other crates make, as JSON: as `Parts` of the bodies of answers, with a trait of this crate.
-ghost use Rattle.std.specs.Prelude.{ℕ, ◌≡◌, length};
+ghost use Rattle.std.specs.Prelude.{length};
 ghost use Rattle.serde_json.specs.Data.{Data};
 ghost use Rattle.serde_json.specs.Written.{comma_if};
 ghost use Rattle.fab_wire_streams.specs.Taking.{Takes};

@@ -1,5 +1,5 @@
 //! What the activation of a plan would do, as texts.
-ghost use Rattle.std.specs.Prelude.{◌≡◌, length};
+ghost use Rattle.std.specs.Prelude.{length};
 ghost use Rattle.std.specs.List.{flat_map};
 ghost use Rattle.fab_files_tries.specs.Plans as plans;
 ghost use Rattle.fab_files_tries.specs.Plans.{plan_data, plan_json, plan_text, row_line, row_data};

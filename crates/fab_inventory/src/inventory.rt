@@ -1,5 +1,5 @@
 //! The inventory.
-ghost use Rattle.std.specs.Prelude.{◌≡◌, ◌≤◌, OnOk, OnErr, IfOk, IfErr, true};
+ghost use Rattle.std.specs.Prelude.{◌≡◌, OnOk, OnErr, IfOk, IfErr, true};
 ghost use Rattle.std.specs.FinMap as map;
 ghost use Rattle.fab_inventory.specs.Imports.{IsImported, ImportFails};
 ghost use Rattle.fab_inventory.specs.Ports.{port_at};

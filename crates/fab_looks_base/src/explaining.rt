@@ -2,12 +2,11 @@
 ghost use Rattle.std.specs.Prelude.{map, IfOk};
 ghost use Rattle.fab_inventory.specs.declared.port.Port.{Port};
 ghost use Rattle.fab_names.specs.declared.fabric.Fabric.{Fabric};
-ghost use Rattle.fab_reach_base.specs.Orders.{Has, IsListOf};
 ghost use Rattle.fab_reach_base.specs.Views.{seen};
 ghost use Rattle.fab_reach_base.specs.declared.path.Path.{Path};
 ghost use Rattle.fab_looks_base.specs.Links.{IsLogin, IsExposedBy, Holds, IsExplained};
 ghost use Rattle.fab_looks_base.specs.declared.link.Link.TheVariants.{Exposed};
-ghost use Rattle.fab_looks_base.specs.Inner.Offers.{AreJust, IsOffer, MayPass};
+ghost use Rattle.fab_looks_base.specs.Inner.Offers.{AreJust};
 
 use crate::Link;
 use crate::finding::{exposed_groups, is_host, logins, mapping_groups, serving_groups};

@@ -1,5 +1,5 @@
 //! Which of the paths that there would be are there.
-ghost use Rattle.std.specs.Prelude.{◌≡◌, ◌↔◌, IsTrue, IfOk};
+ghost use Rattle.std.specs.Prelude.{◌↔◌, IsTrue, IfOk};
 ghost use Rattle.fab_reach_base.specs.Orders.{Has};
 ghost use Rattle.fab_reach_base.specs.Views.{seen};
 ghost use Rattle.fab_looks_base.specs.Inner.Offers.{MayPass};

@@ -1,6 +1,6 @@
 //! The paths that there would be, were all ports joined: from the ports of a host, by the storage
 //! groups that offer it a volume.
-ghost use Rattle.std.specs.Prelude.{◌≡◌, ◌↔◌, map, IsTrue, OnOk, IfOk};
+ghost use Rattle.std.specs.Prelude.{◌↔◌, map, IsTrue, OnOk, IfOk};
 ghost use Rattle.fab_zoning_rows.specs.Holding.{IsLoggedInAt};
 ghost use Rattle.fab_reach_base.specs.Adding.{Adds};
 ghost use Rattle.fab_reach_base.specs.Orders.{Has};

@@ -1,5 +1,5 @@
 //! Who reaches a volume.
-ghost use Rattle.std.specs.Prelude.{◌≡◌, ◌↔◌, map, true, count_by, IsTrue, OnOk, IfOk};
+ghost use Rattle.std.specs.Prelude.{◌≡◌, map, true, count_by, OnOk, IfOk};
 ghost use Rattle.fab_inventory.specs.Inventories.{IsHost};
 ghost use Rattle.fab_mapping_base.specs.Groups.{StorageGroupRows};
 ghost use Rattle.fab_reach_base.specs.Orders.{IsListOf};

@@ -1,5 +1,5 @@
 //! Over which fabrics hosts have paths.
-ghost use Rattle.std.specs.Prelude.{◌≡◌, ◌≢◌, ◌↔◌, ◌⊎◌, ℕ, List, Contains, IsTrue, OnOk, IfOk};
+ghost use Rattle.std.specs.Prelude.{◌≡◌, ◌≢◌, ◌↔◌, ℕ, List, IsTrue, OnOk, IfOk};
 ghost use Rattle.fab_desk_machine.specs.fab_desk_base.Tenants.{Has};
 ghost use Rattle.fab_looks_tries.specs.Hosts.{HasPathOver, IsOnOneFabric, IsWithoutPath};
 ghost use Rattle.fab_looks_tries.specs.Inner.Gathered.{IsOver};

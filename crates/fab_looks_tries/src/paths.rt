@@ -1,5 +1,5 @@
 //! What a change does to paths and to the hosts that lose some.
-ghost use Rattle.std.specs.Prelude.{◌≡◌, ◌↔◌, ℕ, List, IfOk};
+ghost use Rattle.std.specs.Prelude.{◌↔◌, ℕ, List, IfOk};
 ghost use Rattle.fab_desk_machine.specs.fab_desk_base.Tenants.{Has};
 ghost use Rattle.fab_desk_machine.specs.fab_desk_trials.Trials.{IsStepReady};
 ghost use Rattle.fab_looks_tries.specs.Hosts.{AreLosing, ArePathsMoved, IsOnOneFabric, IsWithoutPath, LosesPath};

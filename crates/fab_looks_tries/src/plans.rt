@@ -2,7 +2,7 @@
 ghost use Rattle.std.specs.Prelude.{◌≡◌, ℕ, List, IfOk, IfErr};
 ghost use Rattle.fab_desk_machine.specs.fab_desk_base.declared.command.Command.{Command};
 ghost use Rattle.fab_desk_machine.specs.fab_desk_base.declared.command.Command.TheVariants as command;
-ghost use Rattle.fab_desk_machine.specs.Foreseen.{IsForeseen, IsTurnedDown};
+ghost use Rattle.fab_desk_machine.specs.Foreseen.{IsTurnedDown};
 ghost use Rattle.fab_desk_machine.specs.Proposals.{request_of};
 ghost use Rattle.fab_desk_machine.specs.fab_desk_trials.Trials.{EffectSuits, IsStepReady, effect_world};
 ghost use Rattle.fab_looks_tries.specs.Hosts.{ArePathsMoved};

@@ -1,5 +1,5 @@
 //! What an import does to ports.
-ghost use Rattle.std.specs.Prelude.{◌≡◌, ◌↔◌, ℕ, Some, IsTrue, OnOk, IfOk};
+ghost use Rattle.std.specs.Prelude.{◌↔◌, Some, IsTrue, OnOk, IfOk};
 ghost use Rattle.std.specs.Ordering.{nat_cmp};
 ghost use Rattle.fab_inventory.specs.Inventories.{InventoryRows};
 ghost use Rattle.fab_lemmas.specs.Lists.{IsListOf};

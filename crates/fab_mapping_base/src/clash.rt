@@ -1,11 +1,10 @@
 //! Where a host would meet two volumes: for each host the exposed storage groups that serve it, and
 //! of these each pair once.
-ghost use Rattle.std.specs.Prelude.{◌≡◌, ◌≢◌, ℕ, List, map, Some, true, IsTrue, ◌↔◌, IfOk, MatchOption};
+ghost use Rattle.std.specs.Prelude.{◌≡◌, ℕ, map, Some, true, IsTrue, ◌↔◌, IfOk, MatchOption};
 ghost use Rattle.std.specs.Option.{option_copied};
 ghost use Rattle.std.specs.List.{slice_get};
 ghost use Rattle.std.specs.Ordering.{nat_cmp};
 ghost use Rattle.std.specs.BTreeMap.{get};
-ghost use Rattle.std.specs.BTreeSet.{contains};
 ghost use Rattle.fab_inventory.specs.fab_lemmas.Firsts.{IsFirstWith, lesser};
 ghost use Rattle.fab_inventory.specs.fab_lemmas.Adding.{Among};
 ghost use Rattle.fab_inventory.specs.fab_names.Orders.{name_cmp};

@@ -1,5 +1,5 @@
 //! Which exposed storage groups serve each host.
-ghost use Rattle.std.specs.Prelude.{◌≡◌, ◌↔◌, ◌<◌, length, map, slice_get, Some, true, false, List, ℕ, OnOk, IfOk, Contains};
+ghost use Rattle.std.specs.Prelude.{◌≡◌, ◌↔◌, ◌<◌, map, Some, true, false, OnOk, IfOk, Contains};
 ghost use Rattle.std.specs.FinSet as set;
 ghost use Rattle.std.specs.BTreeMap.{get};
 ghost use Rattle.fab_inventory.specs.fab_lemmas.Adding.{Adds};

@@ -1,5 +1,5 @@
 //! Whether a host group or a storage group is sound, and fits an inventory.
-ghost use Rattle.std.specs.Prelude.{◌≡◌, IsTrue, ◌↔◌};
+ghost use Rattle.std.specs.Prelude.{IsTrue, ◌↔◌};
 ghost use Rattle.std.specs.BTreeMap.{get};
 ghost use Rattle.fab_inventory.specs.fab_names.Orders.{name_cmp};
 ghost use Rattle.fab_mapping_base.specs.Soundness.{HasKnownHosts, IsSoundGroup};

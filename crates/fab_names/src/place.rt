@@ -1,5 +1,5 @@
 //! Places where a port may be logged in.
-ghost use Rattle.std.specs.Prelude.{◌≡◌, ◌≢◌, ℕ, ◌≤◌, length, get_or, Some, IfOk, IfErr, OnErr, MatchOption, IsTrue, ◌↔◌};
+ghost use Rattle.std.specs.Prelude.{◌≡◌, ◌≤◌, length, get_or, Some, IfOk, IfErr, OnErr, MatchOption, IsTrue, ◌↔◌};
 ghost use Rattle.std.specs.String.{string_bytes};
 ghost use Rattle.fab_names.specs.Places.{Position, SpellsPosition, SpellsPlace, SpellsPrintedPlace, place_text, first_domain, last_domain, last_slot};
 ghost use Rattle.fab_names.specs.Faults.{IsPositionFault, IsPlaceFault};

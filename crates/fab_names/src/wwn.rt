@@ -1,5 +1,5 @@
 //! World-wide names: N_Port_Names and Node_Names.
-ghost use Rattle.std.specs.Prelude.{◌≡◌, ℕ, ◌+◌, ◌*◌, ◌^◌, ◌<◌, ◌≤◌, length, IfOk, IfErr, OnErr, MatchOption, Some, IsTrue, true, ◌↔◌, EachIndex, slice_index};
+ghost use Rattle.std.specs.Prelude.{◌≡◌, ℕ, ◌+◌, ◌*◌, ◌<◌, length, IfOk, IfErr, OnErr, MatchOption, Some, IsTrue, true, ◌↔◌, EachIndex, slice_index};
 ghost use Rattle.std.specs.Char.{is_ascii_hexdigit, digit_value};
 ghost use Rattle.std.specs.String.{string_bytes};
 ghost use Rattle.fab_names.specs.WorldWideNames.{IsDigitsOf, SpellsWwn, HasColons, byte_of};

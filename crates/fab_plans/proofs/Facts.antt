@@ -7,7 +7,6 @@ use Rattle.std.specs.FinSet as set
 use Rattle.std.proofs.lemmas.Option.{slice_get_within, get_or_from_slice_get, same_Some, none-some}
 use Rattle.fab_reach_base.specs.fab_lemmas.Firsts.{IsFirstWithout}
 use Rattle.fab_reach_base.specs.fab_lemmas.Room.{IsFull, HasRoom, IsFullSet, SetHasRoom}
-use Rattle.fab_reach_base.proofs.fab_mapping.GroupChanges.{if_err}
 
 -- a test is not true and false
 pub not_both : {b : Bool} → b ≡ true → b ≡ false → ⊥

@@ -1,5 +1,5 @@
 //! The first words of lines.
-ghost use Rattle.std.specs.Prelude.{◌≡◌, ◌+◌, ◌<◌, ◌≤◌, ℕ, IsTrue, IfSome, IfNone, ◌↔◌};
+ghost use Rattle.std.specs.Prelude.{◌≡◌, ◌+◌, ◌<◌, ◌≤◌, IsTrue, IfSome, IfNone, ◌↔◌};
 ghost use Rattle.fab_plans_base.specs.Limits.{most_items};
 ghost use Rattle.fab_plans_base.specs.Forms.{keyword_text, form_of, Takes};
 ghost use Rattle.fab_plans_base.specs.declared.keyword.Keyword.{Keyword};

@@ -1,5 +1,5 @@
 //! The first words of mapping lines.
-ghost use Rattle.std.specs.Prelude.{◌≡◌, ℕ, IsTrue, IfSome, IfNone, ◌↔◌};
+ghost use Rattle.std.specs.Prelude.{◌≡◌, IsTrue, IfSome, IfNone, ◌↔◌};
 ghost use Rattle.fab_plans_base.specs.Forms.{keyword_text, form_of, Takes};
 ghost use Rattle.fab_plans_base.specs.declared.mapping_keyword.MappingKeyword.{MappingKeyword};
 ghost use Rattle.fab_plans_base.specs.declared.keyword.Keyword.TheVariants.{Mapping};

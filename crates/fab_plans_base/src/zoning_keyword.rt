@@ -1,5 +1,5 @@
 //! The first words of zoning lines.
-ghost use Rattle.std.specs.Prelude.{◌≡◌, ℕ, IsTrue, IfSome, IfNone, ◌↔◌};
+ghost use Rattle.std.specs.Prelude.{◌≡◌, IsTrue, IfSome, IfNone, ◌↔◌};
 ghost use Rattle.fab_plans_base.specs.Forms.{keyword_text, form_of, Takes};
 ghost use Rattle.fab_plans_base.specs.declared.zoning_keyword.ZoningKeyword.{ZoningKeyword};
 ghost use Rattle.fab_plans_base.specs.declared.keyword.Keyword.TheVariants.{Zoning};

@@ -1,5 +1,5 @@
 //! Plan texts.
-ghost use Rattle.std.specs.Prelude.{◌≡◌, ◌≢◌, ℕ, ◌<◌, ◌≤◌, List, [], ◌∷◌, length, MatchResult, IfSome, IfNone, IfOk, IfErr, ◌⊎◌};
+ghost use Rattle.std.specs.Prelude.{◌≡◌, ◌≢◌, ◌<◌, ◌≤◌, List, [], ◌∷◌, length, MatchResult, IfSome, IfNone, IfOk, IfErr, ◌⊎◌};
 ghost use Rattle.std.specs.Str.{IsUtf8};
 ghost use Rattle.fab_plans_base.specs.Limits.{most_bytes, most_steps};
 ghost use Rattle.fab_plans_base.specs.Texts.{lines_of, words_of, IsCut};

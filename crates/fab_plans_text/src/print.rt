@@ -1,8 +1,8 @@
 //! The printed form of plans.
-ghost use Rattle.std.specs.Prelude.{◌≡◌, ℕ, List, ◌++◌, map, OnOk, IfOk};
+ghost use Rattle.std.specs.Prelude.{◌≡◌, ◌++◌, map, OnOk, IfOk};
 ghost use Rattle.std.specs.List.{flat_map};
 ghost use Rattle.std.specs.String.{string_bytes};
-ghost use Rattle.fab_plans_base.specs.Values.{Value, of_name, of_member, of_port_member, flag_text};
+ghost use Rattle.fab_plans_base.specs.Values.{of_name, of_member, flag_text};
 ghost use Rattle.fab_plans_base.specs.Actions.{zoning_step, mapping_step};
 ghost use Rattle.fab_plans_base.specs.Forms.{values_of};
 ghost use Rattle.fab_plans_base.specs.Plans.{spaced, step_text, plan_text, IsStep, IsWithinLimits, Spells};

@@ -1,5 +1,5 @@
 //! The words that follow the first word of a line.
-ghost use Rattle.std.specs.Prelude.{◌≡◌, ℕ, List, [], ◌∷◌, map, length, replicate, MatchResult};
+ghost use Rattle.std.specs.Prelude.{◌≡◌, [], ◌∷◌, map, length, replicate, MatchResult};
 ghost use Rattle.fab_plans_base.specs.Values.{SpellsValue, SpellsValues, texts_of, a_fabric, a_name, a_flag, a_member, a_port_member, a_wwn, a_unit, of_fabric, of_name, of_flag, of_member, of_port_member, of_wwn, of_unit};
 ghost use Rattle.fab_plans_text.specs.Faults.{IsMisread, IsFirstFault, MemoryOr};
 

@@ -1,5 +1,5 @@
 //! What is found of the rules of a policy for an act.
-ghost use Rattle.std.specs.Prelude.{◌≡◌, IfOk, OnOk};
+ghost use Rattle.std.specs.Prelude.{IfOk, OnOk};
 ghost use Rattle.fab_policy_looks.specs.Findings.{AddsFinding, AreFindings, IsQuorum, IsRole, IsScope, IsWindow};
 
 use crate::found::{QuorumNeed, RoleNeed, RuleFinding, WindowNeed};

@@ -1,6 +1,6 @@
 //! Whether a rule of a policy applies to an act, and whether its needs are met, each for itself.
 ghost use Rattle.std.specs.Prelude.{◌≡◌, ◌↔◌, Contains, IsTrue, Some, count_by, option_copied};
-ghost use Rattle.std.specs.List.{list_all, list_any};
+ghost use Rattle.std.specs.List.{list_all};
 ghost use Rattle.fab_policy_base.specs.Callers as callers;
 ghost use Rattle.fab_policy.specs.Verdicts as verdicts;
 ghost use Rattle.fab_policy_looks.specs.Findings.{counted_for};

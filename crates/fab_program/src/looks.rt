@@ -3,7 +3,7 @@ ghost use Rattle.std.specs.Prelude.{◌≡◌};
 ghost use Rattle.fab_program.specs.Looks as looks;
 ghost use Rattle.fab_program.specs.Looks.{ComesLooking, WhyComes, WhoComes, NamesComes};
 ghost use Rattle.fab_program_looks.specs.Looks.{LooksOver};
-ghost use Rattle.fab_program_outside.specs.Coming.{After, Then};
+ghost use Rattle.fab_program_outside.specs.Coming.{Then};
 
 use fab_files::End;
 use fab_policy_base::Policy;

@@ -1,9 +1,8 @@
 //! What an import or the activation of a plan would do at a database: `tryimport` and `diff`.
-ghost use Rattle.std.specs.Prelude.{◌≡◌};
 ghost use Rattle.fab_program.specs.Tries.{ComesTrying, DiffComes, TryImportComes, TryImportComesIn};
-ghost use Rattle.fab_program_outside.specs.Coming.{After, Then};
+ghost use Rattle.fab_program_outside.specs.Coming.{Then};
 ghost use Rattle.fab_program_tries.specs.Telling.{TellsImport};
-ghost use Rattle.fab_program_tries.specs.Tries.{ComesTold, TriesOver};
+ghost use Rattle.fab_program_tries.specs.Tries.{ComesTold};
 
 use fab_files::End;
 use fab_names::Fabric;

@@ -1,8 +1,7 @@
 //! The commands of one caller at a database: `import`, `paths`, `report`, `export` and `dryrun`.
-ghost use Rattle.std.specs.Prelude.{◌≡◌, ℕ, Ok};
+ghost use Rattle.std.specs.Prelude.{Ok};
 ghost use Rattle.fab_desk_base.specs.declared.command.Query.TheVariants as queries;
 ghost use Rattle.fab_files.specs.declared.forms.Form.TheVariants as forms;
-ghost use Rattle.fab_program_outside.specs.Coming.{After, Then};
 ghost use Rattle.fab_program_commands.specs.Commands.{ComesBy, ComesIn, DryRunComes, ImportComes, ImportComesIn, ShowComes};
 ghost use Rattle.fab_program_commands.specs.Tasks.{AnswersTask};
 ghost use Rattle.fab_program_commands.specs.Tasks as tasks;

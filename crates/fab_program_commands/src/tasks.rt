@@ -1,7 +1,6 @@
 //! What is done once at a desk, over any store.
 ghost use Rattle.std.specs.Prelude.{◌≡◌};
-ghost use Rattle.fab_program_outside.specs.Coming.{After, Then};
-ghost use Rattle.fab_program_desks.specs.Databases.{IsDeskOver};
+ghost use Rattle.fab_program_outside.specs.Coming.{After};
 ghost use Rattle.fab_program_commands.specs.Prints.{IsPrintedTo};
 ghost use Rattle.fab_program_commands.specs.Tasks.{AnswersTask, ImportsAt, ImportsKnown, ComesOver, IsDone};
 ghost use Rattle.fab_program_commands.specs.Tasks as tasks;

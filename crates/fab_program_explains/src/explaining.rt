@@ -4,7 +4,6 @@ ghost use Rattle.fab_files_policy.specs.Findings.{explained_text};
 ghost use Rattle.fab_files_policy.specs.Shown.{policy_text};
 ghost use Rattle.fab_program_explains.specs.Explains as explains;
 ghost use Rattle.fab_program_explains.specs.Explains.{ExplainComes, ExplainsAct, ExplainsDeed, ExplainsOf, ExplainsUnder, end_of_verdict, nobody_line};
-ghost use Rattle.fab_program_outside.specs.Coming.{After};
 ghost use Rattle.fab_wire_streams.specs.Taking.{Takes};
 
 use fab_files::{End, Printable};

@@ -1,7 +1,6 @@
 //! Lists that are printed.
-ghost use Rattle.std.specs.Prelude.{◌≡◌, ◌++◌, List, IfOk, filter};
+ghost use Rattle.std.specs.Prelude.{◌≡◌, IfOk, filter};
 ghost use Rattle.fab_desk_base.specs.declared.reply.Shown.{Shown};
-ghost use Rattle.fab_looks.specs.Rows.{AreRows};
 ghost use Rattle.fab_program_looks.specs.Lists.{AreBoth, AreListed, TellsList, chosen, is_in, list_output, number_asked, number_of, table_of};
 ghost use Rattle.fab_program_outside.specs.Printing.{Prints};
 ghost use Rattle.fab_world.specs.Soundness.{IsSound};

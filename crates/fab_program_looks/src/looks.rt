@@ -1,8 +1,7 @@
 //! A look at the world of a store.
 ghost use Rattle.std.specs.Prelude.{IfOk};
-ghost use Rattle.fab_program_loading.specs.Loading.{IsLoaded};
 ghost use Rattle.fab_program_looks.specs.Looks.{LooksAs, LooksAt, LooksOver};
-ghost use Rattle.fab_program_outside.specs.Coming.{After, Then};
+ghost use Rattle.fab_program_outside.specs.Coming.{After};
 ghost use Rattle.fab_world.specs.Soundness.{IsSound};
 
 use crate::lists::list_at;

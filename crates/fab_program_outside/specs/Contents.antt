@@ -1,5 +1,5 @@
 -- What files contain, and what stands at paths.
-use Rattle.std.specs.Prelude.{ℕ, ◌≡◌, ◌≢◌, ◌<◌, ◌+◌, ◌^◌, ◌⊎◌, List, length, take, Option, Some, None, IfSome, Result, Ok, Err, IsUtf8}
+use Rattle.std.specs.Prelude.{ℕ, ◌≡◌, ◌<◌, ◌+◌, ◌^◌, ◌⊎◌, List, length, take, Option, Some, None, IfSome, Result, Ok, Err, IsUtf8}
 use Rattle.fab_policy_base.specs.Policies.{PolicyRows}
 use Rattle.fab_policy_base.specs.Shapes.{IsMemory}
 use Rattle.fab_policy_base.specs.Tables.{SpellsPolicy}

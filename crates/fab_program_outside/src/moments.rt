@@ -1,5 +1,5 @@
 //! The moment at which a command comes, in Unix seconds.
-ghost use Rattle.std.specs.Prelude.{◌≡◌, IsSome, OnSome};
+ghost use Rattle.std.specs.Prelude.{◌≡◌, OnSome};
 ghost use Rattle.fab_program_outside.specs.Moments.{IsMoment};
 
 use crate::faults::Fault;

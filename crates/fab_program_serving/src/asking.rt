@@ -6,7 +6,6 @@ ghost use Rattle.sqlite.specs.Steps.{over_memory};
 ghost use Rattle.fab_store_sql.specs.NewDesk.{IsNewDesk};
 ghost use Rattle.fab_store_schema.specs.Trees.{tables_of};
 ghost use Rattle.fab_program_outside.specs.Coming.{After, Then};
-ghost use Rattle.fab_program_desks.specs.Databases.{IsDeskOver};
 ghost use Rattle.fab_program_serving.specs.Once.{ComesOnce, IsServedAt, IsServedOver, ServesIt, ended};
 
 use fab_files::End;

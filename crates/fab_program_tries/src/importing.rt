@@ -1,8 +1,6 @@
 //! Imports that are tried.
-ghost use Rattle.std.specs.Prelude.{◌≡◌, ◌<◌, ◌^◌, ℕ, length, IfOk};
-ghost use Rattle.fab_policy_base.specs.Callers.{HasToken};
+ghost use Rattle.std.specs.Prelude.{◌<◌};
 ghost use Rattle.fab_program_tries.specs.Telling.{TellsBytes, TellsImport, TellsRows};
-ghost use Rattle.fab_wire_requests.specs.PortLists.{ListsPorts};
 ghost use Rattle.fab_world.specs.Soundness.{IsSound};
 ghost use Rattle.fab_world.specs.Worlds.{records_of};
 

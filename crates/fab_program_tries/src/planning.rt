@@ -1,5 +1,4 @@
 //! Plans that are tried.
-ghost use Rattle.std.specs.Prelude.{◌≡◌};
 ghost use Rattle.fab_program_tries.specs.Telling.{TellsPlan};
 ghost use Rattle.fab_world.specs.Soundness.{IsSound};
 ghost use Rattle.fab_world.specs.Worlds.{records_of};

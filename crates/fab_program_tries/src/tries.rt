@@ -1,7 +1,6 @@
 //! What an import or a plan would do, over a store.
 ghost use Rattle.std.specs.Prelude.{IfOk};
-ghost use Rattle.fab_program_loading.specs.Loading.{IsLoaded};
-ghost use Rattle.fab_program_outside.specs.Coming.{After, Then};
+ghost use Rattle.fab_program_outside.specs.Coming.{After};
 ghost use Rattle.fab_program_tries.specs.Tries.{IsToldAt, TriesAs, TriesOver};
 ghost use Rattle.fab_world.specs.Soundness.{IsSound};
 ghost use Rattle.fab_world.specs.Worlds.{records_of};

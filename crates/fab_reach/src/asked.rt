@@ -1,5 +1,5 @@
 //! A step that asks about some pairs alone.
-ghost use Rattle.std.specs.Prelude.{◌≡◌, ◌↔◌, ℕ, true, Contains, IsTrue, IfOk, OnOk, ◌+◌, ◌<◌, ◌≤◌, length, min};
+ghost use Rattle.std.specs.Prelude.{◌≡◌, ◌↔◌, Contains, IsTrue, IfOk, OnOk, ◌+◌, ◌<◌, ◌≤◌, length, min};
 ghost use Rattle.fab_reach_base.specs.Records.{Records};
 ghost use Rattle.fab_reach_base.specs.Orders.{Has, IsListOf, path_cmp};
 ghost use Rattle.fab_reach_base.specs.Reach.{PathOf};

@@ -1,16 +1,14 @@
 //! The pairs to ask about.
-ghost use Rattle.std.specs.Prelude.{◌≡◌, ◌↔◌, IfOk, OnOk, IsTrue, Bool};
-ghost use Rattle.std.specs.BTreeSet.{contains};
+ghost use Rattle.std.specs.Prelude.{◌≡◌, ◌↔◌, IfOk, OnOk};
 ghost use Rattle.fab_reach_base.specs.Adding.{Adds};
 ghost use Rattle.fab_reach_base.specs.Records.{Records};
 ghost use Rattle.fab_reach_base.specs.Serving.{IsServing};
 ghost use Rattle.fab_reach_base.specs.Views.{seen};
-ghost use Rattle.fab_reach_moves.specs.Moves.{AreMoved, AreTouched, AreFlagged, flagged_at};
+ghost use Rattle.fab_reach_moves.specs.Moves.{AreTouched, flagged_at};
 ghost use Rattle.fab_reach_moves.specs.Inner.Moved.{IsMovedBy};
 ghost use Rattle.fab_reach.specs.Inner.Finding.{ByInitiator, ByTarget, ByFlag, ByGroup, IsFound};
 ghost use Rattle.fab_reach_books.specs.Inner.Sets.{HasPairIn};
 ghost use Rattle.fab_reach_index.specs.Indexes.{IsIndexOf};
-ghost use Rattle.fab_reach_books.specs.Inner.Moving.{IsMoving};
 ghost use Rattle.fab_reach_books.specs.Pairs.{Pair, AreChanged};
 ghost use Rattle.fab_reach_moves.specs.Inner.Telling.{IsTold};
 

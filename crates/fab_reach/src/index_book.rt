@@ -1,8 +1,7 @@
 //! A book that asks about affected pairs alone.
-ghost use Rattle.std.specs.Prelude.{◌≡◌, ◌↔◌, ℕ, List, None, true, false, IsTrue, IfOk, OnOk, ◌≤◌, ◌+◌, ◌<◌, length};
-ghost use Rattle.fab_reach_base.specs.Adding.{Adds};
+ghost use Rattle.std.specs.Prelude.{◌≡◌, ◌↔◌, None, true, false, IsTrue, IfOk, OnOk, ◌≤◌, ◌+◌, ◌<◌, length};
 ghost use Rattle.fab_reach_base.specs.Books.{IsDelta};
-ghost use Rattle.fab_reach_base.specs.Orders.{Has, IsListOf, path_cmp};
+ghost use Rattle.fab_reach_base.specs.Orders.{path_cmp};
 ghost use Rattle.fab_reach_base.specs.Records.{Records};
 ghost use Rattle.fab_reach_base.specs.Serving.{IsServing};
 ghost use Rattle.fab_reach_base.specs.Views.{seen};

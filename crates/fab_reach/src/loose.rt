@@ -1,6 +1,6 @@
 //! The pairs that default zones joined or might have joined before a step.
-ghost use Rattle.std.specs.Prelude.{◌≡◌, ◌↔◌, ℕ, List, true, false, OnOk, IfOk, IsTrue, Bool};
-ghost use Rattle.fab_zoning_rows.specs.Holding.{IsLoggedInAt, Holds};
+ghost use Rattle.std.specs.Prelude.{◌≡◌, ◌↔◌, ℕ, List, true, false, OnOk, IfOk, IsTrue};
+ghost use Rattle.fab_zoning_rows.specs.Holding.{Holds};
 ghost use Rattle.fab_reach_base.specs.Adding.{Adds};
 ghost use Rattle.fab_reach_base.specs.Gathering.{IsTargeted};
 ghost use Rattle.fab_reach_base.specs.Serving.{IsServing};

@@ -1,12 +1,9 @@
 //! The pairs that storage groups offered before a step.
 ghost use Rattle.std.specs.Prelude.{◌≡◌, ◌↔◌, ℕ, List, Some, true, OnOk, IfOk};
-ghost use Rattle.std.specs.Option.{option_copied};
-ghost use Rattle.std.specs.Ordering.{nat_cmp};
-ghost use Rattle.std.specs.FinSet as set;
 ghost use Rattle.fab_lemmas.specs.MapsOfSets.{in_tree};
 ghost use Rattle.fab_names.specs.Orders.{name_cmp};
 ghost use Rattle.fab_reach_base.specs.Adding.{Adds};
-ghost use Rattle.fab_reach_base.specs.Gathering.{ServesBy, Serves};
+ghost use Rattle.fab_reach_base.specs.Gathering.{ServesBy};
 ghost use Rattle.fab_reach_books.specs.Inner.Sets.{HasPairIn, HasPortIn};
 ghost use Rattle.fab_reach_index.specs.Inner.Holding.{HoldsIn};
 ghost use Rattle.fab_reach.specs.Inner.Offering.{IsHostPort, IsPortServed, IsPortServedBy, IsPortServedAt};

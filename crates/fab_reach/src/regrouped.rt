@@ -1,15 +1,12 @@
 //! The pairs of storage groups that a step touches.
-ghost use Rattle.std.specs.Prelude.{◌≡◌, ◌↔◌, ℕ, List, Contains, Bool, true, IsTrue, OnOk, IfOk, MatchOption};
+ghost use Rattle.std.specs.Prelude.{◌≡◌, ◌↔◌, ℕ, List, true, IsTrue, OnOk, IfOk};
 ghost use Rattle.fab_reach_base.specs.Adding.{Adds};
 ghost use Rattle.fab_reach_base.specs.Records.{Records};
 ghost use Rattle.fab_reach_base.specs.Views.{seen};
 ghost use Rattle.fab_reach_books.specs.Inner.Sets.{HasPairIn, HasName, HasPortIn};
 ghost use Rattle.fab_reach_index.specs.Indexes.{IsHeldBy, IsIndexOf};
-ghost use Rattle.fab_reach_moves.specs.Inner.Listing.{name_row, IsExposedIn, IsHostOf, SaysHead, SaysHeadAmong, unit_row, SaysUnit, TellsUnits};
 ghost use Rattle.fab_reach.specs.Inner.Regrouping.{IsPortOf, AreOffered, IsOfferedOtherwise};
-ghost use Rattle.fab_reach_books.specs.Rows.{Stands};
 ghost use Rattle.fab_reach_moves.specs.Inner.Telling.{IsTold};
-ghost use Rattle.fab_reach_moves.specs.declared.lists_after.Listed.TheVariants.{Hosts};
 
 use crate::offers::served_ports;
 use fab_names::{Name, Wwn};

@@ -1,10 +1,9 @@
 //! Which exposed storage groups serve a host.
 ghost use Rattle.std.specs.Prelude.{◌≡◌, OnOk, IfOk};
-ghost use Rattle.fab_mapping.specs.fab_mapping_base.Groups.{HostGroupRows};
 ghost use Rattle.std.specs.FinSet as set;
-ghost use Rattle.std.specs.Prelude.{true, List, ℕ};
+ghost use Rattle.std.specs.Prelude.{true};
 ghost use Rattle.fab_reach_base.specs.Adding.{Adds};
-ghost use Rattle.fab_reach_base.specs.Gathering.{Lists, Serves, IsServed, IsIndexOf};
+ghost use Rattle.fab_reach_base.specs.Gathering.{Lists, Serves, IsIndexOf};
 
 use fab_mapping::base::names::Name;
 use fab_mapping::{HostGroup, Mapping, StorageGroup};

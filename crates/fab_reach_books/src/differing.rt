@@ -1,5 +1,5 @@
 //! The rows in which two worlds differ, by a walk through both.
-ghost use Rattle.std.specs.Prelude.{◌≡◌, ◌↔◌, List, Contains, Some, IsTrue, IfOk, OnOk};
+ghost use Rattle.std.specs.Prelude.{◌≡◌, ◌↔◌, Contains, Some, IsTrue, IfOk, OnOk};
 ghost use Rattle.fab_inventory.specs.Ports.{port_of};
 ghost use Rattle.fab_lemmas.specs.Lists.{IsListOf};
 ghost use Rattle.fab_reach_base.specs.Adding.{Adds};

@@ -1,5 +1,5 @@
 //! Looks at a port, and at the ports of a holder.
-ghost use Rattle.std.specs.Prelude.{◌≡◌, ◌↔◌, IsTrue, OnOk};
+ghost use Rattle.std.specs.Prelude.{◌↔◌, IsTrue, OnOk};
 ghost use Rattle.fab_zoning_rows.specs.Holding.{IsLoggedInAt};
 ghost use Rattle.fab_reach_base.specs.Adding.{Adds};
 ghost use Rattle.fab_reach_books.specs.Inner.Sets.{HasPortIn};

@@ -1,5 +1,5 @@
 //! The ports of each zone, from the zones of each port.
-ghost use Rattle.std.specs.Prelude.{◌≡◌, ◌↔◌, ℕ, OnOk, IfOk};
+ghost use Rattle.std.specs.Prelude.{OnOk, IfOk};
 ghost use Rattle.std.specs.Ordering.{nat_cmp};
 ghost use Rattle.fab_reach_base.specs.Adding.{Adds};
 ghost use Rattle.fab_reach_base.specs.Records.{Records};

@@ -13,14 +13,13 @@ use Rattle.std.proofs.lemmas.Map.Views.{btree_set_contains_iff}
 use Rattle.fab_names.specs.Orders.{member_cmp}
 use Rattle.fab_names.specs.Places.{Position}
 use Rattle.fab_names.specs.declared.fabric.Fabric.{Fabric}
-use Rattle.fab_names.specs.declared.member.Member.{Member}
 use Rattle.fab_names.specs.declared.member.Member.TheVariants as member
 use Rattle.fab_names.proofs.OrderLaws.{member_total, member_exact}
 use Rattle.fab_inventory.specs.declared.port.Known.{Known}
 use Rattle.fab_inventory.specs.declared.port.Port.{Port}
 use Rattle.fab_inventory.specs.Ports.{port_at, port_of}
 use Rattle.fab_lemmas.proofs.SeenEntries.{entry_decides}
-use Rattle.fab_lemmas.proofs.Tests.{or_true, or_left, or_right}
+use Rattle.fab_lemmas.proofs.Tests.{or_left, or_right}
 use Rattle.fab_zoning_rows.specs.Holding.{Matches, IsLoggedInAt, Holds, place_member, address_member, has_row}
 use Rattle.fab_zoning_rows.proofs.PortMembers.{held_exactly}
 use Rattle.fab_zoning_rows.specs.Rows.{Rows}

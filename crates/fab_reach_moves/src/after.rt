@@ -1,5 +1,5 @@
 //! Ports and their holders before a step and after it.
-ghost use Rattle.std.specs.Prelude.{◌≡◌, ℕ, List, Contains, MatchOption};
+ghost use Rattle.std.specs.Prelude.{◌≡◌, List, Contains, MatchOption};
 ghost use Rattle.std.specs.FinMap as map;
 ghost use Rattle.fab_inventory.specs.declared.port.Port.{Port};
 ghost use Rattle.fab_inventory.specs.Ports.{port_at};

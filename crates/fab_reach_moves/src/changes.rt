@@ -1,11 +1,9 @@
 //! The ports that a difference moves: those of which a row says otherwise, and those that active rows
 //! bring into a zone, or out of one.
-ghost use Rattle.std.specs.Prelude.{◌≡◌, ◌↔◌, ℕ, List, Contains, true, IsTrue, OnOk, IfOk};
-ghost use Rattle.std.specs.FinSet as set;
+ghost use Rattle.std.specs.Prelude.{◌≡◌, ◌↔◌, List, Contains, true, IsTrue, OnOk, IfOk};
 ghost use Rattle.fab_inventory.specs.declared.port.Port.{Port};
 ghost use Rattle.fab_zoning_rows.specs.Holding.{Matches, Holds, has_row};
 ghost use Rattle.fab_reach_base.specs.Adding.{Adds};
-ghost use Rattle.fab_reach_base.specs.Reach.{IsPort};
 ghost use Rattle.fab_reach_base.specs.Records.{Records, zoning_at};
 ghost use Rattle.fab_reach_base.specs.Serving.{IsServing};
 ghost use Rattle.fab_reach_base.specs.Views.{seen};

@@ -1,5 +1,5 @@
 //! What the rows of a difference tell of storage groups and default zones.
-ghost use Rattle.std.specs.Prelude.{◌≡◌, ◌↔◌, List, Contains, Bool, Some, true, OnOk, IfOk, IsTrue, ◌⊎◌};
+ghost use Rattle.std.specs.Prelude.{◌≡◌, ◌↔◌, Bool, Some, true, OnOk, IfOk, IsTrue};
 ghost use Rattle.std.specs.BTreeSet.{contains};
 ghost use Rattle.fab_names.specs.Orders.{name_cmp};
 ghost use Rattle.fab_reach_base.specs.Adding.{Adds};

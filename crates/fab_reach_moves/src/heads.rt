@@ -1,5 +1,5 @@
 //! Whether storage groups are exposed before a step and after it, and whether they keep their units.
-ghost use Rattle.std.specs.Prelude.{◌≡◌, ◌↔◌, ℕ, List, Bool, IsTrue, MatchOption};
+ghost use Rattle.std.specs.Prelude.{◌↔◌, List, Bool, IsTrue, MatchOption};
 ghost use Rattle.fab_reach_base.specs.Records.{Records};
 ghost use Rattle.fab_reach_base.specs.Views.{seen};
 ghost use Rattle.fab_reach_books.specs.declared.row.Row.{Row};

@@ -1,5 +1,5 @@
 //! What rows say, by key: maps and sets that are gathered in one walk through the rows.
-ghost use Rattle.std.specs.Prelude.{◌≡◌, ◌++◌, ◌∷◌, [], List, IfOk, OnOk, MatchOption};
+ghost use Rattle.std.specs.Prelude.{◌++◌, ◌∷◌, [], List, IfOk, OnOk, MatchOption};
 ghost use Rattle.fab_reach_base.specs.Adding.{Adds};
 ghost use Rattle.fab_reach_books.specs.declared.row.Row.{Row};
 ghost use Rattle.fab_reach_index.specs.Indexes.{IsTreeOf};

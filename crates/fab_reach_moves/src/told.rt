@@ -1,5 +1,5 @@
 //! A difference of two worlds by key, so that no look at the world after a step walks through it.
-ghost use Rattle.std.specs.Prelude.{◌≡◌, List, IfOk};
+ghost use Rattle.std.specs.Prelude.{IfOk};
 ghost use Rattle.fab_reach_base.specs.Records.{Records};
 ghost use Rattle.fab_reach_books.specs.Rows.{IsRowDiff};
 ghost use Rattle.fab_reach_moves.specs.Inner.Telling.{IsSideOf, IsTold};

@@ -1,5 +1,5 @@
 //! The patch of a step: of each map of an index, the new sets of those keys whose sets differ.
-ghost use Rattle.std.specs.Prelude.{◌≡◌, List, Contains, IfOk, OnOk};
+ghost use Rattle.std.specs.Prelude.{IfOk, OnOk};
 ghost use Rattle.std.specs.Ordering.{nat_cmp};
 ghost use Rattle.fab_names.specs.Orders.{name_cmp};
 ghost use Rattle.fab_reach_base.specs.Adding.{Adds};

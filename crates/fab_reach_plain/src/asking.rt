@@ -1,5 +1,5 @@
 //! The paths of all pairs of some ports, by asking about each.
-ghost use Rattle.std.specs.Prelude.{◌≡◌, ◌↔◌, Contains, OnOk, IfOk};
+ghost use Rattle.std.specs.Prelude.{◌≡◌, Contains, OnOk, IfOk};
 ghost use Rattle.fab_reach_base.specs.Adding.{Adds};
 ghost use Rattle.fab_reach_base.specs.Books.{AreReached};
 ghost use Rattle.fab_reach_base.specs.Orders.{Has};

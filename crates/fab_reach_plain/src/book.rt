@@ -1,5 +1,5 @@
 //! A book that asks about every pair of known ports.
-ghost use Rattle.std.specs.Prelude.{◌≡◌, ◌↔◌, IfOk};
+ghost use Rattle.std.specs.Prelude.{◌≡◌, IfOk};
 ghost use Rattle.std.specs.BTreeSet.{difference};
 ghost use Rattle.fab_reach_base.specs.Orders.{Has, IsListOf, path_cmp};
 

@@ -1,5 +1,5 @@
 //! Ports that are known before a step or after it, who holds each, and the paths of one holder.
-ghost use Rattle.std.specs.Prelude.{◌≡◌, ◌↔◌, ◌⊎◌, Contains, List, [], OnOk, IfOk};
+ghost use Rattle.std.specs.Prelude.{◌≡◌, ◌↔◌, ◌⊎◌, [], OnOk, IfOk};
 ghost use Rattle.fab_reach_base.specs.Adding.{Adds};
 ghost use Rattle.fab_reach_base.specs.Orders.{Has, IsListOf};
 ghost use Rattle.fab_reach_base.specs.Records.{Records};

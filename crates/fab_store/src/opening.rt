@@ -12,7 +12,7 @@ ghost use Rattle.fab_store_base.specs.declared.faults.OpenFault.TheVariants as f
 ghost use Rattle.fab_world.specs.Soundness.{IsSound};
 ghost use Rattle.fab_store_tables.specs.Versions.{TellSchema};
 ghost use Rattle.fab_store.specs.Loading.{HaveNamesOnce, TellsNewer, TellNewer};
-ghost use Rattle.fab_store.specs.Reads.{OnlyReads, SeesSame, AreTablesOf};
+ghost use Rattle.fab_store.specs.Reads.{OnlyReads, SeesSame};
 
 use crate::naming::open_tables;
 use crate::reading::read_tables;

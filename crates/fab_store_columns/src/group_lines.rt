@@ -1,6 +1,5 @@
 //! Lines of the table of groups.
-ghost use Rattle.std.specs.Prelude.{◌≡◌, ℕ, MatchOption, IfOk, string_bytes};
-ghost use Rattle.fab_names.specs.Names.{SpellsName};
+ghost use Rattle.std.specs.Prelude.{MatchOption, IfOk, string_bytes};
 ghost use Rattle.fab_store_rows.specs.declared.config_row.GroupRow.{GroupRow};
 ghost use Rattle.fab_store_rows.specs.declared.config_row.GroupRow.TheVariants as group;
 ghost use Rattle.fab_store_rows.specs.declared.config_row.HostGroupRow.{HostGroupRow};

@@ -1,5 +1,5 @@
 //! Lines of the table of settings.
-ghost use Rattle.std.specs.Prelude.{◌≡◌, ◌≤◌, ℕ, List, [], Option, None, Bool, true, MatchOption, IfOk, decimal, string_bytes};
+ghost use Rattle.std.specs.Prelude.{◌≡◌, ℕ, List, Option, None, Bool, true, MatchOption, IfOk, decimal, string_bytes};
 ghost use Rattle.fab_store_rows.specs.declared.config_row.SettingRow.{SettingRow};
 ghost use Rattle.fab_store_rows.specs.declared.config_row.SettingRow.TheVariants as setting;
 ghost use Rattle.fab_store_columns.specs.declared.meta_lines.MetaRow.{MetaRow};

@@ -1,5 +1,5 @@
 //! Lines of the tables of approvals and of paths.
-ghost use Rattle.std.specs.Prelude.{◌≡◌, ◌≤◌, ℕ, MatchOption, IfOk, string_bytes};
+ghost use Rattle.std.specs.Prelude.{◌≤◌, MatchOption, IfOk, string_bytes};
 ghost use Rattle.fab_names.specs.WorldWideNames.{SpellsPlain};
 ghost use Rattle.fab_store_columns.specs.RecordLines.{ShowsApproval, ShowsPath};
 ghost use Rattle.fab_store_rows.specs.declared.record_row.ApprovalRow.{ApprovalRow};

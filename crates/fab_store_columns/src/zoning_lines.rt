@@ -1,5 +1,5 @@
 //! Lines of the tables of zoning items and of active rows.
-ghost use Rattle.std.specs.Prelude.{◌≡◌, ℕ, List, MatchOption, IfOk, codes, string_bytes};
+ghost use Rattle.std.specs.Prelude.{◌≡◌, ℕ, List, MatchOption, IfOk, string_bytes};
 ghost use Rattle.fab_names.specs.Names.{SpellsName};
 ghost use Rattle.fab_names.specs.Members.{SpellsPrinted};
 ghost use Rattle.fab_names.specs.declared.member.Member.{Member};

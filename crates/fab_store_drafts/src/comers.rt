@@ -1,5 +1,5 @@
 //! Whether a row may come.
-ghost use Rattle.std.specs.Prelude.{◌≡◌, ◌↔◌, Contains, IfSome, IsTrue};
+ghost use Rattle.std.specs.Prelude.{◌↔◌, Contains, IfSome, IsTrue};
 ghost use Rattle.std.specs.Option.{option_copied, option_map};
 ghost use Rattle.std.specs.FinMap as map;
 ghost use Rattle.fab_reach_base.specs.fab_lemmas.MapsOfSets.{seen_set};

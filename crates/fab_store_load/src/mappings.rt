@@ -1,11 +1,11 @@
 //! The mapping from its rows.
-ghost use Rattle.std.specs.Prelude.{◌≡◌, List, ℕ, is_some, None, Some, MatchOption, IfOk, IfErr};
+ghost use Rattle.std.specs.Prelude.{◌≡◌, is_some, None, Some, MatchOption, IfOk, IfErr};
 ghost use Rattle.std.specs.List.{list_all};
 ghost use Rattle.std.specs.BTreeMap.{get, keys};
 ghost use Rattle.std.specs.FinMap as map;
 ghost use Rattle.fab_names.specs.Orders.{name_cmp};
 ghost use Rattle.fab_reach_base.specs.fab_mapping_base.Groups.{HostGroupRows, StorageGroupRows};
-ghost use Rattle.fab_reach_base.specs.fab_mapping.Mappings.{MappingRows, HasNoClash};
+ghost use Rattle.fab_reach_base.specs.fab_mapping.Mappings.{HasNoClash};
 ghost use Rattle.fab_reach_base.specs.fab_mapping.Soundness.{IsSound};
 ghost use Rattle.fab_reach_base.specs.Records.{ConfigRows};
 ghost use Rattle.fab_store_load.specs.Rows.{AreRows, StandsIn};

@@ -2,7 +2,6 @@
 ghost use Rattle.std.specs.Prelude.{◌≡◌, IfOk};
 ghost use Rattle.std.specs.Option.{option_copied};
 ghost use Rattle.fab_reach_base.specs.fab_lemmas.Lists.{IsListOf};
-ghost use Rattle.fab_reach_base.specs.Records.{ConfigRows};
 ghost use Rattle.fab_store_rows.specs.RowOrder.{row_order};
 ghost use Rattle.fab_store_rows.specs.Standing.{Stands};
 ghost use Rattle.fab_store_rows.specs.Gathering.{Lacking};

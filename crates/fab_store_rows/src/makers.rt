@@ -1,5 +1,5 @@
 //! How the rows of tables are made that tell of sets under keys.
-ghost use Rattle.std.specs.Prelude.{◌≡◌, List, ℕ, IsTrue};
+ghost use Rattle.std.specs.Prelude.{◌≡◌, IsTrue};
 ghost use Rattle.std.specs.Option.{option_copied};
 ghost use Rattle.fab_store_rows.specs.Gathering.{HasAll, alias_row, zone_row, set_row, active_row, host_row, host_group_row, target_row};
 

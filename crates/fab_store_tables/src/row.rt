@@ -1,5 +1,5 @@
 //! The line that shows a row, for rows of each kind.
-ghost use Rattle.std.specs.Prelude.{◌≡◌, ◌↔◌, MatchOption, IfOk, IsTrue};
+ghost use Rattle.std.specs.Prelude.{◌↔◌, MatchOption, IfOk, IsTrue};
 ghost use Rattle.fab_store_columns.specs.GroupLines.{HasUnitNumber};
 ghost use Rattle.fab_store_columns.specs.MetaLines.{ShowsMeta, IsKeptNumber};
 ghost use Rattle.fab_store_tables.specs.UndoLines.{HasUnitInRange};

@@ -1,5 +1,5 @@
 //! Texts of a known number of words.
-ghost use Rattle.std.specs.Prelude.{◌≡◌, ◌≢◌, ◌<◌, List, [], ◌∷◌, length, MatchOption};
+ghost use Rattle.std.specs.Prelude.{◌≡◌, ◌≢◌, ◌<◌, [], ◌∷◌, length, MatchOption};
 ghost use Rattle.fab_store_tables.specs.Words.{words_of};
 
 /// The first word of a text and what follows its space, where it has a space.

@@ -1,6 +1,4 @@
 //! The kinds of rows of approvals and of changes to undo.
-ghost use Rattle.std.specs.Prelude.{◌≡◌};
-ghost use Rattle.fab_store_world.specs.Kinds as spec;
 
 use fab_reach_base::names::Name;
 use fab_world::load::Kind;

@@ -1,5 +1,5 @@
 //! What one inventory has and another has not, where they are one but for a volume.
-ghost use Rattle.std.specs.Prelude.{◌≡◌, List, ℕ, IfOk};
+ghost use Rattle.std.specs.Prelude.{◌≡◌, IfOk};
 ghost use Rattle.std.specs.FinMap as map;
 ghost use Rattle.std.specs.Option.{option_map};
 ghost use Rattle.fab_store_world.specs.Inventories.{AreListsOf, AreOneButVolume, IsKnownOnlyIn, IsInventoryDifference, volume_row};

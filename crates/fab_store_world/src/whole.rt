@@ -1,5 +1,5 @@
 //! All plans from their rows, their approvals and their changes.
-ghost use Rattle.std.specs.Prelude.{◌≡◌, ◌↔◌, ℕ, List, Option, All, IsSome, IsTrue, MatchOption, IfOk, IfErr};
+ghost use Rattle.std.specs.Prelude.{◌↔◌, ℕ, List, Option, All, IsSome, IsTrue, MatchOption, IfOk, IfErr};
 ghost use Rattle.std.specs.BTreeMap.{get};
 ghost use Rattle.fab_reach_base.specs.fab_names.Orders.{name_cmp};
 ghost use Rattle.fab_reach_base.specs.fab_lemmas.Firsts.{HasAt};

@@ -1,6 +1,6 @@
 //! Parts of bodies: lists of paths, units, approvals and zones, places, and what a refusal is about.
 
-ghost use Rattle.std.specs.Prelude.{ℕ, ◌≡◌, length};
+ghost use Rattle.std.specs.Prelude.{◌≡◌, length};
 ghost use Rattle.serde_json.specs.Data.{Data};
 ghost use Rattle.serde_json.specs.Written.{comma_if};
 ghost use Rattle.fab_wire_streams.specs.Taking.{Takes};

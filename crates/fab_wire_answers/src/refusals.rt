@@ -1,11 +1,10 @@
 //! The bodies of refusals.
 
-ghost use Rattle.std.specs.Prelude.{◌≡◌, List, [], ◌∷◌, None, Some, codes};
-ghost use Rattle.fab_policy.specs.Needs.{need_word};
+ghost use Rattle.std.specs.Prelude.{[], ◌∷◌, None, Some, codes};
 ghost use Rattle.fab_world.specs.fab_plans.declared.fault.Refusal.TheVariants as refusal;
 ghost use Rattle.fab_wire_streams.specs.Taking.{Takes};
 ghost use Rattle.fab_wire_streams.specs.JsonText.{json_text};
-ghost use Rattle.fab_wire_streams.specs.Values.{whole, wwn_data};
+ghost use Rattle.fab_wire_streams.specs.Values.{whole};
 ghost use Rattle.fab_wire_answers.specs.Parts.{word, item_data};
 ghost use Rattle.fab_wire_answers.specs.Bodies.{refusal_of, use_of, wire_body, step_body, fault_body};
 

@@ -1,6 +1,5 @@
 //! The bodies of what the desk replies.
 
-ghost use Rattle.std.specs.Prelude.{◌≡◌};
 ghost use Rattle.fab_wire_streams.specs.Taking.{Takes};
 ghost use Rattle.fab_wire_streams.specs.JsonText.{json_text};
 ghost use Rattle.fab_wire_answers.specs.Bodies.{staged_body, withdrawn_body, approved_body, tried_body, moved_body, reply_body};

@@ -1,6 +1,5 @@
 //! The bodies of what reads show.
 
-ghost use Rattle.std.specs.Prelude.{◌≡◌, string_bytes};
 ghost use Rattle.fab_wire_streams.specs.Taking.{Takes};
 ghost use Rattle.fab_wire_streams.specs.JsonText.{json_text};
 ghost use Rattle.fab_wire_answers.specs.Bodies.{joined_body, joint_body, paths_body, port_body, holder_body, volume_body, host_group_body, group_body, plan_body, members_body, set_body, active_body, shown_body};

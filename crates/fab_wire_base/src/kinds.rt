@@ -1,7 +1,7 @@
 //! The table of the desk: its paths, their methods, what each asks for, and the body that goes with
 //! it.
 
-ghost use Rattle.std.specs.Prelude.{◌≡◌, List, [], ◌∷◌, codes};
+ghost use Rattle.std.specs.Prelude.{◌≡◌, [], ◌∷◌, codes};
 ghost use Rattle.std.specs.Str.{bytes_eq};
 ghost use Rattle.fab_wire_base.specs.Table.{all_routes, path_of, kind_in, kind_at, allow_line_of, form_of, is_body};
 

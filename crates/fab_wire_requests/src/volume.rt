@@ -1,6 +1,6 @@
 //! The body of a volume.
 
-ghost use Rattle.std.specs.Prelude.{ℕ, ◌≡◌, ◌≢◌, [], MatchOption, codes, IfOk, IfErr};
+ghost use Rattle.std.specs.Prelude.{◌≡◌, ◌≢◌, [], MatchOption, codes, IfOk, IfErr};
 ghost use Rattle.serde_json.specs.Data.{Data, object, member, no_members};
 ghost use Rattle.serde_json.specs.View.{view};
 ghost use Rattle.fab_wire_requests.specs.Bodies.{SpellsVolume, SpellsNoVolume, IsFault};

@@ -1,7 +1,7 @@
 //! Connections served in turn: requests are gathered, and answers sent, side by side; what they ask is done
 //! one after the other.
 
-ghost use Rattle.std.specs.Prelude.{◌≡◌, ◌<◌, ◌⊎◌, ℕ, List, [], Some, None, length, IfOk, IfErr, IfSome, OnOk, OnErr};
+ghost use Rattle.std.specs.Prelude.{◌≡◌, ◌<◌, ◌⊎◌, ℕ, List, [], Some, None, length, IfErr, IfSome, OnOk, OnErr};
 ghost use Rattle.std.specs.Duration.{as_nanos};
 ghost use Rattle.std.specs.Time.{instant_nanos};
 ghost use Rattle.fab_wire_gathering.specs.Deadlines.{end_of};

@@ -1,6 +1,6 @@
 //! Names, world-wide names, fabrics and members as JSON strings: their printed forms.
 
-ghost use Rattle.std.specs.Prelude.{◌≡◌, ◌≤◌, ◌++◌, codes, length};
+ghost use Rattle.std.specs.Prelude.{◌≤◌, ◌++◌, codes, length};
 ghost use Rattle.serde_json.specs.Data.{string};
 ghost use Rattle.fab_names.specs.Fabrics.{fabric_text};
 ghost use Rattle.fab_names.specs.Places.{place_text};

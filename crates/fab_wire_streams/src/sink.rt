@@ -1,6 +1,6 @@
 //! What takes a text piece by piece: a writer, or a count of bytes.
 
-ghost use Rattle.std.specs.Prelude.{ℕ, ◌≡◌, ◌+◌, ◌-◌, ◌^◌, ◌++◌, List, [], length, min};
+ghost use Rattle.std.specs.Prelude.{ℕ, ◌≡◌, ◌-◌, List};
 ghost use Rattle.std.specs.List.{flat_map};
 ghost use Rattle.fab_wire_streams.specs.Taking.{Takes, IsSink};
 ghost use Rattle.fab_wire_streams.specs.Sinks.{Wrote, WroteSome, bytes_of, Counts};

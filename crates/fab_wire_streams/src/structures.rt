@@ -1,6 +1,6 @@
 //! Objects and arrays, piece by piece.
 
-ghost use Rattle.std.specs.Prelude.{ℕ, ◌≡◌, ◌+◌, ◌≤◌, Bool, length, OnOk};
+ghost use Rattle.std.specs.Prelude.{ℕ, ◌+◌, ◌≤◌, length, OnOk};
 ghost use Rattle.serde_json.specs.Data.{Members, object, member, no_members};
 ghost use Rattle.serde_json.specs.Written.{comma_if};
 ghost use Rattle.fab_wire_streams.specs.Taking.{Takes};

@@ -1,6 +1,5 @@
 //! Whether an inventory and a configuration are sound together.
 ghost use Rattle.std.specs.Prelude.{◌≡◌, ◌↔◌, false, IsTrue, IfOk};
-ghost use Rattle.fab_reach_base.specs.fab_inventory.Inventories.{IsSound as IsSoundInventory};
 ghost use Rattle.fab_reach_base.specs.fab_zoning.Soundness.{IsSound as IsSoundZoning};
 ghost use Rattle.fab_reach_base.specs.Limits.{MoreThan};
 ghost use Rattle.fab_reach_base.specs.Reach.{Reaches};

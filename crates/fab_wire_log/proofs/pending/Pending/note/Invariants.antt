@@ -1,4 +1,4 @@
-use Rattle.std.proofs.Common.{◌≡◌, ◌-◌, length}
+use Rattle.std.proofs.Common.{◌≡◌, ◌-◌}
 use Rattle.fab_wire_log.specs.Pending.{Advances}
 use Rattle.fab_wire_log.proofs.pending.Pending.note.Given as goal
 

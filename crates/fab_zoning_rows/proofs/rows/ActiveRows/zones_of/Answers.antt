@@ -1,4 +1,4 @@
-use Rattle.std.proofs.Common.{◌≡◌, sym, ap, ◌∙◌}
+use Rattle.std.proofs.Common.{sym, ap, ◌∙◌}
 use Rattle.std.specs.Option.{option_copied}
 use Rattle.fab_inventory.specs.fab_names.declared.member.Member.TheVariants as member
 use Rattle.fab_inventory.specs.fab_names.Orders.{name_cmp}
