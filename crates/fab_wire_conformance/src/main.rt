@@ -58,7 +58,7 @@ mod texts;
 mod ways;
 
 use fab_wire_base::routes::Routes;
-use fab_worlds_players::{Tally, histories, looks};
+use fab_worlds_players::{Tally, Undone, histories, looks};
 use faults::Fault;
 use playing::play_in_each_way;
 use scenarios::scenarios_of;
@@ -76,12 +76,11 @@ fn play_exchanges(
     play_in_each_way(rt, routes, path, scenarios.as_slice())
 }
 
-/// Why worlds or histories are not played to their end, where that is at the line of this number.
-fn undone(line: usize) -> Fault {
-    if line == 0 {
-        Fault::Memory
-    } else {
-        Fault::Undone(line)
+/// Why worlds or histories are not played to their end.
+fn undone(why: Undone) -> Fault {
+    match why {
+        Undone::Memory => Fault::Memory,
+        Undone::Line(line) => Fault::Undone(line),
     }
 }
 

@@ -9,5 +9,7 @@
 pub mod histories;
 pub mod looks;
 mod tally;
+mod undone;
 
 pub use tally::Tally;
+pub use undone::Undone;

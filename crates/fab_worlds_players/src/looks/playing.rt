@@ -2,7 +2,7 @@
 
 use super::asking::answer;
 use super::making::Making;
-use crate::Tally;
+use crate::{Tally, Undone};
 use fab_policy::Policy;
 use std::alloc::Global;
 
@@ -74,11 +74,10 @@ fn policy(alloc: Global) -> Option<Policy> {
 /// Plays the lines of a file's text, and counts the looks.
 ///
 /// # Errors
-/// The number of the line, from 1 on, that is not of the form, or that can not be done or told, as for want of
-/// memory; 0 where there is no memory before the first. What differed before it was printed.
-pub fn play(rt: &HostRuntime, file: &str, text: &str) -> Result<Tally, usize> {
+/// `Undone` says where it ends, and why. What differed before that was printed.
+pub fn play(rt: &HostRuntime, file: &str, text: &str) -> Result<Tally, Undone> {
     let Some(policy) = policy(rt.alloc()) else {
-        return Err(0);
+        return Err(Undone::Memory);
     };
     let mut making = Making::new(rt.alloc());
     let mut tally = Tally::new();
@@ -87,7 +86,7 @@ pub fn play(rt: &HostRuntime, file: &str, text: &str) -> Result<Tally, usize> {
         match play_line(rt, &policy, &mut making, (file, number), line) {
             Some(Some(is_right)) => tally.count(is_right),
             Some(None) => {}
-            None => return Err(number),
+            None => return Err(Undone::Line(number)),
         }
     }
     Ok(tally)
