@@ -4,6 +4,7 @@ pub mod Users
 pub mod UserSearch
 pub mod Effects
 pub mod Refusals
+pub mod Words
 pub mod Trying
 pub mod Touching
 pub mod Acts

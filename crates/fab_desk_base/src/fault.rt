@@ -1,4 +1,6 @@
 //! Why the desk refuses a command.
+ghost use Rattle.std.specs.Prelude.{◌≡◌};
+ghost use Rattle.fab_desk_base.specs.Words.{limit_word};
 
 use fab_policy::Need;
 use fab_reach_base::mapping::Gone;
@@ -64,4 +66,20 @@ pub enum DeskLimit {
     Paths,
     /// More than 1000000000 changes.
     Changes,
+}
+
+impl DeskLimit {
+    /// The word for what there would be too many of.
+    pub fn word(self) -> &'static str
+        ensures { result.now ≡ limit_word self }
+    {
+        match self {
+            DeskLimit::Ports => "ports",
+            DeskLimit::Holders => "holders",
+            DeskLimit::Volumes => "volumes",
+            DeskLimit::Plans => "plans",
+            DeskLimit::Paths => "paths",
+            DeskLimit::Changes => "changes",
+        }
+    }
 }

@@ -4,8 +4,9 @@ use Rattle.fab_reach_base.specs.Records.{ConfigRows}
 use Rattle.fab_reach_base.proofs.Same.{same_some}
 use Rattle.fab_store_rows.specs.Differences.{IsDifference}
 use Rattle.fab_store_edits.specs.Led.{IsLed}
-use Rattle.fab_store_edits.specs.Tidy.{IsTidy}
-use Rattle.fab_store_edits.proofs.Differing.{tidy_of, one_led, led_back}
+use Rattle.fab_store_rows.specs.Tidy.{IsTidy}
+use Rattle.fab_store_edits.proofs.Differing.{one_led, led_back}
+use Rattle.fab_store_rows.proofs.Determined.{tidy_of}
 use Rattle.fab_world.specs.History.{IsEarlier}
 use Rattle.fab_world.specs.PlanRecords.{PlanRecord}
 use Rattle.fab_world.specs.Plans.{Change, undo_of}

@@ -1,19 +1,19 @@
 -- What an import that is tried makes, and what refuses it.
-use Rattle.std.proofs.Common.{ℕ, ◌≡◌, ◌≢◌, ◌<◌, ◌⊎◌, inl, inr, List, [], ◌∷◌, length, get_or, zero, suc, Contains, refl, sym, ap, ◌∙◌, subst, arith}
+use Rattle.std.proofs.Common.{ℕ, ◌≡◌, ◌<◌, inl, inr, List, refl, sym, ap, ◌∙◌, subst, arith}
 use Rattle.std.specs.Cmp.{nat_cmp_total}
 use Rattle.std.specs.declared.vec.Vec.{Vec}
 use Rattle.std.specs.FinMap as map
 use Rattle.std.specs.FinSet as set
-use Rattle.std.proofs.lemmas.Bool.Decides.{eqb_tells}
 use Rattle.std.proofs.lemmas.Option.{slice_get_within, get_or_from_slice_get}
 use Rattle.fab_reach_base.specs.fab_names.declared.fabric.Fabric.{Fabric}
-use Rattle.fab_reach_base.specs.fab_inventory.Imports.{Agrees, IsClash, IsUnlisted, IsImported, ImportFails}
+use Rattle.fab_reach_base.specs.fab_inventory.Imports.{Agrees, IsClash, IsImported, ImportFails}
 use Rattle.fab_reach_base.specs.fab_inventory.Inventories as inventories
 use Rattle.fab_reach_base.specs.fab_inventory.Ports.{KnownPorts}
 use Rattle.fab_reach_base.specs.fab_inventory.declared.fault.InventoryFault.{InventoryFault}
 use Rattle.fab_reach_base.specs.fab_inventory.declared.fault.InventoryFault.TheVariants.{PortClash, Limit, Memory}
 use Rattle.fab_reach_base.specs.fab_inventory.declared.fault.InventoryLimit.TheVariants.{Ports}
 use Rattle.fab_reach_base.specs.fab_inventory.declared.port.PortRow.{PortRow}
+use Rattle.fab_reach_base.proofs.fab_inventory.Soundness.{listed_or_not}
 use Rattle.fab_reach_base.proofs.fab_inventory.Steps.{in_take}
 use Rattle.fab_world.specs.Worlds.{WorldRows}
 use Rattle.fab_desk_base.specs.Effects.{counted, with_inventory}
@@ -28,21 +28,6 @@ pub record ImportTried (f : Fabric) (rows : List PortRow) (old new : inventories
   pub imported : IsImported f rows old.ports new.ports
   pub rest : new ≡ record old { ports = new.ports }
   pub sound : inventories.IsSound new
-
--- a port is listed, or it is not
-listed_or_not : (rows : List PortRow) (q : ℕ) → ((r : PortRow) × Contains rows r × (r.name ≡ q)) ⊎ IsUnlisted rows q
-listed_or_not [] q = inr (λ r in_r e. omega (arith, in_r.1))
-listed_or_not (s ∷ rows) q = elim (eqb_tells s.name q) [
-  | inl e ↦ inl (s, (0, omega arith, refl), e.1)
-  | inr e ↦ elim (listed_or_not rows q) [
-    | inl w ↦ inl (w.0, (suc w.1.0, omega (arith, w.1.1), w.1.2), w.2)
-    | inr none ↦ inr (λ r in_r. by r in_r.0 in_r.1 in_r.2 e.1 none)
-  ]
-]
-  where
-    by : (r : PortRow) (k : ℕ) → k < length (s ∷ rows) → get_or (s ∷ rows) k r ≡ r → s.name ≢ q → IsUnlisted rows q → r.name ≢ q
-    by r zero h at apart none e = apart (ap (λ (x : PortRow). x.name) at ∙ e)
-    by r (suc k) h at apart none e = none r (k, omega (arith, h), at) e
 
 -- an import makes one thing
 one_import : (f : Fabric) (rows : List PortRow) (old new other : KnownPorts) → IsImported f rows old new → IsImported f rows old other → new ≡ other

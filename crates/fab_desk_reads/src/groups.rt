@@ -6,7 +6,7 @@ ghost use Rattle.fab_desk_reads.specs.Recorded.{IsFound};
 use crate::listed::{names_listed, ports_listed, units_listed};
 use crate::parts::mapping_in;
 use fab_desk_base::{Shown, ShownGroup};
-use fab_reach_base::mapping::{HostGroup, StorageGroup};
+use fab_reach_base::mapping::HostGroup;
 use fab_reach_base::names::Name;
 use fab_world::World;
 use std::alloc::{AllocError, Allocator};

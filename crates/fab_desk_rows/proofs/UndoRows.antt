@@ -11,7 +11,7 @@ use Rattle.fab_reach_base.specs.fab_lemmas.Lists.{IsListOf}
 use Rattle.fab_reach_base.proofs.fab_lemmas.Filters.{list_as}
 use Rattle.fab_reach_base.proofs.fab_names.OrderLaws.{name_total}
 use Rattle.fab_store_rows.specs.RowOrder.{row_cmp}
-use Rattle.fab_store_rows.proofs.OrderOfRows.{same_order}
+use Rattle.fab_store_rows.specs.OrderOfRows.{same_order}
 use Rattle.fab_store_rows.specs.declared.config_row.ConfigRow.{ConfigRow}
 use Rattle.fab_store_rows.specs.declared.record_row.PlanState.TheVariants as state
 use Rattle.fab_store_rows.specs.declared.record_row.Sign.{Sign}

@@ -13,7 +13,8 @@ use Rattle.fab_reach_base.specs.fab_names.Orders.{name_cmp}
 use Rattle.fab_reach_base.specs.fab_names.declared.fabric.Fabric.{Fabric}
 use Rattle.fab_reach_base.specs.fab_names.declared.fabric.Fabric.TheVariants.{A, B}
 use Rattle.fab_reach_base.specs.declared.path.Path.{Path}
-use Rattle.fab_files.specs.Reports.{same_fabric, leads_over, paths_over}
+use Rattle.fab_reach_base.specs.fab_inventory.Imports.{same_fabric}
+use Rattle.fab_files.specs.Reports.{leads_over, paths_over}
 use Rattle.fab_files.specs.Counting.{AreCounted, counts_over, none_counted, one_more}
 use Rattle.fab_files.specs.declared.counts.Counts.{Counts}
 

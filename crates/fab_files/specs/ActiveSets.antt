@@ -5,8 +5,8 @@ use Rattle.fab_reach_base.specs.fab_names.Fabrics.{fabric_text}
 use Rattle.fab_reach_base.specs.fab_names.Members.{member_text}
 use Rattle.fab_reach_base.specs.fab_names.declared.fabric.Fabric.{Fabric}
 use Rattle.fab_reach_base.specs.fab_names.declared.member.Member.{Member}
+use Rattle.fab_reach_base.specs.fab_zoning.Zonings.{flag_text}
 use Rattle.fab_reach_base.specs.fab_zoning.declared.flag.DefaultFlag.{DefaultFlag}
-use Rattle.fab_reach_base.specs.fab_zoning.declared.flag.DefaultFlag.TheVariants.{Permit, Deny}
 use Rattle.fab_desk_base.specs.declared.reply.ZoneMembers.{ZoneMembers}
 use Rattle.fab_files.specs.Lines.{line_of}
 
@@ -18,11 +18,6 @@ words_line word text = line_of 32 word (text ∷ [])
 unfoldable pub set_name : Option (List ℕ) → List ℕ
 set_name None = codes "-"
 set_name (Some name) = name
-
--- what the default zone does
-unfoldable pub flag_text : DefaultFlag → List ℕ
-flag_text Permit = codes "permit"
-flag_text Deny = codes "deny"
 
 -- the fabric, its active set and its default zone
 unfoldable pub head_lines : Fabric → Option (List ℕ) → DefaultFlag → List ℕ

@@ -1,10 +1,11 @@
 -- The report on the volumes to which a host has paths.
-use Rattle.std.specs.Prelude.{ℕ, ◌≡◌, ◌-◌, ◌&&◌, Bool, true, false, if◌then◌else◌, nat_lt, List, [], ◌∷◌, ◌++◌, map, length, replicate, codes, decimal, Contains, Result, Ok, Err}
+use Rattle.std.specs.Prelude.{ℕ, ◌≡◌, ◌-◌, ◌&&◌, Bool, if◌then◌else◌, nat_lt, List, [], ◌∷◌, ◌++◌, map, length, replicate, codes, decimal, Contains, Result, Ok, Err}
 use Rattle.std.specs.List.{flat_map, count_by}
 use Rattle.std.specs.Str.{bytes_eq}
 use Rattle.fab_reach_base.specs.fab_names.Orders.{name_cmp}
 use Rattle.fab_reach_base.specs.fab_names.declared.fabric.Fabric.{Fabric}
 use Rattle.fab_reach_base.specs.fab_names.declared.fabric.Fabric.TheVariants.{A, B}
+use Rattle.fab_reach_base.specs.fab_inventory.Imports.{same_fabric}
 use Rattle.fab_reach_base.specs.fab_lemmas.Lists.{IsListOf}
 use Rattle.fab_reach_base.specs.declared.path.Path.{Path}
 use Rattle.fab_files.specs.Lines.{line_of}
@@ -41,12 +42,6 @@ unfoldable pub report_header : List ℕ
 report_header = row_line (codes "HOST") (codes "VOLUME") (codes "A") (codes "B") (codes "STATE")
 
 -- ---- counts
-
-abbrev pub same_fabric : Fabric → Fabric → Bool
-same_fabric A A = true
-same_fabric A B = false
-same_fabric B A = false
-same_fabric B B = true
 
 -- the path leads over the fabric to the volume
 abbrev pub leads_over : Fabric → List ℕ → Path → Bool

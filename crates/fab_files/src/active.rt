@@ -1,7 +1,7 @@
 //! The active set of a fabric.
 ghost use Rattle.std.specs.Prelude.{◌≡◌, ◌++◌};
 ghost use Rattle.fab_wire_streams.specs.Taking.{Takes};
-ghost use Rattle.fab_files.specs.ActiveSets.{active_lines, head_lines, zones_lines, zone_lines, member_line, set_name, flag_text, words_line};
+ghost use Rattle.fab_files.specs.ActiveSets.{active_lines, head_lines, zones_lines, zone_lines, member_line, set_name, words_line};
 ghost use Rattle.fab_reach_base.specs.fab_names.declared.member.Member.{Member};
 
 use fab_desk_base::ZoneMembers;
@@ -48,7 +48,7 @@ fn put_head<S: Sink>(
         b"\nactive ".as_slice(),
         name_of(&active),
         b"\ndefault ".as_slice(),
-        flag_of(flag).as_bytes(),
+        flag.word().as_bytes(),
         b"\n".as_slice(),
     ];
     put_all(sink, &texts)
@@ -62,17 +62,6 @@ fn name_of(active: &Option<Name>) -> &[u8]
     match active {
         Some(name) => name.as_bytes(),
         None => b"-",
-    }
-}
-
-/// What the default zone does.
-#[tactic(auto, unfolding(crate::specs::ActiveSets::flag_text))]
-fn flag_of(flag: DefaultFlag) -> &'static str
-    ensures { result.now ≡ flag_text flag }
-{
-    match flag {
-        DefaultFlag::Permit => "permit",
-        DefaultFlag::Deny => "deny",
     }
 }
 

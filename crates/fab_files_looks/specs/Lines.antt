@@ -7,7 +7,7 @@ use Rattle.fab_names.specs.WorldWideNames.{wwn_text}
 use Rattle.fab_names.specs.declared.fabric.Fabric.{Fabric}
 use Rattle.fab_inventory.specs.declared.holder.Volume.{Volume}
 use Rattle.fab_policy.specs.declared.act.Approval.{Approval}
-use Rattle.fab_store_columns.specs.PlanLines.{state_text}
+use Rattle.fab_store_rows.specs.PlanStates.{state_text}
 use Rattle.fab_store_rows.specs.declared.record_row.PlanState.{PlanState}
 use Rattle.fab_desk_base.specs.declared.reply.Shown.{Shown}
 use Rattle.fab_desk_base.specs.declared.reply.Shown.TheVariants as shown

@@ -10,7 +10,6 @@ use fab_inventory::Volume;
 use fab_names::{Fabric, Name, Place, Wwn};
 use fab_policy::Approval;
 use fab_store_rows::PlanState;
-use fab_wire_answers::words::state_word;
 use fab_wire_streams::sink::{Sink, put_all};
 use fab_wire_streams::streams::WriteFailed;
 use itoa::Buffer;
@@ -207,7 +206,7 @@ fn put_head<S: Sink>(
     put_four(
         sink,
         name.as_bytes(),
-        state_word(state).as_bytes(),
+        state.word().as_bytes(),
         author.as_bytes(),
         Buffer::new().format(count).as_bytes(),
     )

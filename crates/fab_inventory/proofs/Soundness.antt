@@ -172,7 +172,7 @@ sound_drop_volume name old sound = record {
 -- ---- imports
 
 -- a port is listed, or it is not
-listed_or_not : (rows : List PortRow) (q : ℕ) → ((r : PortRow) × Contains rows r × (r.name ≡ q)) ⊎ IsUnlisted rows q
+pub listed_or_not : (rows : List PortRow) (q : ℕ) → ((r : PortRow) × Contains rows r × (r.name ≡ q)) ⊎ IsUnlisted rows q
 listed_or_not [] q = inr (λ r in_r e. omega (arith, in_r.1))
 listed_or_not (s ∷ rows) q = elim (eqb_tells s.name q) [
   | inl e ↦ inl (s, (0, omega arith, refl), e.1)

@@ -1,6 +1,7 @@
 pub mod Ports
 pub mod Imports
 pub mod Holders
+pub mod Words
 pub mod Inventories
 pub mod Codes
 pub mod Limits

@@ -1,4 +1,6 @@
 //! Holders of ports, and volumes.
+ghost use Rattle.std.specs.Prelude.{◌≡◌};
+ghost use Rattle.fab_inventory.specs.Words.{kind_text};
 
 use fab_names::Name;
 
@@ -9,6 +11,18 @@ pub enum HolderKind {
     Host,
     /// Its ports are targets, and volumes are on it.
     Array,
+}
+
+impl HolderKind {
+    /// The word for the kind: `host` or `array`.
+    pub fn word(self) -> &'static str
+        ensures { result.now ≡ kind_text self }
+    {
+        match self {
+            HolderKind::Host => "host",
+            HolderKind::Array => "array",
+        }
+    }
 }
 
 /// A host or an array. A port is held by one holder at most.

@@ -24,7 +24,7 @@ use Rattle.fab_reach_base.specs.Orders.{Has}
 use Rattle.fab_reach_base.specs.Reach.{IsPort, IsTarget}
 use Rattle.fab_reach_base.specs.declared.path.Path.{Path}
 use Rattle.fab_reach_base.proofs.Adding.{Before, adds_as, adds_none, from_none}
-use Rattle.fab_reach_base.proofs.PathOrder.{path_total, path_exact}
+use Rattle.fab_reach_base.specs.PathOrder.{path_total, path_exact}
 use Rattle.fab_reach_base.proofs.Same.{same_some, same_fabric}
 use Rattle.fab_reach_base.proofs.Sets.{none_in}
 use Rattle.fab_looks_base.specs.Links.{IsMappedBy}

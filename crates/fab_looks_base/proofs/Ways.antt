@@ -25,7 +25,7 @@ use Rattle.fab_reach_base.specs.declared.path.Path.{Path}
 use Rattle.fab_reach_base.specs.Gathering.{Serves}
 use Rattle.fab_reach_base.specs.Orders.{Has}
 use Rattle.fab_reach_base.proofs.Adding.{Before}
-use Rattle.fab_reach_base.proofs.PathOrder.{path_total, path_exact}
+use Rattle.fab_reach_base.specs.PathOrder.{path_total, path_exact}
 use Rattle.fab_reach_base.proofs.Sets.{none_in}
 use Rattle.fab_reach_base.proofs.Same.{same_some, same_fabric}
 use Rattle.fab_reach_base.proofs.Gathering.{name_of, is_own}

@@ -1,21 +1,15 @@
 -- Who reaches a volume, and by how many paths.
-use Rattle.std.specs.Prelude.{ℕ, ◌≡◌, List, Some, Bool, true, false, count_by}
+use Rattle.std.specs.Prelude.{ℕ, ◌≡◌, List, Some, Bool, count_by}
 use Rattle.std.specs.BTreeMap.{BTreeMap, get}
 use Rattle.fab_names.specs.Orders.{name_cmp}
 use Rattle.fab_names.specs.declared.fabric.Fabric.{Fabric}
 use Rattle.fab_names.specs.declared.fabric.Fabric.TheVariants.{A, B}
+use Rattle.fab_inventory.specs.Imports.{same_fabric}
 use Rattle.fab_reach_base.specs.Records.{Records}
 use Rattle.fab_reach_base.specs.Orders.{IsListOf}
 use Rattle.fab_reach_base.specs.declared.path.Path.{Path}
 use Rattle.fab_looks_base.specs.Links.{PathTo, IsReached}
 use Rattle.fab_looks_base.specs.declared.reaching.Counts.{Counts}
-
--- whether two fabrics are one
-abbrev pub same_fabric : Fabric → Fabric → Bool
-same_fabric A A = true
-same_fabric A B = false
-same_fabric B A = false
-same_fabric B B = true
 
 -- whether the path is in the fabric
 abbrev pub is_in : Fabric → Path → Bool

@@ -9,11 +9,12 @@ ghost use Rattle.fab_looks_base.specs.declared.link.Link.TheVariants.{Exposed};
 ghost use Rattle.fab_looks_base.specs.Inner.Offers.{AreJust};
 
 use crate::Link;
-use crate::finding::{exposed_groups, is_host, logins, mapping_groups, serving_groups};
+use crate::finding::{exposed_groups, logins, mapping_groups, serving_groups};
 use crate::joining::passable;
 use crate::offering::offers;
 use fab_inventory::Port;
 use fab_mapping::StorageGroup;
+use fab_mapping_base::is_host;
 use fab_names::Name;
 use fab_reach_base::{Path, View, listed};
 use std::alloc::{AllocError, Allocator};

@@ -9,21 +9,11 @@ ghost use Rattle.fab_reach_base.specs.Gathering.{Serves, ServesBy};
 ghost use Rattle.fab_looks_base.specs.Links.{IsLogin, IsMappedBy};
 ghost use Rattle.fab_looks_base.specs.Inner.Offers.{AreJust, IsLoggedIn};
 
-use fab_inventory::{HolderKind, Inventory, Port};
+use fab_inventory::Port;
 use fab_mapping::{Mapping, StorageGroup};
 use fab_names::{Name, Wwn};
 use fab_reach_base::View;
 use std::alloc::{AllocError, Allocator};
-
-/// Whether the name is a host's.
-pub fn is_host<A: Allocator + Copy>(inventory: &Inventory<A>, name: &Name) -> bool
-    ensures { IsTrue result ↔ IsHost inventory.now.holders name.now }
-{
-    match inventory.holder(name) {
-        Some(holder) => holder.kind == HolderKind::Host,
-        None => false,
-    }
-}
 
 /// The port of the name, if it is logged in.
 fn login_of<A: Allocator + Copy>(view: &View<'_, A>, name: &Wwn) -> Option<Port>

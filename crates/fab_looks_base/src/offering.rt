@@ -1,43 +1,19 @@
 //! The paths that there would be, were all ports joined: from the ports of a host, by the storage
 //! groups that offer it a volume.
-ghost use Rattle.std.specs.Prelude.{◌↔◌, map, IsTrue, OnOk, IfOk};
-ghost use Rattle.fab_zoning_rows.specs.Holding.{IsLoggedInAt};
+ghost use Rattle.std.specs.Prelude.{◌↔◌, map, OnOk, IfOk};
 ghost use Rattle.fab_reach_base.specs.Adding.{Adds};
 ghost use Rattle.fab_reach_base.specs.Orders.{Has};
-ghost use Rattle.fab_reach_base.specs.Reach.{IsTarget};
 ghost use Rattle.fab_reach_base.specs.Views.{seen};
 ghost use Rattle.fab_looks_base.specs.Inner.Offers.{UnitPath, PairPath, TargetPath, NamedPath, GroupPath, AnyPath};
 ghost use Rattle.fab_reach_base.specs.declared.path.Path.{Path};
 
-use fab_inventory::{HolderKind, Port};
+use fab_inventory::Port;
 use fab_mapping::StorageGroup;
 use fab_names::{Fabric, Name, Wwn};
-use fab_reach_base::{Path, View};
+use fab_reach_base::{Path, View, is_target};
+use fab_zoning::is_logged_in_at;
 use std::alloc::{AllocError, Allocator};
 use std::collections::BTreeSet;
-
-/// Whether an array holds the port.
-fn is_target<A: Allocator + Copy>(view: &View<'_, A>, port: &Port) -> bool
-    ensures { IsTrue result ↔ IsTarget (seen view.now) port.now }
-{
-    let Some(name) = port.holder else {
-        return false;
-    };
-    let Some(holder) = view.inventory.holder(&name) else {
-        return false;
-    };
-    holder.kind == HolderKind::Array
-}
-
-/// Whether the port is logged in at the fabric.
-fn is_logged_in_at(fabric: Fabric, port: &Port) -> bool
-    ensures { IsTrue result ↔ IsLoggedInAt fabric port.now }
-{
-    match port.at {
-        Some((here, _)) => here == fabric,
-        None => false,
-    }
-}
 
 /// Adds the paths of a pair in the fabric to the volume, by the storage group.
 fn add_units<A: Allocator + Copy>(

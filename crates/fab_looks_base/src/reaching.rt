@@ -9,10 +9,11 @@ ghost use Rattle.fab_looks_base.specs.Inner.Offers.{AreJust};
 ghost use Rattle.fab_looks_base.specs.Inner.Gaining.{AddsHost, AddsHosts};
 ghost use Rattle.fab_looks_base.specs.Reachers.{is_in, AreReachers};
 
-use crate::finding::{exposed_groups, is_host, logins, mapping_groups, serving_groups};
+use crate::finding::{exposed_groups, logins, mapping_groups, serving_groups};
 use crate::joining::passable;
 use crate::offering::offers;
 use fab_mapping::StorageGroup;
+use fab_mapping_base::is_host;
 use fab_names::{Fabric, Name};
 use fab_reach_base::{Path, View, listed};
 use std::alloc::{AllocError, Allocator};

@@ -9,7 +9,7 @@ use Rattle.std.specs.FinSet as set
 use Rattle.fab_reach_base.specs.fab_names.contracts.fabric.FabricOrd.TheImpl.Laws.{total-law}
 use Rattle.fab_reach_base.specs.fab_names.Orders.{fabric_cmp}
 use Rattle.fab_reach_base.specs.Adding.{Adds}
-use Rattle.fab_reach_base.proofs.PathOrder.{both_equal, fabric_exact}
+use Rattle.fab_reach_base.proofs.fab_names.OrderLaws.{both_equal, fabric_exact}
 use Rattle.fab_reach_base.proofs.Sets.{adds_insert}
 use Rattle.fab_looks_ways.specs.Pairs.{HasEnds, ends_cmp, ends_order}
 use Rattle.fab_looks_ways.specs.declared.ends.Ends.{Ends}

@@ -4,7 +4,6 @@ ghost use Rattle.fab_looks_ways.specs.Inner.Gathering.{AreEndsOf, GroupEnds, Por
 ghost use Rattle.fab_looks_ways.specs.Pairs.{HasEnds, IsPair, IsUpAt};
 ghost use Rattle.fab_reach_base.specs.Adding.{Adds};
 ghost use Rattle.fab_world.specs.Worlds.{records_of};
-ghost use Rattle.fab_reach_base.specs.fab_zoning_rows.Holding.{IsLoggedInAt};
 
 use crate::ends::Ends;
 use crate::groups::own_groups;
@@ -12,29 +11,20 @@ use fab_desk_base::Query;
 use fab_desk_reads::is_open_to;
 use fab_looks_base::serves;
 use fab_policy::{CallerId, Policy};
-use fab_reach_base::inventory::{HolderKind, Port};
+use fab_reach_base::inventory::HolderKind;
 use fab_reach_base::mapping::StorageGroup;
 use fab_reach_base::names::{Fabric, Name, Wwn};
+use fab_reach_base::zoning::is_logged_in_at;
 use fab_world::World;
 use std::alloc::{AllocError, Allocator};
 use std::collections::BTreeSet;
-
-/// Whether the port is logged in at the fabric.
-fn is_at(fabric: Fabric, port: &Port) -> bool
-    ensures { IsTrue result ↔ IsLoggedInAt fabric port.now }
-{
-    match port.at {
-        Some((here, _)) => here == fabric,
-        None => false,
-    }
-}
 
 /// Whether the port is known, and logged in at the fabric.
 fn is_up_at<A: Allocator + Copy>(world: &World<A>, fabric: Fabric, name: &Wwn) -> bool
     ensures { IsTrue result ↔ IsUpAt (records_of world.now) fabric name.now }
 {
     match world.inventory.port(name) {
-        Some(port) => is_at(fabric, &port),
+        Some(port) => is_logged_in_at(fabric, &port),
         None => false,
     }
 }

@@ -1,4 +1,4 @@
--- The orders of names and members are total, and tell values apart.
+-- The orders of fabrics, names and members tell values apart, and those of names and members are total.
 use Rattle.std.proofs.Common.{◌≡◌, refl, ap}
 use Rattle.std.specs.declared.cmp.Ordering.{Ordering}
 use Rattle.std.specs.declared.cmp.Ordering.TheVariants.{Less, Equal, Greater}
@@ -6,9 +6,16 @@ use Rattle.std.specs.Ordering.{nat_cmp, ordering_then}
 use Rattle.std.specs.Cmp.{IsTotalOrder}
 use Rattle.std.specs.Cmp.Lexicographic.{nat_list_cmp_total}
 use Rattle.std.specs.FinSet as set
+use Rattle.fab_names.specs.declared.fabric.Fabric.TheVariants.{A, B}
 use Rattle.fab_names.specs.declared.member.Member.TheVariants as member
 use Rattle.fab_names.specs.contracts.member.MemberOrd.TheImpl.Laws.{total-law}
-use Rattle.fab_names.specs.Orders.{name_cmp, member_cmp}
+use Rattle.fab_names.specs.Orders.{fabric_cmp, name_cmp, member_cmp}
+
+pub fabric_exact : set.IsAntisymmetric fabric_cmp
+fabric_exact A A e = refl
+fabric_exact A B e = absurd cc
+fabric_exact B A e = absurd cc
+fabric_exact B B e = refl
 
 pub name_total : IsTotalOrder name_cmp
 name_total = nat_list_cmp_total
@@ -19,7 +26,7 @@ name_exact = set.slice_cmp-IsAntisymmetric set.nat_cmp-IsAntisymmetric
 pub member_total : IsTotalOrder member_cmp
 member_total = total-law
 
-both_equal : (r s : Ordering) → ordering_then r s ≡ Equal → (r ≡ Equal) × (s ≡ Equal)
+pub both_equal : (r s : Ordering) → ordering_then r s ≡ Equal → (r ≡ Equal) × (s ≡ Equal)
 both_equal Less s e = absurd cc
 both_equal Equal s e = (refl, e)
 both_equal Greater s e = absurd cc

@@ -1,6 +1,5 @@
 pub mod FirstChecks
 pub mod Facts
-pub mod SetSizes
 pub mod Spelled
 pub mod ZoningCases
 pub mod MappingCases

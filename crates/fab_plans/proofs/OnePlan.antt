@@ -4,14 +4,13 @@ use Rattle.std.specs.FinSet as set
 use Rattle.std.specs.Ordering.{nat_cmp, ordering_then}
 use Rattle.std.proofs.lemmas.List.{take_all}
 use Rattle.std.proofs.lemmas.Option.{slice_get_within, same_Some, none-some}
-use Rattle.fab_reach_base.proofs.fab_names.OrderLaws.{name_exact}
+use Rattle.fab_reach_base.proofs.fab_names.OrderLaws.{both_equal, name_exact}
 use Rattle.fab_reach_base.specs.fab_names.Orders.{name_cmp}
 use Rattle.fab_reach_base.specs.fab_inventory.Inventories.{InventoryRows}
 use Rattle.fab_reach_base.proofs.fab_mapping_base.NexusOrder.{nexus_total}
 use Rattle.fab_reach_base.specs.fab_mapping_base.Nexuses.{nexus_cmp}
 use Rattle.fab_reach_base.specs.fab_mapping_base.declared.nexus.Nexus.{Nexus}
 use Rattle.fab_reach_base.specs.fab_mapping.Mappings.{MappingRows, IsLeastClash}
-use Rattle.fab_reach_base.proofs.PathOrder.{both_equal}
 use Rattle.fab_reach_base.specs.Records.{ConfigRows}
 use Rattle.fab_plans_kept.specs.fab_plans_base.Steps.{PlanStep}
 use Rattle.fab_plans.specs.Outcomes.{AllDone, IsOutcome, IsRefusedAt, IsClashAtEnd, IsRefusedOutcome}

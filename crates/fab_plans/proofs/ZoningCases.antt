@@ -28,8 +28,7 @@ use Rattle.fab_plans.specs.declared.fault.Refusal.{Refusal}
 use Rattle.fab_plans.specs.declared.fault.Refusal.TheVariants as refusal
 use Rattle.fab_plans.proofs.FirstChecks.{passes_all, first_own, first_other, first_user, first_room}
 use Rattle.fab_plans.proofs.Facts.{not_both, none_without, room_or_full}
-use Rattle.fab_reach_base.proofs.fab_lemmas.Sizes.{some_member}
-use Rattle.fab_plans.proofs.SetSizes.{part_is_no_larger}
+use Rattle.fab_reach_base.proofs.fab_lemmas.Sizes.{part_of_set, some_member}
 
 -- a check that no step has
 none : (r : Refusal) → ⊥ → ⊥
@@ -52,7 +51,7 @@ resolved_of z s many gone =
 -- the rows of a set are not more than those that are all of them
 not_more : (z : FabricZoning) (s : List ℕ) (rows : Rows) → AreResolved z s rows → set.len rows ≤ most_rows → ¬ MoreThan most_rows (IsResolved z s)
 not_more z s rows all few many =
-    let n = part_is_no_larger row_total row_exact many.0 rows (λ r h. (all r).1 (many.2 r h)) in
+    let n = part_of_set row_total row_exact many.0 rows (λ r h. (all r).1 (many.2 r h)) in
     omega (arith, few, n, many.1)
 
 module _ (z : FabricZoning) (f : Fabric) (n : List ℕ) where

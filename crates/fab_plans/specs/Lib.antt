@@ -2,6 +2,7 @@ pub mod Checks
 pub mod ZoningSteps
 pub mod MappingSteps
 pub mod Steps
+pub mod Words
 pub mod Outcomes
 pub mod Telling
 pub mod Plans

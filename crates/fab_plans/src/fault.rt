@@ -1,4 +1,6 @@
 //! Why a step of a plan, or a plan as a whole, is refused.
+ghost use Rattle.std.specs.Prelude.{◌≡◌};
+ghost use Rattle.fab_plans.specs.Words.{step_limit_word};
 
 use fab_reach_base::mapping::Nexus;
 use fab_reach_base::names::{Name, Wwn};
@@ -31,6 +33,23 @@ pub enum StepLimit {
     Groups,
     /// More than 64 host groups, 32 targets or 256 units of a storage group.
     Parts,
+}
+
+impl StepLimit {
+    /// The word for what there would be too many of.
+    pub fn word(self) -> &'static str
+        ensures { result.now ≡ step_limit_word self }
+    {
+        match self {
+            StepLimit::Aliases => "aliases",
+            StepLimit::Zones => "zones",
+            StepLimit::Sets => "sets",
+            StepLimit::Active => "active",
+            StepLimit::HostGroups => "host-groups",
+            StepLimit::Groups => "groups",
+            StepLimit::Parts => "parts",
+        }
+    }
 }
 
 /// Why a plan is refused: what the records do not allow.

@@ -1,5 +1,5 @@
 -- What the words of a line stand for.
-use Rattle.std.specs.Prelude.{ℕ, ◌≡◌, ◌≤◌, List, [], ◌∷◌, codes, decimal}
+use Rattle.std.specs.Prelude.{ℕ, ◌≡◌, ◌≤◌, List, [], ◌∷◌, decimal}
 use Rattle.fab_names.specs.Names.{SpellsName}
 use Rattle.fab_names.specs.Numbers.{SpellsNumber}
 use Rattle.fab_names.specs.WorldWideNames.{SpellsWwn, wwn_text}
@@ -8,8 +8,8 @@ use Rattle.fab_names.specs.Members.{SpellsMember, member_text}
 use Rattle.fab_names.specs.declared.fabric.Fabric.{Fabric}
 use Rattle.fab_names.specs.declared.member.Member.{Member}
 use Rattle.fab_names.specs.declared.member.Member.TheVariants as member
+use Rattle.fab_zoning.specs.Zonings.{flag_text}
 use Rattle.fab_zoning.specs.declared.flag.DefaultFlag.{DefaultFlag}
-use Rattle.fab_zoning.specs.declared.flag.DefaultFlag.TheVariants.{Permit, Deny}
 use Rattle.std.specs.Prelude.{map}
 use Rattle.std.specs.Borrow.{Bor}
 use Rattle.fab_plans_base.specs.Limits.{last_unit}
@@ -42,11 +42,6 @@ kind_of (of_member m) = a_member
 kind_of (of_port_member m) = a_port_member
 kind_of (of_wwn w) = a_wwn
 kind_of (of_unit u) = a_unit
-
--- the word of the flag of the default zone
-abbrev pub flag_text : DefaultFlag → List ℕ
-flag_text Permit = codes "permit"
-flag_text Deny = codes "deny"
 
 -- the member names ports, and not an alias
 abbrev pub NamesPorts : Member → Type 0

@@ -9,8 +9,9 @@ use Rattle.fab_names.proofs.Numerals.{one_number}
 use Rattle.fab_names.proofs.Unique.{one_fabric, one_wwn, one_member}
 use Rattle.fab_plans_base.specs.fab_zoning.declared.flag.DefaultFlag.{DefaultFlag}
 use Rattle.fab_plans_base.specs.fab_zoning.declared.flag.DefaultFlag.TheVariants.{Permit, Deny}
+use Rattle.fab_plans_base.specs.fab_zoning.Zonings.{flag_text}
 use Rattle.fab_plans_base.specs.Texts.{words_of}
-use Rattle.fab_plans_base.specs.Values.{Kind, a_fabric, a_name, a_member, a_port_member, kind_of, Value, of_fabric, of_name, of_flag, of_member, of_port_member, of_wwn, of_unit, flag_text, SpellsValue, SpellsValues}
+use Rattle.fab_plans_base.specs.Values.{Kind, a_fabric, a_name, a_member, a_port_member, kind_of, Value, of_fabric, of_name, of_flag, of_member, of_port_member, of_wwn, of_unit, SpellsValue, SpellsValues}
 use Rattle.fab_plans_base.specs.Steps.{PlanStep, alias_put, alias_drop, zone_put, zone_drop, set_put, set_drop, activate, deactivate, default_zone, host_group_put, host_group_drop, group_new, group_drop, group_host, group_unhost, group_target, group_untarget, group_map, group_unmap, group_expose, group_hide}
 use Rattle.fab_plans_base.specs.Forms.{keyword_text, form_of, kinds_in, keyword_of, values_of}
 use Rattle.fab_plans_base.specs.Plans.{SpellsStep, SpellsLines}

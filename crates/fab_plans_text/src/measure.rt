@@ -9,7 +9,6 @@ ghost use Rattle.fab_plans_base.specs.Actions.{zoning_step, mapping_step};
 ghost use Rattle.fab_plans_base.specs.Forms.{values_of};
 ghost use Rattle.fab_plans_base.specs.Plans.{spaced, step_text, plan_text, IsStep, IsWithinLimits};
 
-use crate::print::flag_word;
 use crate::{Action, MOST_BYTES, MOST_STEPS, MappingAction, Step, ZoningAction};
 use fab_names::{Fabric, Member, Name, Wwn};
 use std::alloc::Allocator;
@@ -130,7 +129,7 @@ fn zoning_len<A: Allocator + Copy>(action: &ZoningAction<A>) -> usize
         | ZoningAction::SetDrop { fabric, name } => named_len(*fabric, name),
         ZoningAction::Activate { fabric, set } => named_len(*fabric, set),
         ZoningAction::Deactivate { fabric } => fabric_len(*fabric),
-        ZoningAction::Default { fabric, flag } => fabric_len(*fabric) + 1 + flag_word(*flag).len(),
+        ZoningAction::Default { fabric, flag } => fabric_len(*fabric) + 1 + flag.word().len(),
     }
 }
 

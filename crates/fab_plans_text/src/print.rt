@@ -2,26 +2,15 @@
 ghost use Rattle.std.specs.Prelude.{◌≡◌, ◌++◌, map, OnOk, IfOk};
 ghost use Rattle.std.specs.List.{flat_map};
 ghost use Rattle.std.specs.String.{string_bytes};
-ghost use Rattle.fab_plans_base.specs.Values.{of_name, of_member, flag_text};
+ghost use Rattle.fab_plans_base.specs.Values.{of_name, of_member};
 ghost use Rattle.fab_plans_base.specs.Actions.{zoning_step, mapping_step};
 ghost use Rattle.fab_plans_base.specs.Forms.{values_of};
 ghost use Rattle.fab_plans_base.specs.Plans.{spaced, step_text, plan_text, IsStep, IsWithinLimits, Spells};
 
 use crate::{Action, MappingAction, Step, ZoningAction};
 use fab_names::{Member, Name};
-use fab_plans_base::zoning::DefaultFlag;
 use std::alloc::{AllocError, Allocator};
 use std::fmt::Write;
-
-/// The word of a flag.
-pub(crate) fn flag_word(flag: DefaultFlag) -> &'static str
-    ensures { result.now ≡ flag_text flag }
-{
-    match flag {
-        DefaultFlag::Permit => "permit",
-        DefaultFlag::Deny => "deny",
-    }
-}
 
 /// Adds names, each behind a space.
 fn push_names<A: Allocator>(text: &mut String<A>, names: &[Name]) -> Result<(), AllocError>
@@ -78,7 +67,7 @@ fn push_zoning<A: Allocator, B: Allocator + Copy>(
         ZoningAction::Activate { fabric, set } => write!(text, " {fabric} {set}"),
         ZoningAction::Deactivate { fabric } => write!(text, " {fabric}"),
         ZoningAction::Default { fabric, flag } => {
-            let flag = flag_word(*flag);
+            let flag = flag.word();
             write!(text, " {fabric} {flag}")
         }
     }

@@ -5,9 +5,8 @@ ghost use Rattle.fab_policy_looks.specs.Findings.{AddsFinding, AreFindings, IsQu
 use crate::found::{QuorumNeed, RoleNeed, RuleFinding, WindowNeed};
 use crate::needs::{applies, are_tenants_met, count_for, has_quorum, has_role, is_own};
 use crate::openings::{is_open_at, opening};
-use fab_names::Name;
 use fab_policy::Act;
-use fab_policy_base::{Policy, Quorum, Rule, Scope};
+use fab_policy_base::{Policy, Rule};
 use std::alloc::{AllocError, Global};
 
 /// What is found of the need of a role.

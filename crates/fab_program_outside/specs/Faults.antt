@@ -1,8 +1,7 @@
 -- The lines on standard error that tell why the program could not do what was asked.
 use Rattle.std.specs.Prelude.{ℕ, List, [], ◌∷◌, codes, decimal}
 use Rattle.std.specs.List.{flat_map}
-use Rattle.fab_store_load.specs.declared.fault.Table.{Table}
-use Rattle.fab_store_load.specs.declared.fault.Table.TheVariants as table
+use Rattle.fab_store_load.specs.TableNames.{table_name}
 use Rattle.fab_program_outside.specs.declared.faults.Fault.{Fault}
 use Rattle.fab_program_outside.specs.declared.faults.Fault.TheVariants.{File, Policy, Store, Memory, Listen, Stream, Clock, Damaged, NewerSchema}
 
@@ -17,21 +16,6 @@ word_of Stream = codes "stream"
 word_of Clock = codes "clock"
 word_of (Damaged t) = codes "damaged"
 word_of (NewerSchema n) = codes "newer-schema"
-
-abbrev pub table_name : Table → List ℕ
-table_name table.Meta = codes "meta"
-table_name table.Ports = codes "ports"
-table_name table.Addresses = codes "addresses"
-table_name table.Holders = codes "holders"
-table_name table.Volumes = codes "volumes"
-table_name table.Zoning = codes "zoning"
-table_name table.Active = codes "active"
-table_name table.Groups = codes "groups"
-table_name table.GroupParts = codes "group_parts"
-table_name table.Plans = codes "plans"
-table_name table.Approvals = codes "approvals"
-table_name table.Undo = codes "undo"
-table_name table.Paths = codes "paths"
 
 -- a line of one word
 unfoldable pub word_line : List ℕ → List ℕ

@@ -45,24 +45,3 @@ impl Fault {
         }
     }
 }
-
-/// The name of a table.
-pub(crate) fn table_name(table: Table) -> &'static str
-    ensures { result.now ≡ faults.table_name table }
-{
-    match table {
-        Table::Meta => "meta",
-        Table::Ports => "ports",
-        Table::Addresses => "addresses",
-        Table::Holders => "holders",
-        Table::Volumes => "volumes",
-        Table::Zoning => "zoning",
-        Table::Active => "active",
-        Table::Groups => "groups",
-        Table::GroupParts => "group_parts",
-        Table::Plans => "plans",
-        Table::Approvals => "approvals",
-        Table::Undo => "undo",
-        Table::Paths => "paths",
-    }
-}

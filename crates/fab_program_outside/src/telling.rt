@@ -5,7 +5,7 @@ ghost use Rattle.fab_program_outside.specs.Faults.{line_of, word_line, detail_li
 ghost use Rattle.fab_program_outside.specs.Telling.{IsTold, args_status, args_line};
 
 use crate::args::ArgsFault;
-use crate::faults::{Fault, table_name};
+use crate::faults::Fault;
 use fab_wire_streams::sink::{Sink, put_all};
 use fab_wire_streams::streams::WriteFailed;
 use itoa::Buffer;
@@ -43,7 +43,7 @@ fn put_fault<E: Sink>(errors: &mut E, fault: Fault) -> Result<(), WriteFailed>
     ensures { Takes E.took E.cut errors.old (line_of fault) errors.new result }
 {
     match fault {
-        Fault::Damaged(table) => put_detail(errors, fault.word(), table_name(table)),
+        Fault::Damaged(table) => put_detail(errors, fault.word(), table.name()),
         Fault::NewerSchema(schema) => {
             put_detail(errors, fault.word(), Buffer::new().format(schema))
         }

@@ -3,7 +3,6 @@ ghost use Rattle.std.specs.Prelude.{IfOk};
 ghost use Rattle.fab_world.specs.Soundness.{IsSound};
 ghost use Rattle.fab_world.specs.Worlds.{records_of};
 
-use fab_reach::IndexBook;
 use fab_reach_base::View;
 use fab_reach_books::PathBook;
 use fab_world::World;

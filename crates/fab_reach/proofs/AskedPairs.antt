@@ -20,7 +20,7 @@ use Rattle.fab_reach_base.specs.declared.path.Path.{Path}
 use Rattle.fab_reach_base.proofs.Adding.{Before, adds_as}
 use Rattle.fab_reach_base.proofs.Books.{list_as}
 use Rattle.fab_reach_base.proofs.Gathering.{filled, listed_all, reaches}
-use Rattle.fab_reach_base.proofs.PathOrder.{path_total, path_exact}
+use Rattle.fab_reach_base.specs.PathOrder.{path_total, path_exact}
 
 module _ (rows : Option (Bor (BTreeSet Path))) (these : List Path) where
   -- a listed path, if it is new

@@ -8,6 +8,7 @@ use Rattle.std.specs.BTreeSet.{BTreeSet, contains}
 use Rattle.std.proofs.lemmas.Map.Views.{btree_map_get_iff, btree_set_contains_iff}
 use Rattle.fab_lemmas.specs.MapsOfSets.{in_tree}
 use Rattle.fab_names.specs.Orders.{name_cmp}
+use Rattle.fab_zoning.specs.Edits.{IsIn}
 use Rattle.fab_reach_base.specs.Adding.{Adds}
 use Rattle.fab_reach_base.specs.Orders.{Has, path_cmp}
 use Rattle.fab_reach_base.specs.Reach.{IsPort, IsInitiator, ReachesFrom}
@@ -15,7 +16,7 @@ use Rattle.fab_reach_base.specs.Records.{Records}
 use Rattle.fab_reach_base.specs.declared.path.Path.{Path}
 use Rattle.fab_reach_base.proofs.Adding.{Before, adds_as, adds_none}
 use Rattle.fab_reach_base.proofs.Gathering.{reaches}
-use Rattle.fab_reach_base.proofs.PathOrder.{path_total, path_exact}
+use Rattle.fab_reach_base.specs.PathOrder.{path_total, path_exact}
 use Rattle.fab_reach_base.proofs.Same.{same_some}
 use Rattle.fab_reach_books.proofs.Staying.{holder_known}
 use Rattle.fab_reach_books.specs.Inner.Sets.{HasPortIn}
@@ -23,7 +24,6 @@ use Rattle.fab_reach_books.specs.KeyLaws.{pair_total, pair_exact}
 use Rattle.fab_reach_books.specs.Pairs.{Pair, pair_cmp}
 use Rattle.fab_reach_index.specs.Indexes.{IsIndexOf}
 use Rattle.fab_reach_index.specs.Inner.Holding.{Held}
-use Rattle.fab_reach_index.specs.Inner.Placing.{IsIn}
 use Rattle.fab_reach_index.specs.declared.index.Index.{Index}
 use Rattle.fab_reach.specs.Inner.Owned.{IsOwnedAt, IsOwned, IsOwnedBy}
 

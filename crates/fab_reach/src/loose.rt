@@ -15,8 +15,8 @@ use crate::offers::add_with_initiator;
 use fab_inventory::Port;
 use fab_names::{Fabric, Name, Wwn};
 use fab_reach_base::{View, targets_of};
-use fab_reach_index::{Index, is_at};
-use fab_zoning::Zoning;
+use fab_reach_index::Index;
+use fab_zoning::{Zoning, is_logged_in_at};
 use std::alloc::{AllocError, Allocator};
 use std::collections::BTreeSet;
 
@@ -36,7 +36,7 @@ fn is_loose<A: Allocator + Copy>(view: &View<'_, A>, fabric: Fabric, name: &Wwn)
     let Some(port) = view.inventory.port(name) else {
         return false;
     };
-    if !is_at(fabric, &port) {
+    if !is_logged_in_at(fabric, &port) {
         return false;
     }
     is_unzoned(view.config.zoning(fabric), &port)

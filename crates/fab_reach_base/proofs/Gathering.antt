@@ -26,7 +26,7 @@ use Rattle.fab_reach_base.specs.Orders.{path_cmp, Has, IsListOf}
 use Rattle.fab_reach_base.specs.Reach.{IsPort, IsInitiator, PathOf, Reaches}
 use Rattle.fab_reach_base.specs.Gathering.{Index, IsIndexOf, AreGroupsOf, MayMeet, UnitPath, GroupPath, HasTarget, IsTargeted, PathFrom, StopsAt}
 use Rattle.fab_reach_base.specs.Limits.{MoreThan, IsPathsFault}
-use Rattle.fab_reach_base.proofs.PathOrder.{path_total, path_exact}
+use Rattle.fab_reach_base.specs.PathOrder.{path_total, path_exact}
 use Rattle.fab_reach_base.proofs.Adding.{Before, adds_as, adds_none, from_none, only_as, before_stop}
 use Rattle.fab_mapping.proofs.fab_mapping_base.fab_lemmas.SeenEntries.{entry_decides}
 use Rattle.fab_reach_base.proofs.Sets.{adds_insert, none_in}

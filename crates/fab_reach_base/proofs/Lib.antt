@@ -2,7 +2,6 @@ pub mod Adding
 pub mod Books
 pub mod Gathering
 pub mod Lawful
-pub mod PathOrder
 pub mod Reached
 pub mod Same
 pub mod SameLists

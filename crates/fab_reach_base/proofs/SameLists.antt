@@ -5,7 +5,7 @@ use Rattle.fab_mapping.proofs.fab_mapping_base.fab_lemmas.SeenSets.{tie_decides}
 pub use Rattle.fab_mapping.proofs.fab_mapping_base.SortedLists.{same_sorted}
 use Rattle.fab_reach_base.specs.Orders.{IsListOf}
 use Rattle.fab_reach_base.specs.declared.path.Path.{Path}
-use Rattle.fab_reach_base.proofs.PathOrder.{path_total, path_exact}
+use Rattle.fab_reach_base.specs.PathOrder.{path_total, path_exact}
 
 -- two ordered lists of what has one property are one
 pub one_list : (P : Path → Type 0) (xs ys : List Path) → IsListOf P xs → IsListOf P ys → xs ≡ ys

@@ -1,6 +1,7 @@
 pub mod Records
 pub mod Views
 pub mod Orders
+pub mod PathOrder
 pub mod Reach
 pub mod Serving
 pub mod Soundness

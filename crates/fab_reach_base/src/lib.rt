@@ -16,8 +16,8 @@ pub use fab_mapping as mapping;
 pub use fab_mapping::base::{inventory, lemmas, names};
 pub use fab_zoning as zoning;
 pub use listing::{
-    MOST_PATHS, PathsFault, add_pair, add_pair_of, all_paths, few_paths, host_of, listed,
-    plain_paths, targets_of,
+    MOST_PATHS, PathsFault, add_pair, add_pair_of, all_paths, few_paths, host_of, is_target,
+    listed, plain_paths, targets_of,
 };
 pub use path::Path;
 pub use served::served_hosts;

@@ -64,7 +64,7 @@ pub fn host_of<A: Allocator + Copy>(view: &View<'_, A>, port: &Port) -> Option<N
 }
 
 /// Whether an array holds the port.
-fn is_target<A: Allocator + Copy>(view: &View<'_, A>, port: &Port) -> bool
+pub fn is_target<A: Allocator + Copy>(view: &View<'_, A>, port: &Port) -> bool
     ensures { IsTrue result ↔ IsTarget (seen view.now) port.now }
 {
     let Some(name) = port.holder else {

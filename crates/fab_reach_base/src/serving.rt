@@ -1,34 +1,14 @@
 //! Whether a world is one that a book may stand at.
 ghost use Rattle.std.specs.Prelude.{◌≡◌, ◌↔◌, IsTrue};
-ghost use Rattle.fab_mapping.specs.fab_mapping_base.fab_inventory.Inventories.{IsHost, IsArray};
 ghost use Rattle.fab_reach_base.specs.Records.{zoning_at};
 ghost use Rattle.fab_reach_base.specs.Serving.{IsArrayPort, AreHosts, AreTargets, HaveHosts, HaveTargets};
 
 use crate::Config;
-use fab_mapping::base::inventory::{HolderKind, Inventory};
-use fab_mapping::base::names::{Fabric, Name, Wwn};
+use fab_mapping::base::inventory::Inventory;
+use fab_mapping::base::names::{Fabric, Wwn};
+use fab_mapping::base::{is_array, is_host};
 use fab_mapping::{HostGroup, Mapping, StorageGroup};
 use std::alloc::Allocator;
-
-/// Whether the name is a host's.
-fn is_host<A: Allocator + Copy>(inventory: &Inventory<A>, name: &Name) -> bool
-    ensures { IsTrue result ↔ IsHost inventory.now.holders name.now }
-{
-    match inventory.holder(name) {
-        Some(holder) => holder.kind == HolderKind::Host,
-        None => false,
-    }
-}
-
-/// Whether the name is an array's.
-fn is_array<A: Allocator + Copy>(inventory: &Inventory<A>, name: &Name) -> bool
-    ensures { IsTrue result ↔ IsArray inventory.now.holders name.now }
-{
-    match inventory.holder(name) {
-        Some(holder) => holder.kind == HolderKind::Array,
-        None => false,
-    }
-}
 
 /// Whether an array holds the port of this name.
 fn is_array_port<A: Allocator + Copy>(inventory: &Inventory<A>, name: &Wwn) -> bool

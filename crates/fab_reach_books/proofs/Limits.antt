@@ -13,7 +13,7 @@ use Rattle.fab_reach_base.specs.declared.path.Path.{Path}
 use Rattle.fab_reach_base.specs.declared.listing.TheConstants.{MOST_PATHS}
 use Rattle.fab_reach_books.specs.Limiting.{ShowsPaths}
 use Rattle.fab_reach_base.proofs.Gathering.{adds_path, reaches}
-use Rattle.fab_reach_base.proofs.PathOrder.{path_total, path_exact}
+use Rattle.fab_reach_base.specs.PathOrder.{path_total, path_exact}
 
 -- one path more is shown
 pub shown_more : (xs : List Path) (i : ℕ) (k : Path) (s m t : BTreeSet Path) → i < length xs → k ≡ get_or xs i k → AddsOnly (Contains xs) (Has s) (Has m) → ((q : Path) → contains path_cmp t q ≡ cond (is_at (path_cmp k) q) true (contains path_cmp m q)) → AddsOnly (Contains xs) (Has s) (Has t)

@@ -21,7 +21,7 @@ use Rattle.fab_reach_base.specs.Reach.{Reaches}
 use Rattle.fab_reach_base.specs.Records.{Records}
 use Rattle.fab_reach_base.specs.declared.path.Path.{Path}
 use Rattle.fab_reach_base.proofs.Gathering.{listed_all}
-use Rattle.fab_reach_base.proofs.PathOrder.{path_total, path_exact}
+use Rattle.fab_reach_base.specs.PathOrder.{path_total, path_exact}
 use Rattle.fab_reach_base.proofs.Reached.{path_told}
 use Rattle.fab_reach_books.specs.Numbers.{IsNumberOf}
 

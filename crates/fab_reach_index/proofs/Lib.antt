@@ -1,3 +1,4 @@
+pub mod KeyLaws
 pub mod Placed
 pub mod ZonesPlaced
 pub mod Patching

@@ -1,11 +1,10 @@
 -- The maps of an index, from the rows of a world.
-use Rattle.std.proofs.Common.{ℕ, ◌≡◌, List, [], Bool, true, false, cond, Contains, Option, None, Some, ◌⊎◌, inl, inr, refl, sym, ap, ◌∙◌, subst}
+use Rattle.std.proofs.Common.{ℕ, ◌≡◌, List, [], true, false, Contains, Option, None, Some, inl, inr, refl, sym, ap, ◌∙◌, subst}
 use mathlib.Core.Bool.{true≢false}
 use Rattle.std.specs.declared.cmp.Ordering.{Ordering}
-use Rattle.std.specs.Ordering.{is_eq, nat_cmp}
-use Rattle.std.specs.Cmp.{IsTotalOrder, Equal-is, tied_itself, nat_cmp_total}
+use Rattle.std.specs.Ordering.{nat_cmp}
+use Rattle.std.specs.Cmp.{IsTotalOrder, nat_cmp_total}
 use Rattle.std.specs.Option.{option_and_then}
-use Rattle.std.specs.BTreeMap as tree
 use Rattle.std.specs.BTreeMap.{BTreeMap, is_at}
 use Rattle.std.specs.BTreeSet.{BTreeSet, contains}
 use Rattle.std.specs.Map.{lookup}
@@ -18,6 +17,7 @@ use Rattle.fab_inventory.specs.declared.port.Known.{Known}
 use Rattle.fab_lemmas.specs.MapsOfSets.{in_tree}
 use Rattle.fab_lemmas.proofs.SeenEntries.{entry_decides}
 use Rattle.fab_lemmas.proofs.SeenSets.{listed_decides}
+use Rattle.fab_zoning.specs.Edits.{IsIn, Puts}
 use Rattle.fab_mapping_base.specs.Groups.{StorageGroupRows}
 use Rattle.fab_reach_base.specs.Adding.{Adds}
 use Rattle.fab_reach_base.specs.Orders.{Has}
@@ -27,53 +27,20 @@ use Rattle.fab_reach_base.specs.Records.{Records}
 use Rattle.fab_reach_base.specs.declared.path.Path.{Path}
 use Rattle.fab_reach_base.proofs.Adding.{Before, adds_as, adds_none, from_none}
 use Rattle.fab_reach_base.proofs.Gathering.{reaches}
-use Rattle.fab_reach_base.proofs.PathOrder.{path_total, path_exact}
+use Rattle.fab_reach_base.specs.PathOrder.{path_total, path_exact}
 use Rattle.fab_reach_base.proofs.Services.{listed_in}
 use Rattle.fab_reach_index.specs.Indexes.{IsTreeOf, IsHeldBy, IsTargetOf, IsHostGroupOf, IsRowOf}
 use Rattle.fab_reach_books.specs.Pairs.{Pair}
 use Rattle.fab_reach_index.specs.Inner.Regathering.{HasIn}
-use Rattle.fab_reach_index.specs.Inner.Placing.{IsIn, ByHolder, ByHostGroups, ByTargets, ByExposed, ByPath}
+use Rattle.fab_reach_index.specs.Inner.Placing.{ByHolder, ByHostGroups, ByTargets, ByExposed, ByPath}
 
-module _ {Q X : Type 0} {O : Q → Q → Ordering} {R : X → X → Ordering} (o : IsTotalOrder O) (oe : set.IsAntisymmetric O) (r : IsTotalOrder R) (re : set.IsAntisymmetric R) where
-  same_key : (a b : Q) → is_at (O a) b ≡ true → a ≡ b
-  same_key a b h = oe a b ((Equal-is (O a b)).0 h)
-
-  same_item : (a b : X) → is_at (R a) b ≡ true → a ≡ b
-  same_item a b h = re a b ((Equal-is (R a b)).0 h)
-
-  -- the map after the set at k, which was old, has become w, with z in it
-  pub adds_at : (t u : BTreeMap Q (BTreeSet X)) (k : Q) (z : X) (old : Option (BTreeSet X)) (w : BTreeSet X) → tree.get O t k ≡ old
-      → ((y : X) → contains R w y ≡ cond (is_at (R z) y) true (in_tree R old y))
-      → ((q : Q) → tree.get O u q ≡ cond (is_at (O k) q) (Some w) (tree.get O t q))
-      → Adds (λ (e : Q × X). e ≡ (k, z)) (IsIn O R t) (IsIn O R u)
-  adds_at t u k z old w at adds updates = record {
-    sound = λ e h. came e.0 e.1 (is_at (O k) e.0) refl (sym (ap (λ x. in_tree R x e.1) (updates e.0)) ∙ h);
-    kept = λ e h. ap (λ x. in_tree R x e.1) (updates e.0) ∙ stays e.0 e.1 (is_at (O k) e.0) refl h;
-    there = λ e is. subst (IsIn O R u) (sym is) (ap (λ x. in_tree R x z) (updates k ∙ ap (λ b. cond b (Some w) (tree.get O t k)) (ap is_eq (tied_itself o k))) ∙ adds z ∙ ap (λ b. cond b true (in_tree R old z)) (ap is_eq (tied_itself r z)));
-  }
-    where
-      here : (q : Q) (y : X) → is_at (O k) q ≡ true → in_tree R (tree.get O t q) y ≡ in_tree R old y
-      here q y is = ap (λ x. in_tree R x y) (ap (tree.get O t) (sym (same_key k q is)) ∙ at)
-
-      came_in : (q : Q) (y : X) → is_at (O k) q ≡ true → (b : Bool) → is_at (R z) y ≡ b → cond b true (in_tree R old y) ≡ true → IsIn O R t (q, y) ⊎ ◌≡◌ {A = Q × X} (q, y) (k, z)
-      came_in q y is true same h = inr (λ i. (sym (same_key k q is) i, sym (same_item z y same) i))
-      came_in q y is false same h = inl (here q y is ∙ h)
-
-      came : (q : Q) (y : X) (b : Bool) → is_at (O k) q ≡ b → in_tree R (cond b (Some w) (tree.get O t q)) y ≡ true → IsIn O R t (q, y) ⊎ ◌≡◌ {A = Q × X} (q, y) (k, z)
-      came q y true is h = came_in q y is (is_at (R z) y) refl (sym (adds y) ∙ h)
-      came q y false is h = inl h
-
-      still : (b c : Bool) → c ≡ true → cond b true c ≡ true
-      still true c h = refl
-      still false c h = h
-
-      stays : (q : Q) (y : X) (b : Bool) → is_at (O k) q ≡ b → IsIn O R t (q, y) → in_tree R (cond b (Some w) (tree.get O t q)) y ≡ true
-      stays q y true is h = adds y ∙ still (is_at (R z) y) (in_tree R old y) (sym (here q y is) ∙ h)
-      stays q y false is h = h
-
-  -- a set of nothing that has gained an item
-  pub one_item : (s t : BTreeSet X) (z : X) → s.keys ≡ [] → ((y : X) → contains R t y ≡ cond (is_at (R z) y) true (contains R s y)) → (y : X) → contains R t y ≡ cond (is_at (R z) y) true (in_tree R None y)
-  one_item s t z none updates y = updates y ∙ ap (λ ks. cond (is_at (R z) y) true (contains R (record { keys = ks }) y)) none
+-- one entry more
+pub adds_one : {Y : Type 0} (y : Y) (old new : Y → Type 0) → Puts y old new → Adds (λ z. z ≡ y) old new
+adds_one y old new puts = record {
+  sound = λ z h. (puts z).0 h;
+  kept = λ z h. (puts z).1 (inl h);
+  there = λ z h. (puts z).1 (inr h);
+}
 
 module _ {Q X : Type 0} (O : Q → Q → Ordering) (R : X → X → Ordering) where
   -- a map of nothing

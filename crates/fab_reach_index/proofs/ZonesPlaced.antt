@@ -17,6 +17,7 @@ use Rattle.fab_lemmas.specs.MapsOfSets.{in_tree, tree_has}
 use Rattle.fab_lemmas.proofs.SeenEntries.{entry_decides}
 use Rattle.fab_lemmas.proofs.Tests.{or_true, or_left, or_right}
 use Rattle.fab_zoning_rows.specs.Holding.{IsLoggedInAt, Holds}
+use Rattle.fab_zoning.specs.Edits.{IsIn}
 use Rattle.fab_reach_base.specs.Adding.{Adds}
 use Rattle.fab_reach_base.specs.Reach.{IsPort}
 use Rattle.fab_reach_base.specs.Records.{Records, zoning_at}
@@ -25,11 +26,11 @@ use Rattle.fab_reach_base.proofs.Adding.{Before, adds_as, adds_none}
 use Rattle.fab_reach_base.proofs.Same.{same_some}
 use Rattle.fab_reach_books.specs.Affected.{IsInZone}
 use Rattle.fab_reach_index.specs.Indexes.{Zone, zone_cmp, PortInZone}
-use Rattle.fab_reach_index.specs.KeyLaws.{zone_exact, zone_total}
+use Rattle.fab_reach_index.proofs.KeyLaws.{zone_exact, zone_total}
 use Rattle.std.specs.BTreeMap as tree
 use Rattle.std.specs.BTreeMap.{BTreeMap, IsOrdered}
 use Rattle.std.proofs.lemmas.Map.Views.{btree_set_contains_iff, btree_map_get_iff}
-use Rattle.fab_reach_index.specs.Inner.Placing.{IsIn, ByZones, ByZone, ByPortZones}
+use Rattle.fab_reach_index.specs.Inner.Placing.{ByZones, ByZone, ByPortZones}
 use Rattle.fab_reach_books.proofs.SetLoops.{adds_both, all_names}
 
 abbrev pub Placed : Type 0

@@ -1,4 +1,3 @@
 pub mod Indexes
-pub mod KeyLaws
 pub mod Patches
 pub mod Inner

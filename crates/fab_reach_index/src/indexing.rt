@@ -1,8 +1,8 @@
 //! The maps of an index, from a world.
 ghost use Rattle.std.specs.Prelude.{◌≡◌, Some, OnOk, IfOk};
-ghost use Rattle.std.specs.FinSet as set;
 ghost use Rattle.std.specs.Ordering.{nat_cmp};
 ghost use Rattle.fab_names.specs.Orders.{name_cmp};
+ghost use Rattle.fab_zoning.specs.Edits.{IsIn};
 ghost use Rattle.fab_reach_base.specs.Adding.{Adds};
 ghost use Rattle.fab_reach_base.specs.Books.{AreReached};
 ghost use Rattle.fab_reach_base.specs.Orders.{Has, path_cmp};
@@ -11,20 +11,20 @@ ghost use Rattle.fab_reach_base.specs.Views.{seen};
 ghost use Rattle.fab_reach_index.specs.Indexes.{IsTreeOf, IsHostServed, IsHeldBy, IsTargetOf, IsHostGroupOf, IsRowOf};
 ghost use Rattle.fab_reach_books.specs.Pairs.{pair_cmp};
 ghost use Rattle.fab_reach_index.specs.Inner.Regathering.{HasIn};
-ghost use Rattle.fab_reach_index.specs.Inner.Placing.{IsIn, ByHolder, ByHostGroups, ByTargets, ByExposed, ByPath};
+ghost use Rattle.fab_reach_index.specs.Inner.Placing.{ByHolder, ByHostGroups, ByTargets, ByExposed, ByPath};
 
-use crate::key::Key;
 use fab_inventory::Known;
 use fab_mapping::StorageGroup;
 use fab_names::{Name, Wwn};
 use fab_reach_base::{Path, View, served_hosts};
+use fab_zoning::{Key, put_in_tree};
 use std::alloc::{AllocError, Allocator};
 use std::collections::{BTreeMap, BTreeSet};
 
 /// Adds an item to the set at a key.
 ///
 /// # Errors
-/// `AllocError` where there is no memory: nothing is added, but the key may have an empty set.
+/// `AllocError` where there is no memory.
 pub fn add_at<Q: Key, X: Key, A: Allocator + Copy>(
     alloc: A,
     sets: &mut BTreeMap<Q, BTreeSet<X, A>, A>,
@@ -33,18 +33,7 @@ pub fn add_at<Q: Key, X: Key, A: Allocator + Copy>(
 ) -> Result<(), AllocError>
     ensures { OnOk result (Adds (λ e. e ≡ (key, item)) (IsIn Q.cmp X.cmp sets.old) (IsIn Q.cmp X.cmp sets.new)) }
 {
-    match sets.get_mut(&key) {
-        Some(set) => {
-            set.insert(item)?;
-            Ok(())
-        }
-        None => {
-            let mut set = BTreeSet::new(alloc);
-            set.insert(item)?;
-            sets.insert(key, set)?;
-            Ok(())
-        }
-    }
+    put_in_tree(alloc, sets, key, item)
 }
 
 /// Adds the items to the set at a key.

@@ -5,7 +5,6 @@
 
 mod index;
 mod indexing;
-mod key;
 mod lookups;
 mod patch;
 mod regather;
@@ -14,8 +13,7 @@ mod zoning_index;
 
 pub use index::Index;
 pub use indexing::{add_all_at, add_at, add_under};
-pub use key::Key;
-pub use lookups::{add_all, add_held, is_at};
+pub use lookups::{add_all, add_held};
 pub use regather::{add_some_left, regathered};
 pub use zone_ports::turned;
 pub use zoning_index::add_zones;

@@ -1,24 +1,12 @@
 //! Looks at a port, and at the ports of a holder.
-ghost use Rattle.std.specs.Prelude.{◌↔◌, IsTrue, OnOk};
-ghost use Rattle.fab_zoning_rows.specs.Holding.{IsLoggedInAt};
+ghost use Rattle.std.specs.Prelude.{OnOk};
 ghost use Rattle.fab_reach_base.specs.Adding.{Adds};
 ghost use Rattle.fab_reach_books.specs.Inner.Sets.{HasPortIn};
 ghost use Rattle.fab_reach_index.specs.Inner.Holding.{HoldsIn};
 
-use fab_inventory::Port;
-use fab_names::{Fabric, Name, Wwn};
+use fab_names::{Name, Wwn};
 use std::alloc::{AllocError, Allocator};
 use std::collections::{BTreeMap, BTreeSet};
-
-/// Whether the port is logged in at the fabric.
-pub fn is_at(fabric: Fabric, port: &Port) -> bool
-    ensures { IsTrue result ↔ IsLoggedInAt fabric port.now }
-{
-    match port.at {
-        Some((here, _)) => here == fabric,
-        None => false,
-    }
-}
 
 /// Adds the ports of a set.
 pub fn add_all<A: Allocator + Copy>(

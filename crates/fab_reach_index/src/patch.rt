@@ -5,7 +5,7 @@ ghost use Rattle.fab_lemmas.specs.MapsOfSets.{tree_has};
 ghost use Rattle.fab_reach_books.specs.Renewed.{patched};
 ghost use Rattle.fab_reach_index.specs.Patches.{Keeps, HasRoomFor};
 
-use crate::key::Key;
+use fab_zoning::Key;
 use std::alloc::{AllocError, Allocator};
 use std::collections::{BTreeMap, BTreeSet};
 

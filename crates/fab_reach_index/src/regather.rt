@@ -10,7 +10,7 @@ ghost use Rattle.fab_reach_index.specs.Inner.Regathering.{HasIn, IsLeftAt, IsLef
 ghost use Rattle.fab_reach_books.specs.Renewed.{patched};
 ghost use Rattle.fab_reach_index.specs.Patches.{HasRoomFor};
 
-use crate::key::Key;
+use fab_zoning::Key;
 use std::alloc::{AllocError, Allocator};
 use std::collections::{BTreeMap, BTreeSet};
 

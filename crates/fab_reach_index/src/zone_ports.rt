@@ -1,10 +1,11 @@
 //! The ports of each zone, from the zones of each port.
 ghost use Rattle.std.specs.Prelude.{OnOk, IfOk};
 ghost use Rattle.std.specs.Ordering.{nat_cmp};
+ghost use Rattle.fab_zoning.specs.Edits.{IsIn};
 ghost use Rattle.fab_reach_base.specs.Adding.{Adds};
 ghost use Rattle.fab_reach_base.specs.Records.{Records};
 ghost use Rattle.fab_reach_index.specs.Indexes.{IsTreeOf, zone_cmp, PortInZone, ZoneHasPort};
-ghost use Rattle.fab_reach_index.specs.Inner.Placing.{IsIn, ByPortZones};
+ghost use Rattle.fab_reach_index.specs.Inner.Placing.{ByPortZones};
 
 use crate::indexing::add_at;
 use fab_names::{Fabric, Name, Wwn};

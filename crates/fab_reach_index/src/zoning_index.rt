@@ -5,19 +5,19 @@ ghost use Rattle.std.specs.Option.{option_copied};
 ghost use Rattle.std.specs.Ordering.{nat_cmp};
 ghost use Rattle.fab_lemmas.specs.MapsOfSets.{in_tree};
 ghost use Rattle.fab_names.specs.Orders.{name_cmp};
+ghost use Rattle.fab_zoning.specs.Edits.{IsIn};
 ghost use Rattle.fab_reach_base.specs.Adding.{Adds};
 ghost use Rattle.fab_reach_base.specs.Serving.{IsServing};
 ghost use Rattle.fab_reach_base.specs.Views.{seen};
 ghost use Rattle.fab_zoning_rows.specs.PortZones.{in_zones};
 ghost use Rattle.fab_reach_books.specs.Affected.{IsInZone};
 ghost use Rattle.fab_reach_index.specs.Indexes.{IsTreeOf, zone_cmp, PortInZone};
-ghost use Rattle.fab_reach_index.specs.Inner.Placing.{IsIn, ByZone, ByZones};
+ghost use Rattle.fab_reach_index.specs.Inner.Placing.{ByZone, ByZones};
 
 use crate::indexing::add_at;
-use crate::lookups::is_at;
-use fab_inventory::Port;
 use fab_names::{Fabric, Name, Wwn};
 use fab_reach_base::View;
+use fab_zoning::is_logged_in_at;
 use fab_zoning_rows::PortZones;
 use std::alloc::{AllocError, Allocator};
 use std::collections::{BTreeMap, BTreeSet};
@@ -88,7 +88,7 @@ fn add_zones_at<A: Allocator + Copy>(
     let Some(port) = view.inventory.port(name) else {
         return Ok(());
     };
-    if !is_at(fabric, &port) {
+    if !is_logged_in_at(fabric, &port) {
         return Ok(());
     }
     let these = view.config.zoning(fabric).zones_of(&port);

@@ -37,7 +37,7 @@ use Rattle.fab_reach_books.specs.Affected.{IsInZone}
 use Rattle.fab_reach_moves.specs.Inner.Changing.{Key, key_cmp, HasKey, active_of, AreActive, SaysPort, SaysPortAmong, IsChangedBy, IsPortChangedBy, IsPortChanged, IsRezoned}
 use Rattle.fab_reach_moves.specs.Moves.{IsSamePort, AreMoved}
 use Rattle.fab_reach_index.specs.Indexes.{zone_cmp}
-use Rattle.fab_reach_index.specs.KeyLaws.{zone_exact, zone_total}
+use Rattle.fab_reach_index.proofs.KeyLaws.{zone_exact, zone_total}
 use Rattle.fab_reach_books.specs.Inner.Sets.{HasPortIn}
 use Rattle.fab_reach_books.specs.Rows.{IsRowDiff}
 use Rattle.fab_reach_moves.proofs.PortsAfter.{port_kept}

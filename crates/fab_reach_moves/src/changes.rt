@@ -17,7 +17,7 @@ use fab_inventory::Port;
 use fab_names::{Fabric, Member, Name, Wwn};
 use fab_reach_base::View;
 use fab_reach_books::{Row, RowDiff};
-use fab_reach_index::is_at;
+use fab_zoning::is_logged_in_at;
 use fab_zoning_rows::{address_member, place_member};
 use std::alloc::{AllocError, Allocator};
 use std::collections::BTreeSet;
@@ -173,7 +173,7 @@ fn add_if_changed<A: Allocator + Copy>(
     ensures { (v : Records) (gone come : List Row) → IsRowDiff (seen before.now) v gone come → AreActive gone active.now.gone → AreActive come active.now.come
         → OnOk result (Adds (λ y. IsChangedBy (world_at is_before (seen before.now) v) key.now port.now × (y ≡ port.now.name)) (HasPortIn ports.old) (HasPortIn ports.new)) }
 {
-    if !is_at(key.0.0, port) {
+    if !is_logged_in_at(key.0.0, port) {
         return Ok(());
     }
     if !is_match(&key.1, port) {

@@ -1,16 +1,17 @@
 //! What rows say, by key: maps and sets that are gathered in one walk through the rows.
 ghost use Rattle.std.specs.Prelude.{◌++◌, ◌∷◌, [], List, IfOk, OnOk, MatchOption};
+ghost use Rattle.fab_zoning.specs.Edits.{IsIn};
 ghost use Rattle.fab_reach_base.specs.Adding.{Adds};
 ghost use Rattle.fab_reach_books.specs.declared.row.Row.{Row};
 ghost use Rattle.fab_reach_index.specs.Indexes.{IsTreeOf};
-ghost use Rattle.fab_reach_index.specs.Inner.Placing.{IsIn};
 ghost use Rattle.fab_reach_moves.specs.Inner.Saying.{IsOnce, IsSaid, AreSaid};
 
 use fab_inventory::Port;
 use fab_names::{Fabric, Member, Name, Wwn};
 use fab_reach_books::Row;
-use fab_reach_index::{Key, add_at};
+use fab_reach_index::add_at;
 use fab_store_rows::{GroupRow, PartRow, StoragePart};
+use fab_zoning::Key;
 use std::alloc::{AllocError, Allocator};
 use std::collections::{BTreeMap, BTreeSet};
 

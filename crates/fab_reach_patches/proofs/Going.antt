@@ -7,6 +7,7 @@ use Rattle.std.specs.BTreeSet.{BTreeSet, contains}
 use Rattle.fab_names.specs.Orders.{name_cmp}
 use Rattle.fab_inventory.specs.Ports.{port_at}
 use Rattle.fab_inventory.specs.declared.port.Port.{Port}
+use Rattle.fab_zoning.specs.Edits.{IsIn}
 use Rattle.fab_reach_base.proofs.Reached.{path_told}
 use Rattle.fab_reach_base.specs.Adding.{Adds}
 use Rattle.fab_reach_base.specs.Books.{IsDelta}
@@ -23,7 +24,6 @@ use Rattle.fab_reach_books.specs.Rows.{IsRowDiff}
 use Rattle.fab_reach_books.specs.declared.row.Row.{Row}
 use Rattle.fab_reach_books.specs.declared.row.Row.TheVariants as row
 use Rattle.fab_reach_index.specs.Indexes.{IsTreeOf, Zone, zone_cmp, PortInZone, IsHostServed, IsHeldBy, IsTargetOf, IsHostGroupOf, IsRowOf}
-use Rattle.fab_reach_index.specs.Inner.Placing.{IsIn}
 use Rattle.fab_reach_moves.specs.Inner.Listing.{name_row, SaysHeld}
 use Rattle.fab_reach_moves.specs.Inner.Saying.{IsSaid, SaysServing}
 use Rattle.fab_reach_moves.specs.Moves.{AreMoved, AreTouched}

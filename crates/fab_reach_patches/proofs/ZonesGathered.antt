@@ -12,6 +12,7 @@ use Rattle.fab_names.specs.declared.fabric.Fabric.{Fabric}
 use Rattle.fab_names.specs.declared.member.Member.TheVariants as member
 use Rattle.fab_inventory.specs.Ports.{port_at}
 use Rattle.fab_inventory.specs.declared.port.Port.{Port}
+use Rattle.fab_zoning.specs.Edits.{IsIn}
 use Rattle.fab_reach_base.specs.Adding.{Adds}
 use Rattle.fab_reach_base.specs.Reach.{IsPort}
 use Rattle.fab_reach_base.specs.Records.{Records, zoning_at}
@@ -22,7 +23,7 @@ use Rattle.fab_reach_books.proofs.SetLoops.{all_ports}
 use Rattle.fab_reach_books.specs.Affected.{IsInZone}
 use Rattle.fab_reach_books.specs.Inner.Sets.{HasPortIn}
 use Rattle.fab_reach_index.specs.Indexes.{Zone, zone_cmp, PortInZone}
-use Rattle.fab_reach_index.specs.Inner.Placing.{IsIn, ByZone, ByZones}
+use Rattle.fab_reach_index.specs.Inner.Placing.{ByZone, ByZones}
 use Rattle.fab_reach_index.specs.Inner.Regathering.{HasIn}
 use Rattle.fab_reach_index.proofs.ZonesPlaced.{Placed, zones_four}
 use Rattle.fab_reach_moves.proofs.Changed.{zoned_by_four}

@@ -3,12 +3,12 @@
 ghost use Rattle.std.specs.Prelude.{◌≡◌, IfOk, OnOk};
 ghost use Rattle.std.specs.Ordering.{nat_cmp};
 ghost use Rattle.fab_names.specs.Orders.{name_cmp};
+ghost use Rattle.fab_zoning.specs.Edits.{IsIn};
 ghost use Rattle.fab_reach_base.specs.Adding.{Adds};
 ghost use Rattle.fab_reach_base.specs.Records.{Records};
 ghost use Rattle.fab_reach_base.specs.Views.{seen};
 ghost use Rattle.fab_reach_books.specs.Inner.Sets.{HasName};
 ghost use Rattle.fab_reach_index.specs.Indexes.{IsTreeOf, IsHostServed, IsTargetOf};
-ghost use Rattle.fab_reach_index.specs.Inner.Placing.{IsIn};
 ghost use Rattle.fab_reach_moves.specs.Inner.Telling.{IsTold};
 
 use fab_names::{Name, Wwn};

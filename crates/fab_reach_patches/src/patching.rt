@@ -2,6 +2,7 @@
 ghost use Rattle.std.specs.Prelude.{IfOk, OnOk};
 ghost use Rattle.std.specs.Ordering.{nat_cmp};
 ghost use Rattle.fab_names.specs.Orders.{name_cmp};
+ghost use Rattle.fab_zoning.specs.Edits.{IsIn};
 ghost use Rattle.fab_reach_base.specs.Adding.{Adds};
 ghost use Rattle.fab_reach_base.specs.Books.{IsDelta};
 ghost use Rattle.fab_reach_base.specs.Orders.{path_cmp};
@@ -10,7 +11,6 @@ ghost use Rattle.fab_reach_base.specs.Serving.{IsServing};
 ghost use Rattle.fab_reach_base.specs.Views.{seen};
 ghost use Rattle.fab_reach_books.specs.Pairs.{pair_cmp};
 ghost use Rattle.fab_reach_index.specs.Indexes.{IsIndexOf, IsTreeOf, zone_cmp, PortInZone, ZoneHasPort, IsHostServed, IsHeldBy, IsTargetOf, IsHostGroupOf, IsRowOf};
-ghost use Rattle.fab_reach_index.specs.Inner.Placing.{IsIn};
 ghost use Rattle.fab_reach_index.specs.Patches.{IsPatchTo, LeadsTo};
 ghost use Rattle.fab_reach_moves.specs.Inner.Telling.{IsTold};
 ghost use Rattle.fab_reach_moves.specs.Moves.{AreMoved, AreTouched};

@@ -2,13 +2,14 @@
 ghost use Rattle.std.specs.Prelude.{◌≡◌, ◌↔◌, ℕ, List, true, IfOk, OnOk};
 ghost use Rattle.std.specs.FinSet as set;
 ghost use Rattle.std.specs.Ordering.{nat_cmp};
+ghost use Rattle.fab_zoning.specs.Edits.{IsIn};
 ghost use Rattle.fab_reach_base.specs.Adding.{Adds};
 ghost use Rattle.fab_reach_base.specs.Records.{Records, zoning_at};
 ghost use Rattle.fab_reach_base.specs.Serving.{IsServing};
 ghost use Rattle.fab_reach_base.specs.Views.{seen};
 ghost use Rattle.fab_reach_books.specs.Inner.Sets.{HasName, HasPortIn};
 ghost use Rattle.fab_reach_index.specs.Indexes.{IsTreeOf, zone_cmp, PortInZone};
-ghost use Rattle.fab_reach_index.specs.Inner.Placing.{IsIn, ByZone, ByZones};
+ghost use Rattle.fab_reach_index.specs.Inner.Placing.{ByZone, ByZones};
 ghost use Rattle.fab_reach_moves.specs.Inner.Telling.{IsTold};
 ghost use Rattle.fab_zoning_rows.specs.Holding.{has_row};
 

@@ -9,7 +9,7 @@ use Rattle.fab_reach_base.specs.Records.{Records}
 use Rattle.fab_reach_base.specs.Orders.{path_cmp, Has, IsListOf}
 use Rattle.fab_reach_base.specs.Books.{IsGained, IsDelta, AreReached}
 use Rattle.fab_reach_base.specs.declared.path.Path.{Path}
-use Rattle.fab_reach_base.proofs.PathOrder.{path_total, path_exact}
+use Rattle.fab_reach_base.specs.PathOrder.{path_total, path_exact}
 use Rattle.fab_reach_base.proofs.Books.{list_as}
 
 both : (a b : Bool) → (a && not b) ≡ true → (a ≡ true) × ((b ≡ true) → ⊥)

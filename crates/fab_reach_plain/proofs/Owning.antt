@@ -9,7 +9,7 @@ use Rattle.std.specs.BTreeSet.{BTreeSet, contains}
 use Rattle.std.specs.FinMap as map
 use Rattle.std.specs.FinSet as set
 use Rattle.fab_names.specs.Orders.{name_cmp}
-use Rattle.fab_names.proofs.OrderLaws.{name_total, name_exact}
+use Rattle.fab_names.proofs.OrderLaws.{both_equal, name_total, name_exact}
 use Rattle.fab_inventory.specs.Holders.{holder_in}
 use Rattle.fab_inventory.specs.Ports.{port_at}
 use Rattle.fab_inventory.specs.declared.port.Known.{Known}
@@ -23,7 +23,7 @@ use Rattle.fab_reach_base.specs.declared.path.Path.{Path}
 use Rattle.fab_reach_base.proofs.Adding.{Before, adds_as, adds_none, from_none}
 use Rattle.fab_reach_base.proofs.Books.{list_as}
 use Rattle.fab_reach_base.proofs.Gathering.{known}
-use Rattle.fab_reach_base.proofs.PathOrder.{both_equal, path_total, path_exact}
+use Rattle.fab_reach_base.specs.PathOrder.{path_total, path_exact}
 use Rattle.fab_reach_base.proofs.Same.{same_some}
 use Rattle.fab_reach_base.proofs.Sets.{adds_insert, none_in}
 use Rattle.fab_reach_books.specs.Inner.Sets.{HasPortIn}

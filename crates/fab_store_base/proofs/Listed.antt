@@ -13,7 +13,7 @@ use Rattle.fab_store_world.proofs.InventoryTables.{entries_total, addresses_tota
 use Rattle.fab_store_world.proofs.PathRowOrder as path_rows
 use Rattle.fab_store_world.specs.Inventories.{entry_order, address_order, holder_order, volume_order}
 use Rattle.fab_store_world.specs.Paths.{path_row_order}
-use Rattle.fab_store_rows.proofs.OrderOfRows as rows
+use Rattle.fab_store_rows.specs.OrderOfRows as rows
 use Rattle.fab_store_rows.specs.RowOrder.{row_order}
 use Rattle.fab_store_rows.specs.declared.config_row.ConfigRow.{ConfigRow}
 use Rattle.fab_store_rows.specs.declared.record_row.ApprovalRow.{ApprovalRow}

@@ -11,7 +11,8 @@ use Rattle.fab_store_rows.specs.declared.inventory_row.PortEntry.{PortEntry}
 use Rattle.fab_store_rows.specs.declared.inventory_row.AddressRow.{AddressRow}
 use Rattle.fab_store_rows.specs.declared.inventory_row.HolderRow.{HolderRow}
 use Rattle.fab_store_rows.specs.declared.inventory_row.VolumeRow.{VolumeRow}
-use Rattle.fab_store_columns_base.specs.Columns.{ShowsOption, ShowsNumber, ShowsDecimal, ShowsPlace, ShowsAt, kind_text, flag_number}
+use Rattle.fab_inventory.specs.Words.{kind_text}
+use Rattle.fab_store_columns_base.specs.Columns.{ShowsOption, ShowsNumber, ShowsDecimal, ShowsPlace, ShowsAt, flag_number}
 use Rattle.fab_store_columns.specs.InventoryLines.{PortColumns, ShowsPort, AddressColumns, ShowsAddress, HolderColumns, ShowsHolder, VolumeColumns, ShowsVolume}
 use Rattle.fab_store_columns_base.proofs.Texts.{decimal_spells}
 

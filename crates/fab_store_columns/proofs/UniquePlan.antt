@@ -3,7 +3,8 @@ use Rattle.std.proofs.Common.{ℕ, ◌≡◌, List, get_or, refl, sym, ap, ◌�
 use Rattle.fab_store_rows.specs.declared.record_row.PlanState.{PlanState}
 use Rattle.fab_store_rows.specs.declared.record_row.PlanState.TheVariants.{Staged, Active, RolledBack, Withdrawn}
 use Rattle.fab_store_rows.specs.PlanEntries.{PlanEntry}
-use Rattle.fab_store_columns.specs.PlanLines.{PlanColumns, ShowsPlan, state_text}
+use Rattle.fab_store_rows.specs.PlanStates.{state_text}
+use Rattle.fab_store_columns.specs.PlanLines.{PlanColumns, ShowsPlan}
 use Rattle.fab_store_columns.proofs.Unique.{one_name, same_name, one_number}
 
 -- the first characters of the words of states

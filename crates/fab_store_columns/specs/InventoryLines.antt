@@ -8,7 +8,8 @@ use Rattle.fab_store_rows.specs.declared.inventory_row.PortEntry.{PortEntry}
 use Rattle.fab_store_rows.specs.declared.inventory_row.AddressRow.{AddressRow}
 use Rattle.fab_store_rows.specs.declared.inventory_row.HolderRow.{HolderRow}
 use Rattle.fab_store_rows.specs.declared.inventory_row.VolumeRow.{VolumeRow}
-use Rattle.fab_store_columns_base.specs.Columns.{ShowsOption, ShowsAt, ShowsNumber, kind_text}
+use Rattle.fab_inventory.specs.Words.{kind_text}
+use Rattle.fab_store_columns_base.specs.Columns.{ShowsOption, ShowsAt, ShowsNumber}
 
 -- `ports`
 pub record PortColumns : Type 0 where

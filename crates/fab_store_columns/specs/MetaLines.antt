@@ -1,7 +1,8 @@
 -- Lines of the table of settings, and the rows that they show.
-use Rattle.std.specs.Prelude.{◌≡◌, ◌≤◌, ℕ, List, [], Option, None, Some, Bool, true, false, codes}
+use Rattle.std.specs.Prelude.{◌≡◌, ◌≤◌, ℕ, List, [], Option, None, Some, Bool, codes}
 use Rattle.fab_names.specs.Names.{SpellsName}
 use Rattle.fab_names.specs.declared.fabric.Fabric.TheVariants.{A, B}
+use Rattle.fab_reach_base.specs.fab_zoning.Zonings.{flag_of, flag_text}
 use Rattle.fab_store_rows.specs.declared.config_row.SettingRow.{SettingRow}
 use Rattle.fab_store_rows.specs.declared.config_row.SettingRow.TheVariants.{ActiveSet, DefaultZone}
 use Rattle.fab_store_columns_base.specs.Columns.{ShowsDecimal}
@@ -28,8 +29,7 @@ ShowsActiveName text (Some name) = SpellsName text name
 
 -- whether the default zone permits
 abbrev pub permit_text : Bool → List ℕ
-permit_text true = codes "permit"
-permit_text false = codes "deny"
+permit_text permit = flag_text (flag_of permit)
 
 abbrev pub ShowsSettingValue : List ℕ → SettingRow → Type 0
 ShowsSettingValue text (ActiveSet fabric name) = ShowsActiveName text name

@@ -1,18 +1,10 @@
 -- Lines of the table of plans, and the rows that they show.
-use Rattle.std.specs.Prelude.{◌≡◌, ℕ, ℤ, List, codes}
+use Rattle.std.specs.Prelude.{◌≡◌, ℕ, ℤ, List}
 use Rattle.fab_names.specs.Names.{SpellsName}
-use Rattle.fab_store_rows.specs.declared.record_row.PlanState.{PlanState}
-use Rattle.fab_store_rows.specs.declared.record_row.PlanState.TheVariants.{Staged, Active, RolledBack, Withdrawn}
 use Rattle.fab_store_rows.specs.PlanEntries.{PlanEntry}
+use Rattle.fab_store_rows.specs.PlanStates.{state_text}
 use Rattle.fab_store_columns_base.specs.declared.limits.TheConstants.{MOST_NUMBER}
 use Rattle.fab_store_columns_base.specs.Columns.{ShowsNumber}
-
--- the word of a state
-abbrev pub state_text : PlanState → List ℕ
-state_text Staged = codes "staged"
-state_text Active = codes "active"
-state_text RolledBack = codes "rolled-back"
-state_text Withdrawn = codes "withdrawn"
 
 -- `plans`
 pub record PlanColumns : Type 0 where

@@ -12,8 +12,8 @@ ghost use Rattle.fab_store_columns.specs.InventoryLines.{ShowsPort, ShowsAddress
 use fab_inventory::MOST_BYTES;
 use fab_names::{Fabric, Place, Wwn};
 use fab_store_columns_base::{
-    address_text, kind_word, name_or_null, name_text, plain_text, read_address, read_at,
-    read_count, read_kind, read_name, read_name_or_null,
+    address_text, name_or_null, name_text, plain_text, read_address, read_at, read_count,
+    read_kind, read_name, read_name_or_null,
 };
 use fab_store_rows::{AddressRow, HolderRow, PortEntry, VolumeRow};
 use std::alloc::{AllocError, Allocator};
@@ -222,7 +222,7 @@ impl<A: Allocator + Copy> HolderLine<A> {
     {
         Ok(HolderLine {
             name: name_text(alloc, &row.name)?,
-            kind: kind_word(row.kind).to_string(alloc)?,
+            kind: row.kind.word().to_string(alloc)?,
             tenant: name_text(alloc, &row.tenant)?,
         })
     }

@@ -6,6 +6,7 @@ ghost use Rattle.fab_store_columns.specs.declared.meta_lines.MetaRow.{MetaRow};
 ghost use Rattle.fab_store_columns.specs.MetaLines as spec;
 
 use fab_names::{Fabric, Name};
+use fab_reach_base::zoning::DefaultFlag;
 use fab_store_columns_base::{MOST_NUMBER, name_text, read_decimal, read_name};
 use fab_store_rows::SettingRow;
 use std::alloc::{AllocError, Allocator};
@@ -143,20 +144,15 @@ fn active_text<A: Allocator>(alloc: A, name: &Option<Name>) -> Result<String<A>,
     }
 }
 
-/// The word of a default zone.
-fn permit_word(permit: bool) -> &'static str
-    ensures { result.now ≡ spec.permit_text permit }
-{
-    if permit { "permit" } else { "deny" }
-}
-
 /// The value of a setting.
 pub fn setting_value<A: Allocator>(alloc: A, row: &SettingRow) -> Result<String<A>, AllocError>
     ensures { IfOk result (λ text. spec.ShowsSettingValue (string_bytes text) row.now) }
 {
     match row {
         SettingRow::ActiveSet(_, name) => active_text(alloc, name),
-        SettingRow::DefaultZone(_, permit) => permit_word(*permit).to_string(alloc),
+        SettingRow::DefaultZone(_, permit) => {
+            DefaultFlag::permitting(*permit).word().to_string(alloc)
+        }
     }
 }
 

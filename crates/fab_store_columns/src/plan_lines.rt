@@ -2,8 +2,9 @@
 ghost use Rattle.std.specs.Prelude.{◌≡◌, ◌≤◌, MatchOption, IfOk};
 ghost use Rattle.fab_store_rows.specs.declared.record_row.PlanState.{PlanState};
 ghost use Rattle.fab_store_rows.specs.PlanEntries.{PlanEntry};
+ghost use Rattle.fab_store_rows.specs.PlanStates.{state_text};
 ghost use Rattle.fab_store_columns_base.specs.declared.limits.TheConstants as limit;
-ghost use Rattle.fab_store_columns.specs.PlanLines.{ShowsPlan, state_text};
+ghost use Rattle.fab_store_columns.specs.PlanLines.{ShowsPlan};
 
 use fab_store_columns_base::{MOST_NUMBER, name_text, read_count, read_name};
 use fab_store_rows::{PlanRow, PlanState};
@@ -45,18 +46,6 @@ fn read_state(text: &str) -> Option<PlanState>
     }
 }
 
-/// The word of a state.
-fn state_word(state: PlanState) -> &'static str
-    ensures { result.now ≡ state_text state }
-{
-    match state {
-        PlanState::Staged => "staged",
-        PlanState::Active => "active",
-        PlanState::RolledBack => "rolled-back",
-        PlanState::Withdrawn => "withdrawn",
-    }
-}
-
 impl<A: Allocator + Copy> PlanLine<A> {
     /// The row that the line shows, if it shows one, with the line's own text. It takes no memory.
     pub fn read(self) -> Option<PlanRow<A>>
@@ -91,7 +80,7 @@ impl<A: Allocator + Copy> PlanLine<A> {
             name: name_text(alloc, &row.name)?,
             author: name_text(alloc, &row.author)?,
             text: row.text.as_str().to_string(alloc)?,
-            state: state_word(row.state).to_string(alloc)?,
+            state: row.state.word().to_string(alloc)?,
             position: row.position as i64,
         })
     }

@@ -8,7 +8,7 @@ ghost use Rattle.fab_store_columns_base.specs.declared.limits.TheConstants as li
 ghost use Rattle.fab_mapping_base.specs.declared.limits.TheConstants as unit;
 
 use fab_mapping::LAST_UNIT;
-use fab_names::{Fabric, Name, Wwn};
+use fab_names::Wwn;
 use fab_reach_base::Path;
 use fab_store_columns_base::{
     MOST_NUMBER, name_text, plain_text, read_count, read_fabric, read_name,

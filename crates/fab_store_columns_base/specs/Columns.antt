@@ -1,10 +1,8 @@
 -- What a column of a table shows.
-use Rattle.std.specs.Prelude.{◌≡◌, ◌≤◌, ℕ, ℤ, pos, List, Option, None, Some, Bool, true, false, codes, decimal}
+use Rattle.std.specs.Prelude.{◌≡◌, ◌≤◌, ℕ, ℤ, pos, List, Option, None, Some, Bool, true, false, decimal}
 use Rattle.fab_names.specs.Fabrics.{SpellsFabric}
 use Rattle.fab_names.specs.Places.{Position, IsPosition}
 use Rattle.fab_names.specs.declared.fabric.Fabric.{Fabric}
-use Rattle.fab_inventory.specs.declared.holder.HolderKind.{HolderKind}
-use Rattle.fab_inventory.specs.declared.holder.HolderKind.TheVariants.{Host, Array}
 
 -- a column that may be null: null shows none
 abbrev pub ShowsOption : {C X : Type 0} → (C → X → Type 0) → Option C → Option X → Type 0
@@ -41,8 +39,3 @@ abbrev pub ShowsAt : Option (List ℕ) → Option ℤ → Option ℤ → Option 
 ShowsAt None None None None = Unit {0}
 ShowsAt (Some fabric) (Some domain) (Some slot) (Some at) = ShowsPlace fabric domain slot at
 ShowsAt _ _ _ _ = ⊥
-
--- the word of a kind of holder
-abbrev pub kind_text : HolderKind → List ℕ
-kind_text Host = codes "host"
-kind_text Array = codes "array"

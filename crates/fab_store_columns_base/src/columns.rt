@@ -11,6 +11,7 @@ ghost use Rattle.fab_names.specs.declared.member.Member.{Member};
 ghost use Rattle.fab_names.specs.Addresses.{SpellsAddress, SpellsPrintedAddress};
 ghost use Rattle.fab_names.specs.Addresses as spelled;
 ghost use Rattle.fab_names.specs.declared.member.Member.TheVariants as member;
+ghost use Rattle.fab_inventory.specs.Words.{kind_text};
 ghost use Rattle.fab_inventory.specs.declared.holder.HolderKind.{HolderKind};
 ghost use Rattle.fab_store_columns_base.specs.Columns as spec;
 
@@ -155,22 +156,12 @@ pub fn read_at<A: Allocator>(
 
 /// The kind of holder in a text, `host` or `array`. It takes no memory.
 pub fn read_kind(text: &str) -> Option<HolderKind>
-    ensures { MatchOption result ((k : HolderKind) → ¬ (text.now ≡ spec.kind_text k)) (λ k. text.now ≡ spec.kind_text k) }
+    ensures { MatchOption result ((k : HolderKind) → ¬ (text.now ≡ kind_text k)) (λ k. text.now ≡ kind_text k) }
 {
     match text {
         "host" => Some(HolderKind::Host),
         "array" => Some(HolderKind::Array),
         _ => None,
-    }
-}
-
-/// The word of a kind of holder.
-pub fn kind_word(kind: HolderKind) -> &'static str
-    ensures { result.now ≡ spec.kind_text kind }
-{
-    match kind {
-        HolderKind::Host => "host",
-        HolderKind::Array => "array",
     }
 }
 

@@ -6,8 +6,8 @@ mod columns;
 mod limits;
 
 pub use columns::{
-    address_text, flag_column, kind_word, name_or_null, name_text, plain_text, print_member,
-    read_address, read_at, read_count, read_decimal, read_fabric, read_flag, read_kind, read_name,
+    address_text, flag_column, name_or_null, name_text, plain_text, print_member, read_address,
+    read_at, read_count, read_decimal, read_fabric, read_flag, read_kind, read_name,
     read_name_or_null,
 };
 pub use limits::MOST_NUMBER;

@@ -10,8 +10,9 @@ use Rattle.fab_store_rows.specs.Standing.{Stands}
 use Rattle.fab_store_rows.specs.declared.config_row.ConfigRow.{ConfigRow}
 use Rattle.fab_store_rows.specs.declared.config_row.ConfigRow.TheVariants as config
 use Rattle.fab_store_edits.specs.Led.{IsLed}
-use Rattle.fab_store_edits.specs.Tidy.{IsTidy}
-use Rattle.fab_store_edits.proofs.Differing.{led_back, tidy_of, one_led}
+use Rattle.fab_store_rows.specs.Tidy.{IsTidy}
+use Rattle.fab_store_edits.proofs.Differing.{led_back, one_led}
+use Rattle.fab_store_rows.proofs.Determined.{tidy_of}
 use Rattle.fab_store_drafts.specs.Back.{IsEarlier, IsOnlyEarlier}
 use Rattle.fab_store_drafts.specs.There.{MayCome, MayGo, HasSoundCounts, HasFewGroups, IsTouched, IsClearAt, IsSoundThere}
 use Rattle.fab_store_drafts.proofs.ZoningThere.{sound_zoning, item_comes, item_goes, counts}

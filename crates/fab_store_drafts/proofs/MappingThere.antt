@@ -23,9 +23,10 @@ use Rattle.fab_store_rows.specs.declared.config_row.StoragePart.TheVariants as p
 use Rattle.fab_store_edits.specs.Led.{IsLed}
 use Rattle.fab_store_edits.specs.Rows.{host_head, host_row, part_row}
 use Rattle.fab_store_drafts.specs.There.{HasSomeHost, HasFewHosts, HasFewLike, IsNameable, GroupMayCome, PartMayCome, GroupMayGo, PartMayGo, IsSoundThere}
-use Rattle.fab_reach_base.proofs.fab_lemmas.Sizes.{some_member}
+use Rattle.fab_reach_base.proofs.fab_lemmas.Sizes.{part_of_set, some_member}
 use Rattle.fab_store_drafts.proofs.IfThere.{at_some, some_at}
-use Rattle.fab_store_drafts.proofs.Sizes.{le_or, part_of_set, some_key, part_of_map}
+use Rattle.fab_store_edits.proofs.RowsInOrder.{le_or}
+use Rattle.fab_store_drafts.proofs.Sizes.{some_key, part_of_map}
 
 pub one : {X : Type 0} (a b : X) → ◌≡◌ {A = Option X} (Some a) (Some b) → a ≡ b
 one a b e = cc

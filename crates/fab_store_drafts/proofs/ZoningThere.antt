@@ -19,12 +19,12 @@ use Rattle.fab_store_rows.specs.declared.config_row.ZoningItem.{ZoningItem}
 use Rattle.fab_store_rows.specs.declared.config_row.ZoningItem.TheVariants as item
 use Rattle.fab_store_rows.specs.Standing.{HasItem}
 use Rattle.fab_store_edits.specs.Led.{IsLed}
-use Rattle.fab_store_edits.specs.Tidy.{HasNoEmptySet}
+use Rattle.fab_store_rows.specs.Tidy.{HasNoEmptySet}
 use Rattle.fab_store_edits.specs.Rows.{alias_row, zone_row, set_row, active_row}
 use Rattle.fab_store_drafts.specs.There.{IsListable, HasSoundCounts, ItemMayCome, ItemMayGo, IsSoundThere}
-use Rattle.fab_reach_base.proofs.fab_lemmas.Sizes.{some_member}
+use Rattle.fab_reach_base.proofs.fab_lemmas.Sizes.{part_of_set, some_member}
 use Rattle.fab_store_drafts.proofs.IfThere.{at_some, some_at}
-use Rattle.fab_store_drafts.proofs.Sizes.{le_or, part_of_set}
+use Rattle.fab_store_edits.proofs.RowsInOrder.{le_or}
 
 module _ {K : Type 0} {R : K → K → Ordering} (m : NamedSets R) where
   -- a set with an item is there

@@ -5,7 +5,7 @@ ghost use Rattle.fab_reach_base.specs.Soundness.{IsSoundAlone};
 ghost use Rattle.fab_store_rows.specs.Differences.{IsDifference};
 ghost use Rattle.fab_store_drafts.specs.Back.{IsEarlier, IsOnlyEarlier};
 ghost use Rattle.fab_store_drafts.specs.There.{IsSoundThere};
-ghost use Rattle.fab_store_edits.specs.Tidy.{IsTidy};
+ghost use Rattle.fab_store_rows.specs.Tidy.{IsTidy};
 
 use crate::soundness::is_sound_there;
 use crate::users::{Users, users_of};
@@ -38,7 +38,7 @@ impl<A: Allocator + Copy> Model for Draft<A> {
     ghost use Rattle.std.specs.Prelude.{◌≡◌, true};
     ghost use Rattle.fab_reach_base.specs.Records.{ConfigRows, config_code};
     ghost use Rattle.fab_store_drafts.specs.Users.{AreUsers};
-    ghost use Rattle.fab_store_edits.specs.Tidy.{IsTidy};
+    ghost use Rattle.fab_store_rows.specs.Tidy.{IsTidy};
 
     ghost Value = { ConfigRows };
 

@@ -4,7 +4,7 @@ ghost use Rattle.fab_reach_base.specs.Records.{ConfigRows};
 ghost use Rattle.fab_reach_base.specs.Soundness.{IsSoundAlone};
 ghost use Rattle.fab_store_rows.specs.Differences.{IsDifference};
 ghost use Rattle.fab_store_rows.specs.declared.config_row.ConfigRow.{ConfigRow};
-ghost use Rattle.fab_store_edits.specs.Tidy.{IsTidy};
+ghost use Rattle.fab_store_rows.specs.Tidy.{IsTidy};
 ghost use Rattle.fab_store_drafts.specs.There.{IsSoundThere};
 
 /// The configuration before a change is sound just where it is so at the rows that differ, if the one

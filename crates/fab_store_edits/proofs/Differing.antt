@@ -1,15 +1,14 @@
 -- Differences of configurations, as rows that go and rows that come.
 use Rattle.std.proofs.Common.{◌≡◌, inl, inr, List, subst}
 use Rattle.fab_reach_base.specs.Records.{ConfigRows}
-use Rattle.fab_reach_base.specs.Soundness.{HasSoundZonings}
 use Rattle.fab_store_rows.specs.declared.config_row.ConfigRow.{ConfigRow}
 use Rattle.fab_store_rows.specs.Differences.{IsDifference}
 use Rattle.fab_store_rows.specs.Standing.{Stands}
 use Rattle.fab_store_rows.specs.Telling.{HaveSameRows}
 use Rattle.fab_store_rows.proofs.RowLists.{stands_decided}
 use Rattle.fab_store_edits.specs.Led.{IsLed}
-use Rattle.fab_store_edits.specs.Tidy.{IsTidy}
-use Rattle.fab_store_edits.proofs.Tidy.{one_tidy}
+use Rattle.fab_store_rows.specs.Tidy.{IsTidy}
+use Rattle.fab_store_rows.proofs.Determined.{one_tidy}
 
 -- from the configuration after back to the one before: what was added goes, what was taken comes
 pub led_back : (d c : ConfigRows) (taken added : List ConfigRow) → IsDifference d c taken added → IsLed c d added taken
@@ -37,13 +36,6 @@ difference_of_rows a b c taken added same x = record {
     sound = λ r h. let s = x.adds.sound r h in record { there = s.there; not_there = λ k. s.not_there ((same r).0 k) };
     complete = λ r p. x.adds.complete r (record { there = p.there; not_there = λ k. p.not_there ((same r).1 k) });
   };
-}
-
--- a configuration with sound zonings is tidy
-pub tidy_of : (c : ConfigRows) → HasSoundZonings c → IsTidy c
-tidy_of c s = record {
-  fabrics = s.fabrics;
-  no_empty = λ f. let d = (s.sound f).definitions in record { aliases = λ n t at. (d.listed_aliases n t at).0; zones = λ n t at. (d.listed_zones n t at).0; sets = λ n t at. (d.listed_sets n t at).0 };
 }
 
 -- ---- two that are led to from one

@@ -27,7 +27,7 @@ use Rattle.fab_store_rows.specs.declared.config_row.ConfigRow.{ConfigRow}
 use Rattle.fab_store_rows.specs.declared.config_row.ConfigRow.TheVariants as config
 use Rattle.fab_store_rows.specs.Standing.{HasItem, IsGroup, IsPart, IsHostHead, IsStorageHead, HasPart, Stands}
 use Rattle.fab_store_edits.specs.Rows.{host_head, host_row, part_row}
-use Rattle.fab_store_edits.specs.Tidy.{HasNoEmptySet, IsTidy}
+use Rattle.fab_store_rows.specs.Tidy.{HasNoEmptySet, IsTidy}
 use Rattle.fab_store_edits.specs.Inner.Edits.{NoRow, IsPut, IsTaken}
 use Rattle.fab_store_edits.specs.Inner.MappingEdits.{BecomesAt, HostsBecome, StorageBecomes, PutsHost, TakesHost, hosts_headed, PutsIn, TakesOf, storage_headed}
 use Rattle.fab_store_edits.proofs.PartMoves.{item_gone, item_kept, item_left}

@@ -12,7 +12,7 @@ use Rattle.fab_reach_base.specs.fab_zoning.Zonings.{FabricZoning, NamedSets}
 use Rattle.fab_store_rows.specs.declared.config_row.ZoningItem.{ZoningItem}
 use Rattle.fab_store_rows.specs.declared.config_row.ZoningItem.TheVariants.{Alias, Zone, Set}
 use Rattle.fab_store_rows.specs.Standing.{HasItem}
-use Rattle.fab_store_edits.specs.Tidy.{HasNoEmpty, HasNoEmptySet}
+use Rattle.fab_store_rows.specs.Tidy.{HasNoEmpty, HasNoEmptySet}
 use Rattle.fab_store_edits.specs.Inner.ZoningEdits.{PutsItem, TakesItem}
 
 -- ---- no set is empty, said in two ways

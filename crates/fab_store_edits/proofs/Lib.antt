@@ -11,4 +11,3 @@ pub mod ManyRows
 mod Holding
 pub mod Differing
 mod Outcomes
-pub mod Tidy

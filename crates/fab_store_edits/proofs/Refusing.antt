@@ -16,7 +16,7 @@ use Rattle.fab_store_rows.specs.declared.config_row.ConfigRow.{ConfigRow}
 use Rattle.fab_store_rows.specs.declared.config_row.ConfigRow.TheVariants as config
 use Rattle.fab_store_rows.specs.Standing.{IsGroup, IsHostHead, IsStorageHead, Stands}
 use Rattle.fab_store_edits.specs.Rows.{host_head, host_row, part_row, name_row, flag_row, storage_row}
-use Rattle.fab_store_edits.specs.Tidy.{HasNoEmptySet, IsTidy}
+use Rattle.fab_store_rows.specs.Tidy.{HasNoEmptySet, IsTidy}
 use Rattle.fab_store_edits.specs.Inner.Edits.{Is, IsPut, HasRival, IsOrphan, IsRefused}
 use Rattle.fab_store_edits.specs.Inner.MappingEdits.{IsTakenUnit}
 use Rattle.fab_store_edits.specs.Inner.ZoningEdits.{with_zoning}

@@ -5,7 +5,7 @@ use Rattle.std.specs.Ordering.{eq_by_cmp, is_eq}
 use Rattle.std.specs.Cmp.{Equal-is, tied_itself}
 use Rattle.fab_store_rows.specs.declared.config_row.ConfigRow.{ConfigRow}
 use Rattle.fab_store_rows.specs.RowOrder.{row_cmp}
-use Rattle.fab_store_rows.proofs.OrderOfRows.{row_total, row_exact}
+use Rattle.fab_store_rows.specs.OrderOfRows.{row_total, row_exact}
 
 pub row_or : (a b : ConfigRow) → (a ≡ b) ⊎ ¬ (a ≡ b)
 row_or a b = by (eq_by_cmp row_cmp a b) refl

@@ -11,7 +11,7 @@ use Rattle.fab_store_rows.specs.declared.config_row.SettingRow.TheVariants.{Defa
 use Rattle.fab_store_rows.specs.declared.config_row.ConfigRow.{ConfigRow}
 use Rattle.fab_store_rows.specs.declared.config_row.ConfigRow.TheVariants as config
 use Rattle.fab_store_rows.specs.RowOrder.{row_order}
-use Rattle.fab_store_rows.proofs.OrderOfRows.{row_total, same_order}
+use Rattle.fab_store_rows.specs.OrderOfRows.{row_total, same_order}
 
 -- one number is at most another, or more
 pub le_or : (m n : ℕ) → (m ≤ n) ⊎ (n < m)

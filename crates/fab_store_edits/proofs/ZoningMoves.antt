@@ -20,7 +20,7 @@ use Rattle.fab_store_rows.specs.declared.config_row.ConfigRow.{ConfigRow}
 use Rattle.fab_store_rows.specs.declared.config_row.ConfigRow.TheVariants as config
 use Rattle.fab_store_rows.specs.Standing.{HasItem, IsGroup, IsPart, Stands}
 use Rattle.fab_store_edits.specs.Rows.{active_row}
-use Rattle.fab_store_edits.specs.Tidy.{HasNoEmptySet, IsTidy}
+use Rattle.fab_store_rows.specs.Tidy.{HasNoEmptySet, IsTidy}
 use Rattle.fab_store_edits.specs.Inner.Edits.{NoRow, IsPut, IsTaken}
 use Rattle.fab_store_edits.specs.Inner.ZoningEdits.{with_zoning, PutsItem, TakesItem}
 use Rattle.fab_store_edits.proofs.RowTests.{row_or}

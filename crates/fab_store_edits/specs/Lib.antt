@@ -1,4 +1,3 @@
 pub mod Rows
-pub mod Tidy
 pub mod Led
 pub mod Inner

@@ -7,7 +7,7 @@ ghost use Rattle.fab_reach_base.specs.fab_mapping_base.Groups.{HostGroupRows, St
 ghost use Rattle.fab_store_rows.specs.declared.config_row.ConfigRow.TheVariants as config_row;
 ghost use Rattle.fab_store_rows.specs.declared.config_row.GroupRow.TheVariants as group;
 ghost use Rattle.fab_store_rows.specs.Standing.{IsGroup, Stands};
-ghost use Rattle.fab_store_edits.specs.Tidy.{IsTidy};
+ghost use Rattle.fab_store_rows.specs.Tidy.{IsTidy};
 ghost use Rattle.fab_store_edits.specs.Inner.Edits as edits;
 ghost use Rattle.fab_store_edits.specs.Inner.Edits.{IsTaken, IsHeld};
 

@@ -4,7 +4,7 @@ ghost use Rattle.fab_store_rows.specs.declared.config_row.ConfigRow.TheVariants 
 ghost use Rattle.fab_store_rows.specs.Gathering.{Has};
 ghost use Rattle.fab_store_rows.specs.Standing.{Stands};
 ghost use Rattle.fab_store_edits.specs.Rows.{host_row, part_row};
-ghost use Rattle.fab_store_edits.specs.Tidy.{IsTidy};
+ghost use Rattle.fab_store_rows.specs.Tidy.{IsTidy};
 ghost use Rattle.fab_store_edits.specs.Inner.Edits as edits;
 ghost use Rattle.fab_store_edits.specs.Inner.Edits.{NoRow, IsPut, IsTaken, IsOrphan, IsRefused};
 

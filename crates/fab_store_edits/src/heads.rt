@@ -7,7 +7,7 @@ ghost use Rattle.fab_store_rows.specs.declared.config_row.GroupRow.TheVariants a
 ghost use Rattle.fab_store_rows.specs.Gathering.{Has};
 ghost use Rattle.fab_store_rows.specs.Standing.{IsGroup};
 ghost use Rattle.fab_store_edits.specs.Rows.{host_head, storage_row};
-ghost use Rattle.fab_store_edits.specs.Tidy.{IsTidy};
+ghost use Rattle.fab_store_rows.specs.Tidy.{IsTidy};
 ghost use Rattle.fab_store_edits.specs.Inner.Edits.{IsPut, HasRival};
 
 use crate::mapping_rows::{put_host_head, put_storage_head};

@@ -8,7 +8,7 @@ ghost use Rattle.fab_store_rows.specs.Gathering.{Has};
 ghost use Rattle.fab_store_rows.specs.RowOrder.{row_order};
 ghost use Rattle.fab_store_rows.specs.Standing.{Stands};
 ghost use Rattle.fab_store_rows.specs.declared.config_row.ConfigRow.{ConfigRow as Row};
-ghost use Rattle.fab_store_edits.specs.Tidy.{IsTidy};
+ghost use Rattle.fab_store_rows.specs.Tidy.{IsTidy};
 ghost use Rattle.fab_store_edits.specs.Inner.Edits as edits;
 ghost use Rattle.fab_store_edits.specs.Inner.Edits.{AreTaken, ArePut, Of, StopsAt, HoldsOne};
 ghost use Rattle.fab_store_edits.specs.Inner.Leads.{CanLead, TakesIf, PutsIf, RefusesIf, HoldsIf};

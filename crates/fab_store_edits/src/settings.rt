@@ -4,8 +4,8 @@ ghost use Rattle.fab_store_rows.specs.declared.config_row.ConfigRow.TheVariants 
 ghost use Rattle.fab_store_rows.specs.declared.config_row.SettingRow.TheVariants as setting;
 ghost use Rattle.fab_store_rows.specs.Gathering.{Has};
 ghost use Rattle.fab_store_rows.specs.Standing.{IsSetting};
-ghost use Rattle.fab_reach_base.specs.fab_zoning.Zonings.{permits, flag_of};
-ghost use Rattle.fab_store_edits.specs.Tidy.{IsTidy};
+ghost use Rattle.fab_reach_base.specs.fab_zoning.Zonings.{permits};
+ghost use Rattle.fab_store_rows.specs.Tidy.{IsTidy};
 ghost use Rattle.fab_store_edits.specs.Rows.{name_row, flag_row};
 ghost use Rattle.fab_store_edits.specs.Inner.Edits.{Is, IsPut, HasRival};
 
@@ -15,27 +15,6 @@ use fab_reach_base::zoning::DefaultFlag;
 use fab_store_rows::{ConfigRow, SettingRow};
 use std::alloc::Allocator;
 use std::collections::BTreeSet;
-
-/// The flag that permits, or the one that denies.
-fn flag_from(permit: bool) -> DefaultFlag
-    ensures { result ≡ flag_of permit }
-{
-    if permit {
-        DefaultFlag::Permit
-    } else {
-        DefaultFlag::Deny
-    }
-}
-
-/// Whether the flag permits (as in `fab_store_rows`).
-fn is_permit(flag: DefaultFlag) -> bool
-    ensures { result ≡ permits flag }
-{
-    match flag {
-        DefaultFlag::Permit => true,
-        DefaultFlag::Deny => false,
-    }
-}
 
 /// Sets the name of a fabric's active set, or none.
 fn set_name<A: Allocator + Copy>(config: &mut Config<A>, fabric: Fabric, name: Option<Name>)
@@ -54,8 +33,8 @@ fn set_flag<A: Allocator + Copy>(config: &mut Config<A>, fabric: Fabric, permit:
     ensures tidy { IsTidy config.old → IsTidy config.new }
 {
     match fabric {
-        Fabric::A => config.a.set_default(flag_from(permit)),
-        Fabric::B => config.b.set_default(flag_from(permit)),
+        Fabric::A => config.a.set_default(DefaultFlag::permitting(permit)),
+        Fabric::B => config.b.set_default(DefaultFlag::permitting(permit)),
     }
 }
 
@@ -91,7 +70,7 @@ fn put_flag<A: Allocator + Copy>(
     ensures refused { result ≡ false → HasRival (Has going.now) config.old (config_row.Setting (setting.DefaultZone fabric permit)) }
     ensures tidy { IsTidy config.old → IsTidy config.new }
 {
-    let now = SettingRow::DefaultZone(fabric, is_permit(config.zoning(fabric).flag()));
+    let now = SettingRow::DefaultZone(fabric, config.zoning(fabric).flag().permits());
     if !going.contains(&ConfigRow::Setting(now)) {
         return false;
     }

@@ -1,7 +1,7 @@
 //! Rows of a fabric's zoning put in and taken out.
 ghost use Rattle.std.specs.Prelude.{◌≡◌, OnOk};
 ghost use Rattle.fab_store_rows.specs.declared.config_row.ConfigRow.TheVariants.{Zoning as ZoningOf, Active};
-ghost use Rattle.fab_store_edits.specs.Tidy.{HasNoEmptySet, IsTidy};
+ghost use Rattle.fab_store_rows.specs.Tidy.{HasNoEmptySet, IsTidy};
 ghost use Rattle.fab_store_edits.specs.Inner.Edits.{NoRow, IsPut, IsTaken};
 ghost use Rattle.fab_store_edits.specs.Inner.ZoningEdits.{PutsItem, TakesItem};
 

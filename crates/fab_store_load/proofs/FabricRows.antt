@@ -24,7 +24,8 @@ use Rattle.fab_reach_base.specs.fab_zoning.Soundness.{AreListings, AreSoundDefin
 use Rattle.fab_reach_base.proofs.fab_zoning_rows.RowSets.{row_total, row_exact, contains_seen}
 use Rattle.fab_reach_base.specs.Records.{ConfigRows, zoning_at}
 use Rattle.fab_store_rows.specs.declared.config_row.ConfigRow.{ConfigRow}
-use Rattle.fab_store_load.specs.Rows.{AreRows, IsIn, HasItems, HasRepeat, StandsIn}
+use Rattle.fab_reach_base.specs.fab_zoning.Edits.{IsIn, HasItems}
+use Rattle.fab_store_load.specs.Rows.{AreRows, HasRepeat, StandsIn}
 use Rattle.fab_store_load.specs.Kinds.{Named, active_set_row, default_zone_row, alias_row, zone_row, set_row, active_row}
 use Rattle.fab_store_load.specs.Configs.{AreConfigRows, SettingSays, IsPair, ZoningSays, HasNoEmpty, HasNoEmptySet, HasSoundDefinitions, HasSoundActive}
 use Rattle.fab_store_load.proofs.Saying.{rows_same}

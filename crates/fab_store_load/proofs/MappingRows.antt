@@ -30,7 +30,8 @@ use Rattle.fab_store_rows.specs.declared.config_row.StoragePart.TheVariants as p
 use Rattle.fab_store_rows.specs.Standing.{IsHostHead, IsStorageHead, HasPart}
 use Rattle.fab_store_load.specs.declared.kinds.Head.{Head}
 use Rattle.fab_store_load.specs.declared.groups.Parts.{Parts}
-use Rattle.fab_store_load.specs.Rows.{AreRows, IsIn, IsAt, at, HasItems, StandsIn}
+use Rattle.fab_reach_base.specs.fab_zoning.Edits.{IsIn, HasItems}
+use Rattle.fab_store_load.specs.Rows.{AreRows, IsAt, at, StandsIn}
 use Rattle.fab_store_load.specs.Kinds.{Named, host_group_row, storage_group_row, host_row, served_row, target_row, unit_row}
 use Rattle.fab_store_load.specs.Assembled.{set_at, map_at, host_group_at, storage_group_at}
 use Rattle.fab_store_load.specs.Parts.{HaveParts, are_parts_known}

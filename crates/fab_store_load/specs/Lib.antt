@@ -4,6 +4,7 @@ pub mod Kinds
 pub mod KindLaws
 pub mod Values
 pub mod Faults
+pub mod TableNames
 pub mod Inventories
 pub mod Configs
 pub mod Assembled

@@ -7,7 +7,8 @@ use Rattle.fab_names.specs.Orders.{name_cmp}
 use Rattle.fab_store_rows.specs.declared.config_row.ConfigRow.{ConfigRow}
 use Rattle.fab_store_load.specs.declared.groups.Parts.{Parts}
 use Rattle.fab_store_load.specs.declared.kinds.Head.{Head}
-use Rattle.fab_store_load.specs.Rows.{AreRows, IsIn, IsAt, HasItems, HasEntries}
+use Rattle.fab_reach_base.specs.fab_zoning.Edits.{IsIn, HasItems}
+use Rattle.fab_store_load.specs.Rows.{AreRows, IsAt, HasEntries}
 use Rattle.fab_store_load.specs.Kinds.{served_row, target_row, unit_row}
 
 -- the parts are just those that the rows say, and nothing stands under a name without a part

@@ -1,10 +1,8 @@
 -- Rows, and the entries that they say.
-use Rattle.std.specs.Prelude.{◌≡◌, ◌≢◌, List, Contains, Option, Some, true}
+use Rattle.std.specs.Prelude.{◌≡◌, ◌≢◌, List, Contains, Option, Some}
 use Rattle.std.specs.declared.cmp.Ordering.{Ordering}
 use Rattle.std.specs.Option.{option_and_then}
 use Rattle.std.specs.BTreeMap.{BTreeMap, get}
-use Rattle.std.specs.BTreeSet.{BTreeSet, contains}
-use Rattle.fab_reach_base.specs.fab_lemmas.MapsOfSets.{tree_has}
 
 -- the rows say all that has P, and nothing else: an entry's row is among them exactly where the entry
 -- has P
@@ -19,16 +17,6 @@ HasRepeat {R} {K} {X} row_of rows = (k : K) × (v : X) × (w : X) × Contains ro
 -- the value stands at the key
 abbrev pub StandsIn : {K X : Type 0} → (K → Option X) → K × X → Type 0
 StandsIn f e = f e.0 ≡ Some e.1
-
--- ---- sets under names
-
--- the set of the name has the item
-abbrev pub IsIn : {Q X : Type 0} → (Q → Q → Ordering) → (X → X → Ordering) → BTreeMap Q (BTreeSet X) → Q × X → Type 0
-IsIn O R t e = tree_has O R t e.0 e.1 ≡ true
-
--- no set is empty
-abbrev pub HasItems : {Q X : Type 0} → (Q → Q → Ordering) → (X → X → Ordering) → BTreeMap Q (BTreeSet X) → Type 0
-HasItems {Q} {X} O R t = (q : Q) (s : BTreeSet X) → get O t q ≡ Some s → (x : X) × (contains R s x ≡ true)
 
 -- ---- maps under names
 

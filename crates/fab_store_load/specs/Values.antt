@@ -1,13 +1,10 @@
--- Values that `==` finds equal are equal, and fabrics that are ordered as equal: laws of the traits of
--- keys and values.
+-- Values that `==` finds equal are equal: laws of the trait of values.
 use Rattle.std.proofs.Common.{◌≡◌, ℕ, List, Option, None, Some, Bool, true, false, ◌&&◌, refl, sym, ap, nat_eq}
 use Rattle.std.proofs.lemmas.Map.Views.{exact_unsigned_eq}
 use mathlib.Core.Bool.{true≢false, beq}
-use Rattle.std.specs.declared.cmp.Ordering.TheVariants.{Equal}
 use Rattle.std.specs.Option.{option_eq}
 use Rattle.std.specs.Cmp.Lexicographic.{bytes_decides, pointwise}
 use Rattle.fab_names.specs.Places.{Position}
-use Rattle.fab_names.specs.Orders.{fabric_cmp}
 use Rattle.fab_names.specs.declared.fabric.Fabric.{Fabric}
 use Rattle.fab_names.specs.declared.fabric.Fabric.TheVariants.{A, B}
 use Rattle.fab_names.specs.contracts.fabric.FabricPartialEq.TheImpl as fabrics
@@ -31,12 +28,6 @@ left false b e = e
 right : (a b : Bool) → (a && b) ≡ true → b ≡ true
 right true b e = e
 right false b e = absurd (true≢false (sym e))
-
-pub exact_fabric : (f g : Fabric) → fabric_cmp f g ≡ Equal → f ≡ g
-exact_fabric A A e = refl
-exact_fabric A B e = absurd cc
-exact_fabric B A e = absurd cc
-exact_fabric B B e = refl
 
 same_kind : (j k : HolderKind) → kinds.ghosts.eq j k ≡ true → j ≡ k
 same_kind Host Host e = refl

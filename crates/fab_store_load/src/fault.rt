@@ -1,5 +1,6 @@
 //! Why nothing is made of rows.
 ghost use Rattle.std.specs.Prelude.{◌≡◌};
+ghost use Rattle.fab_store_load.specs.TableNames.{table_name};
 ghost use Rattle.fab_store_load.specs.declared.fault.LoadFault.TheVariants.{Memory};
 
 use std::alloc::AllocError;
@@ -33,6 +34,29 @@ pub enum Table {
     Undo,
     /// The paths.
     Paths,
+}
+
+impl Table {
+    /// The name of the table.
+    pub fn name(self) -> &'static str
+        ensures { result.now ≡ table_name self }
+    {
+        match self {
+            Table::Meta => "meta",
+            Table::Ports => "ports",
+            Table::Addresses => "addresses",
+            Table::Holders => "holders",
+            Table::Volumes => "volumes",
+            Table::Zoning => "zoning",
+            Table::Active => "active",
+            Table::Groups => "groups",
+            Table::GroupParts => "group_parts",
+            Table::Plans => "plans",
+            Table::Approvals => "approvals",
+            Table::Undo => "undo",
+            Table::Paths => "paths",
+        }
+    }
 }
 
 /// Why nothing is made of rows.

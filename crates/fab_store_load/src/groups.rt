@@ -9,10 +9,10 @@ ghost use Rattle.fab_reach_base.specs.fab_lemmas.MapsOfSets.{seen_set};
 ghost use Rattle.fab_store_load.specs.declared.kinds.Head.{Head};
 ghost use Rattle.fab_store_load.specs.Assembled.{set_at, map_at, host_group_at, storage_group_at};
 
-use crate::kind::Key;
 use crate::kinds::Head;
 use fab_names::{Name, Wwn};
 use fab_reach_base::mapping::{HostGroup, StorageGroup};
+use fab_reach_base::zoning::Key;
 use std::alloc::{AllocError, Allocator};
 use std::collections::{BTreeMap, BTreeSet};
 

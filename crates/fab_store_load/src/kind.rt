@@ -1,11 +1,5 @@
 //! Rows of one kind among rows of several.
 ghost use Rattle.std.specs.Prelude.{◌≡◌, Option, Some, true};
-ghost use Rattle.std.specs.declared.cmp.Ordering.TheVariants.{Equal};
-
-/// A key that its order tells apart.
-pub trait Key: Ord + Copy + Drop {
-    ghost exact: { (x y : Self) → Self.Ord.cmp x y ≡ Equal → x ≡ y };
-}
 
 /// A value that `==` tells apart.
 pub trait Value: Eq + Copy + Drop {

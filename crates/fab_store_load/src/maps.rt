@@ -6,7 +6,8 @@ ghost use Rattle.fab_store_load.specs.Rows.{StandsIn, AreRows, HasRepeat};
 ghost use Rattle.fab_reach_base.specs.fab_zoning.Edits.{Puts};
 ghost use Rattle.fab_store_load.specs.Others.{HasOther};
 
-use crate::kind::{Key, Kind, Value};
+use crate::kind::{Kind, Value};
+use fab_reach_base::zoning::Key;
 use std::alloc::{AllocError, Allocator};
 use std::collections::BTreeMap;
 

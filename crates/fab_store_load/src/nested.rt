@@ -5,8 +5,9 @@ ghost use Rattle.fab_store_load.specs.Rows.{AreRows, IsAt, at, HasEntries, HasRe
 ghost use Rattle.fab_reach_base.specs.fab_zoning.Edits.{Puts};
 ghost use Rattle.fab_store_load.specs.Others.{HasOther};
 
-use crate::kind::{Key, Kind, Value};
+use crate::kind::{Kind, Value};
 use crate::maps::put;
+use fab_reach_base::zoning::Key;
 use std::alloc::{AllocError, Allocator};
 use std::collections::BTreeMap;
 

@@ -31,17 +31,6 @@ pub struct Settings {
     pub b: Setting,
 }
 
-/// The flag that permits or denies.
-fn flag_of(permit: bool) -> DefaultFlag
-    ensures { result ≡ zonings.flag_of permit }
-{
-    if permit {
-        DefaultFlag::Permit
-    } else {
-        DefaultFlag::Deny
-    }
-}
-
 /// The setting of a fabric, where both its rows are there.
 fn setting_of<A: Allocator + Copy>(
     names: &BTreeMap<Fabric, Option<Name>, A>,
@@ -58,7 +47,7 @@ fn setting_of<A: Allocator + Copy>(
     };
     Some(Setting {
         active: *active,
-        flag: flag_of(*permit),
+        flag: DefaultFlag::permitting(*permit),
     })
 }
 

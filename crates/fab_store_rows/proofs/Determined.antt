@@ -18,10 +18,9 @@ use Rattle.fab_reach_base.specs.fab_inventory.Inventories.{InventoryRows}
 use Rattle.fab_reach_base.specs.fab_lemmas.MapsOfSets.{has, in_set}
 use Rattle.fab_reach_base.specs.fab_lemmas.Lists.{IsListOf}
 use Rattle.fab_reach_base.proofs.fab_lemmas.SeenSets.{tie_decides}
-use Rattle.fab_reach_base.specs.fab_zoning.Soundness.{AreListings, IsSound}
 use Rattle.fab_reach_base.specs.fab_zoning.Zonings.{NamedSets, permits, flag_of, flag_of-permits}
 use Rattle.fab_reach_base.proofs.fab_zoning_rows.RowSets.{row_total as active_total, row_exact as active_exact}
-use Rattle.fab_reach_base.proofs.fab_zoning.Keeping.{set_at}
+use Rattle.fab_reach_base.proofs.fab_lemmas.Sizes.{some_member}
 use Rattle.fab_reach_base.specs.fab_mapping_base.Groups.{HostGroupRows, StorageGroupRows}
 use Rattle.fab_reach_base.specs.Records.{ConfigRows, zoning_at}
 use Rattle.fab_reach_base.specs.Soundness.{HasSoundZonings}
@@ -38,7 +37,8 @@ use Rattle.fab_store_rows.specs.declared.inventory_row.PortEntry.{PortEntry}
 use Rattle.fab_store_rows.specs.RowOrder.{row_order}
 use Rattle.fab_store_rows.specs.Standing.{entry_of, address_at}
 use Rattle.fab_store_rows.specs.Telling.{HaveSameRows, KnowSameRows}
-use Rattle.fab_store_rows.proofs.OrderOfRows.{row_total, row_exact, same_order}
+use Rattle.fab_store_rows.specs.Tidy.{HasNoEmpty, HasNoEmptySet, IsTidy}
+use Rattle.fab_store_rows.specs.OrderOfRows.{row_total, row_exact, same_order}
 use Rattle.fab_reach_base.proofs.Same.{same_some}
 
 -- ---- tests and answers that are one
@@ -62,20 +62,27 @@ turned c d same r = ((same r).1, (same r).0)
 -- ---- sets under names
 
 module _ {K : Type 0} {R : K → K → Ordering} (o : IsTotalOrder R) (exact : set.IsAntisymmetric R) where
+  one_of : (m : NamedSets R) (n : List ℕ) → map.contains_key m n ≡ true → HasNoEmpty m → (k : K) × (has m n k ≡ true)
+  one_of m n there some = by (map.get m n) refl there
+    where
+      by : (a : Option (set.FinSet R)) → map.get m n ≡ a → is_some a ≡ true → (k : K) × (has m n k ≡ true)
+      by None is h = absurd (true≢false (sym h))
+      by (Some s) is h = let w = some_member o exact s (some n s is) in (w.0, ap (λ (a : Option (set.FinSet R)). in_set a w.0) is ∙ w.1)
+
   -- no set is empty, so those with the same items are one
-  same_sets : (m n : NamedSets R) → AreListings m → AreListings n → ((q : List ℕ) (x : K) → has m q x ≡ has n q x) → m ≡ n
+  same_sets : (m n : NamedSets R) → HasNoEmpty m → HasNoEmpty n → ((q : List ℕ) (x : K) → has m q x ≡ has n q x) → m ≡ n
   same_sets m n some_m some_n alike = map.same_map name_total name_exact m n (λ q. by q (map.get m q) (map.get n q) refl refl)
     where
       by : (q : List ℕ) (a b : Option (set.FinSet R)) → map.get m q ≡ a → map.get n q ≡ b → a ≡ b
       by q None None e f = refl
-      by q (Some s) None e f = let x = set_at o exact m q (some_is (map.get m q) s e) some_m in absurd (true≢false (sym x.1 ∙ alike q x.0 ∙ ap (λ a. in_set a x.0) f))
-      by q None (Some t) e f = let x = set_at o exact n q (some_is (map.get n q) t f) some_n in absurd (true≢false (sym x.1 ∙ sym (alike q x.0) ∙ ap (λ a. in_set a x.0) e))
+      by q (Some s) None e f = let x = one_of m q (some_is (map.get m q) s e) some_m in absurd (true≢false (sym x.1 ∙ alike q x.0 ∙ ap (λ a. in_set a x.0) f))
+      by q None (Some t) e f = let x = one_of n q (some_is (map.get n q) t f) some_n in absurd (true≢false (sym x.1 ∙ sym (alike q x.0) ∙ ap (λ a. in_set a x.0) e))
       by q (Some s) (Some t) e f = ap Some (set.same_set o exact s t (λ x. ap (λ a. in_set a x) (sym e) ∙ alike q x ∙ ap (λ a. in_set a x) f))
 
 -- ---- a fabric
 
 module _ (c d : ConfigRows) (same : HaveSameRows c d) where
-  same_zoning : (f : Fabric) → (zoning_at c f).fabric ≡ f → (zoning_at d f).fabric ≡ f → IsSound (zoning_at c f) → IsSound (zoning_at d f) → zoning_at c f ≡ zoning_at d f
+  same_zoning : (f : Fabric) → (zoning_at c f).fabric ≡ f → (zoning_at d f).fabric ≡ f → HasNoEmptySet (zoning_at c f) → HasNoEmptySet (zoning_at d f) → zoning_at c f ≡ zoning_at d f
   same_zoning f own_c own_d sound_c sound_d = λ i. record {
     fabric = (own_c ∙ sym own_d) i;
     aliases = aliases i;
@@ -87,15 +94,15 @@ module _ (c d : ConfigRows) (same : HaveSameRows c d) where
   }
     where
       aliases : (zoning_at c f).aliases ≡ (zoning_at d f).aliases
-      aliases = same_sets member_total member_exact _ _ sound_c.definitions.listed_aliases sound_d.definitions.listed_aliases
+      aliases = same_sets member_total member_exact _ _ sound_c.aliases sound_d.aliases
           (λ n m. let row = config.Zoning (record { fabric = f; item = Alias n m }) in same_bool _ _ (same row).0 (same row).1)
 
       zones : (zoning_at c f).zones ≡ (zoning_at d f).zones
-      zones = same_sets member_total member_exact _ _ sound_c.definitions.listed_zones sound_d.definitions.listed_zones
+      zones = same_sets member_total member_exact _ _ sound_c.zones sound_d.zones
           (λ n m. let row = config.Zoning (record { fabric = f; item = Zone n m }) in same_bool _ _ (same row).0 (same row).1)
 
       sets : (zoning_at c f).sets ≡ (zoning_at d f).sets
-      sets = same_sets name_total name_exact _ _ sound_c.definitions.listed_sets sound_d.definitions.listed_sets
+      sets = same_sets name_total name_exact _ _ sound_c.sets sound_d.sets
           (λ n z. let row = config.Zoning (record { fabric = f; item = Set n z }) in same_bool _ _ (same row).0 (same row).1)
 
       rows : (zoning_at c f).rows ≡ (zoning_at d f).rows
@@ -135,13 +142,23 @@ module _ (c d : ConfigRows) (same : HaveSameRows c d) where
       (λ x k. let v = (same (config.Part (parts.Storage n (part.Unit u x)))).0 (g, at, k) in subst (λ (y : StorageGroupRows). map.get y.units u ≡ Some x) (same_some v.1 w.1) v.2)) in
       w.1 ∙ (λ i. Some (record { tenant = w.2.tenant i; array = w.2.array i; host_groups = host_groups i; targets = targets i; units = units i; exposed = w.2.exposed i }))
 
-pub one_config : (c d : ConfigRows) → HasSoundZonings c → HasSoundZonings d → HaveSameRows c d → c ≡ d
-one_config c d sound_c sound_d same =
-    let a = same_zoning c d same A (sound_c.fabrics A) (sound_d.fabrics A) (sound_c.sound A) (sound_d.sound A) in
-    let b = same_zoning c d same B (sound_c.fabrics B) (sound_d.fabrics B) (sound_c.sound B) (sound_d.sound B) in
+pub one_tidy : (c d : ConfigRows) → IsTidy c → IsTidy d → HaveSameRows c d → c ≡ d
+one_tidy c d sound_c sound_d same =
+    let a = same_zoning c d same A (sound_c.fabrics A) (sound_d.fabrics A) (sound_c.no_empty A) (sound_d.no_empty A) in
+    let b = same_zoning c d same B (sound_c.fabrics B) (sound_d.fabrics B) (sound_c.no_empty B) (sound_d.no_empty B) in
     let host_groups = map.same_map name_total name_exact c.mapping.host_groups d.mapping.host_groups (λ n. same_option _ _ (host_group_there c d same n) (host_group_there d c (turned c d same) n)) in
     let groups = map.same_map name_total name_exact c.mapping.groups d.mapping.groups (λ n. same_option _ _ (group_there c d same n) (group_there d c (turned c d same) n)) in
     λ i. record { a = a i; b = b i; mapping = record { host_groups = host_groups i; groups = groups i } }
+
+-- a configuration with sound zonings is tidy
+pub tidy_of : (c : ConfigRows) → HasSoundZonings c → IsTidy c
+tidy_of c s = record {
+  fabrics = s.fabrics;
+  no_empty = λ f. let d = (s.sound f).definitions in record { aliases = λ n t at. (d.listed_aliases n t at).0; zones = λ n t at. (d.listed_zones n t at).0; sets = λ n t at. (d.listed_sets n t at).0 };
+}
+
+pub one_config : (c d : ConfigRows) → HasSoundZonings c → HasSoundZonings d → HaveSameRows c d → c ≡ d
+one_config c d sound_c sound_d same = one_tidy c d (tidy_of c sound_c) (tidy_of d sound_d) same
 
 -- ---- inventories
 

@@ -1,4 +1,3 @@
-pub mod OrderOfRows
 pub mod SetsTold
 pub mod RowsFound
 pub mod RowsGathered

@@ -1,33 +1,22 @@
 -- The order of keys is total, and tells keys apart.
-use Rattle.std.proofs.Common.{◌≡◌, sym, ap, ◌∙◌}
-use Rattle.std.specs.declared.cmp.Ordering.{Ordering}
+use Rattle.std.proofs.Common.{◌≡◌, ap}
 use Rattle.std.specs.declared.cmp.Ordering.TheVariants.{Equal}
 use Rattle.std.specs.Cmp.{IsTotalOrder}
 use Rattle.std.specs.FinSet as set
-use Rattle.fab_reach_base.specs.fab_names.declared.fabric.Fabric.{Fabric}
-use Rattle.fab_reach_base.specs.fab_names.contracts.fabric.FabricOrd.TheImpl as fabric
-use Rattle.fab_reach_base.specs.fab_names.Orders.{name_cmp}
-use Rattle.fab_reach_base.proofs.fab_names.InOrder.{fabrics}
-use Rattle.fab_reach_base.proofs.fab_names.OrderLaws.{name_exact}
+use Rattle.fab_reach_base.specs.fab_names.Orders.{fabric_cmp, name_cmp}
+use Rattle.fab_reach_base.proofs.fab_names.OrderLaws.{both_equal, fabric_exact, name_exact}
 use Rattle.fab_store_rows.specs.declared.row_key.RowKey.{RowKey}
 use Rattle.fab_store_rows.specs.declared.row_key.RowKey.TheVariants.{Alias, Zone, ZoneSet, ActiveSet, DefaultZone, HostGroup, StorageGroup}
 use Rattle.fab_store_rows.specs.contracts.row_key.RowKeyOrd.TheImpl.Laws.{total-law}
 use Rattle.fab_store_rows.specs.Keys.{key_cmp}
-use Rattle.fab_store_rows.proofs.OrderOfRows.{both, fabric_exact}
 
 pub key_total : IsTotalOrder key_cmp
 key_total = total-law
 
-abbrev fabrics_cmp : Fabric → Fabric → Ordering
-fabrics_cmp = fabric.ghosts.cmp
-
-fabric_same : (f g : Fabric) → fabrics_cmp f g ≡ Equal → f ≡ g
-fabric_same f g e = fabric_exact f g (sym (fabrics f g) ∙ e)
-
 exact : (a b : RowKey) → key_cmp a b ≡ Equal → a ≡ b
 exact (Alias f m) (Alias g n) e =
-    let w = both (fabrics_cmp f g) (name_cmp m n) e in
-    λ i. Alias (fabric_same f g w.0 i) (name_exact m n w.1 i)
+    let w = both_equal (fabric_cmp f g) (name_cmp m n) e in
+    λ i. Alias (fabric_exact f g w.0 i) (name_exact m n w.1 i)
 exact (Alias f m) (Zone g n) e = absurd cc
 exact (Alias f m) (ZoneSet g n) e = absurd cc
 exact (Alias f m) (ActiveSet g) e = absurd cc
@@ -36,8 +25,8 @@ exact (Alias f m) (HostGroup n) e = absurd cc
 exact (Alias f m) (StorageGroup n) e = absurd cc
 exact (Zone f m) (Alias g n) e = absurd cc
 exact (Zone f m) (Zone g n) e =
-    let w = both (fabrics_cmp f g) (name_cmp m n) e in
-    λ i. Zone (fabric_same f g w.0 i) (name_exact m n w.1 i)
+    let w = both_equal (fabric_cmp f g) (name_cmp m n) e in
+    λ i. Zone (fabric_exact f g w.0 i) (name_exact m n w.1 i)
 exact (Zone f m) (ZoneSet g n) e = absurd cc
 exact (Zone f m) (ActiveSet g) e = absurd cc
 exact (Zone f m) (DefaultZone g) e = absurd cc
@@ -46,8 +35,8 @@ exact (Zone f m) (StorageGroup n) e = absurd cc
 exact (ZoneSet f m) (Alias g n) e = absurd cc
 exact (ZoneSet f m) (Zone g n) e = absurd cc
 exact (ZoneSet f m) (ZoneSet g n) e =
-    let w = both (fabrics_cmp f g) (name_cmp m n) e in
-    λ i. ZoneSet (fabric_same f g w.0 i) (name_exact m n w.1 i)
+    let w = both_equal (fabric_cmp f g) (name_cmp m n) e in
+    λ i. ZoneSet (fabric_exact f g w.0 i) (name_exact m n w.1 i)
 exact (ZoneSet f m) (ActiveSet g) e = absurd cc
 exact (ZoneSet f m) (DefaultZone g) e = absurd cc
 exact (ZoneSet f m) (HostGroup n) e = absurd cc
@@ -55,7 +44,7 @@ exact (ZoneSet f m) (StorageGroup n) e = absurd cc
 exact (ActiveSet f) (Alias g n) e = absurd cc
 exact (ActiveSet f) (Zone g n) e = absurd cc
 exact (ActiveSet f) (ZoneSet g n) e = absurd cc
-exact (ActiveSet f) (ActiveSet g) e = ap ActiveSet (fabric_same f g e)
+exact (ActiveSet f) (ActiveSet g) e = ap ActiveSet (fabric_exact f g e)
 exact (ActiveSet f) (DefaultZone g) e = absurd cc
 exact (ActiveSet f) (HostGroup n) e = absurd cc
 exact (ActiveSet f) (StorageGroup n) e = absurd cc
@@ -63,7 +52,7 @@ exact (DefaultZone f) (Alias g n) e = absurd cc
 exact (DefaultZone f) (Zone g n) e = absurd cc
 exact (DefaultZone f) (ZoneSet g n) e = absurd cc
 exact (DefaultZone f) (ActiveSet g) e = absurd cc
-exact (DefaultZone f) (DefaultZone g) e = ap DefaultZone (fabric_same f g e)
+exact (DefaultZone f) (DefaultZone g) e = ap DefaultZone (fabric_exact f g e)
 exact (DefaultZone f) (HostGroup n) e = absurd cc
 exact (DefaultZone f) (StorageGroup n) e = absurd cc
 exact (HostGroup m) (Alias g n) e = absurd cc

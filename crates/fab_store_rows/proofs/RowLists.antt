@@ -33,7 +33,7 @@ use Rattle.fab_store_rows.specs.RowOrder.{row_cmp, row_order}
 use Rattle.fab_store_rows.specs.Standing.{IsSetting, HasItem, IsHostHead, IsStorageHead, HasPart, Stands}
 use Rattle.fab_store_rows.specs.Differences.{StandsOnlyIn}
 use Rattle.fab_store_rows.specs.Gathering.{Has, Lacking}
-use Rattle.fab_store_rows.proofs.OrderOfRows.{row_total, row_exact, same_order}
+use Rattle.fab_store_rows.specs.OrderOfRows.{row_total, row_exact, same_order}
 
 -- ---- a set as a list
 

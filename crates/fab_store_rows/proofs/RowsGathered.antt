@@ -9,7 +9,7 @@ use Rattle.fab_reach_base.proofs.Sets.{adds_insert}
 use Rattle.fab_store_rows.specs.declared.config_row.ConfigRow.{ConfigRow}
 use Rattle.fab_store_rows.specs.RowOrder.{row_cmp}
 use Rattle.fab_store_rows.specs.Gathering.{Has, Misses, Lacking}
-use Rattle.fab_store_rows.proofs.OrderOfRows.{row_total, row_exact}
+use Rattle.fab_store_rows.specs.OrderOfRows.{row_total, row_exact}
 
 -- two steps, one after the other
 pub adds_both : {Y : Type 0} (P Q f g h : Y → Type 0) → Adds P f g → Adds Q g h → Adds (λ y. P y ⊎ Q y) f h

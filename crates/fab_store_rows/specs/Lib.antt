@@ -1,8 +1,11 @@
 pub mod RowOrder
+pub mod OrderOfRows
 pub mod Standing
 pub mod Differences
 pub mod Telling
+pub mod Tidy
 pub mod Gathering
 pub mod PlanEntries
+pub mod PlanStates
 pub mod Keys
 pub mod AtKeys

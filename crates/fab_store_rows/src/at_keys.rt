@@ -15,7 +15,6 @@ use crate::gathering::{
 };
 use crate::listing::{RowDifference, listed};
 use crate::makers::{Aliases, Maker, ZoneSets, Zones};
-use crate::standing::is_permit;
 use crate::{ConfigRow, RowKey, SettingRow};
 use fab_reach_base::Config;
 use fab_reach_base::mapping::Mapping;
@@ -64,7 +63,7 @@ fn add_default<A: Allocator + Copy>(
 ) -> Result<(), AllocError>
     ensures { OnOk result (Adds (Lacking (option_copied without.entry) (IsDefaultRow fabric zoning.now)) (Has rows.old) (Has rows.new)) }
 {
-    let default = SettingRow::DefaultZone(fabric, is_permit(zoning.flag()));
+    let default = SettingRow::DefaultZone(fabric, zoning.flag().permits());
     add_row(rows, without, ConfigRow::Setting(default))
 }
 

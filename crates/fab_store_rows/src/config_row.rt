@@ -1,6 +1,7 @@
 //! Rows of a configuration, one type a table.
 
 use fab_reach_base::names::{Fabric, Member, Name, Wwn};
+use fab_reach_base::zoning::Key;
 
 /// A setting of a fabric's zoning: what the zone server has beside its zones (FC-GS, active zone
 /// set and default zone).
@@ -110,4 +111,10 @@ pub enum ConfigRow {
     Active(ActiveRow),
     Group(GroupRow),
     Part(PartRow),
+}
+
+impl Key for ConfigRow {
+    ghost use Rattle.fab_store_rows.specs.OrderOfRows.{row_exact};
+
+    ghost exact = { row_exact };
 }

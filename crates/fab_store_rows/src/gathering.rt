@@ -7,7 +7,7 @@ ghost use Rattle.fab_store_rows.specs.Gathering.{Has, Misses, Lacking, HasHostGr
 ghost use Rattle.fab_store_rows.specs.declared.config_row.ConfigRow.{ConfigRow};
 
 use crate::makers::{ActiveZones, Aliases, HostGroups, Hosts, Maker, Targets, ZoneSets, Zones};
-use crate::standing::{has_row, is_permit};
+use crate::standing::has_row;
 use crate::{ConfigRow, GroupRow, HostGroupRow, PartRow, SettingRow, StorageGroupRow, StoragePart};
 use fab_reach_base::Config;
 use fab_reach_base::mapping::{HostGroup, Mapping, StorageGroup};
@@ -143,7 +143,7 @@ fn add_settings<A: Allocator + Copy>(
 {
     let active = SettingRow::ActiveSet(fabric, zoning.active());
     add_row(rows, without, ConfigRow::Setting(active))?;
-    let default = SettingRow::DefaultZone(fabric, is_permit(zoning.flag()));
+    let default = SettingRow::DefaultZone(fabric, zoning.flag().permits());
     add_row(rows, without, ConfigRow::Setting(default))?;
     Ok(())
 }

@@ -1,4 +1,6 @@
 //! Rows of the tables of plans, approvals, changes to undo, and paths.
+ghost use Rattle.std.specs.Prelude.{◌≡◌};
+ghost use Rattle.fab_store_rows.specs.PlanStates.{state_text};
 
 use crate::ConfigRow;
 use fab_reach_base::Path;
@@ -17,6 +19,20 @@ pub enum PlanState {
     RolledBack,
     /// It was withdrawn before it was activated.
     Withdrawn,
+}
+
+impl PlanState {
+    /// The word for the state: `staged`, `active`, `rolled-back` or `withdrawn`.
+    pub fn word(self) -> &'static str
+        ensures { result.now ≡ state_text self }
+    {
+        match self {
+            PlanState::Staged => "staged",
+            PlanState::Active => "active",
+            PlanState::RolledBack => "rolled-back",
+            PlanState::Withdrawn => "withdrawn",
+        }
+    }
 }
 
 /// A plan. A contract sees it as a `PlanEntry`.

@@ -13,18 +13,8 @@ use crate::{
 use fab_reach_base::Config;
 use fab_reach_base::mapping::{Mapping, StorageGroup};
 use fab_reach_base::names::{Member, Name};
-use fab_reach_base::zoning::{DefaultFlag, Zoning};
+use fab_reach_base::zoning::Zoning;
 use std::alloc::Allocator;
-
-/// Whether the flag permits.
-pub fn is_permit(flag: DefaultFlag) -> bool
-    ensures { result ≡ permits flag }
-{
-    match flag {
-        DefaultFlag::Permit => true,
-        DefaultFlag::Deny => false,
-    }
-}
 
 /// Whether the fabric has this setting.
 fn is_setting<A: Allocator + Copy>(config: &Config<A>, row: &SettingRow) -> bool
@@ -33,7 +23,7 @@ fn is_setting<A: Allocator + Copy>(config: &Config<A>, row: &SettingRow) -> bool
     match row {
         SettingRow::ActiveSet(fabric, name) => config.zoning(*fabric).active() == *name,
         SettingRow::DefaultZone(fabric, permit) => {
-            is_permit(config.zoning(*fabric).flag()) == *permit
+            config.zoning(*fabric).flag().permits() == *permit
         }
     }
 }

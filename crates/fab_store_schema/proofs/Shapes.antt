@@ -7,12 +7,13 @@ use Rattle.sqlite_schema.specs.declared.schema.Column.{Column}
 use Rattle.sqlite_value.specs.Keys.{plain}
 use Rattle.fab_store_load.specs.declared.fault.Table.{Table}
 use Rattle.fab_store_load.specs.declared.fault.Table.TheVariants as table
-use Rattle.fab_store_schema.specs.Schema.{text_column, number_columns, columns_named, tree_of, name_of, places_of, index_name, key_index}
+use Rattle.fab_store_load.specs.TableNames.{table_name}
+use Rattle.fab_store_schema.specs.Schema.{text_column, number_columns, columns_named, tree_of, places_of, index_name, key_index}
 
 one_digit : decimal 1 ≡ codes "1"
 one_digit = decimal_digit 1 (omega arith)
 
-index_named : (t : Table) → codes "sqlite_autoindex_" ++ (name_of t ++ (codes "_" ++ codes "1")) ≡ index_name t
+index_named : (t : Table) → codes "sqlite_autoindex_" ++ (table_name t ++ (codes "_" ++ codes "1")) ≡ index_name t
 index_named table.Meta = refl
 index_named table.Ports = refl
 index_named table.Holders = refl
@@ -29,7 +30,7 @@ index_named table.Addresses = refl
 
 pub index_made : (t : Table) → key_index t ≡ record { name = index_name t; tree = tree_of t + 1; table = tree_of t; columns = places_of t; order = plain; is_unique = true }
 index_made t = ap (λ n. record { name = n; tree = tree_of t + 1; table = tree_of t; columns = places_of t; order = plain; is_unique = true })
-    (ap (λ d. codes "sqlite_autoindex_" ++ (name_of t ++ (codes "_" ++ d))) one_digit ∙ index_named t)
+    (ap (λ d. codes "sqlite_autoindex_" ++ (table_name t ++ (codes "_" ++ d))) one_digit ∙ index_named t)
 
 -- texts, and then a number
 pub with_number : (found rest : List Column) (texts : List (Bor (List ℕ))) (index : ℕ) (number : Option (List ℕ)) → found ≡ map (λ t. text_column t.now) (take index texts) ++ rest → length texts ≤ index → rest ≡ number_columns number → found ≡ columns_named (map (λ t. t.now) texts) number

@@ -10,6 +10,7 @@ use Rattle.sqlite_schema.specs.declared.schema.Column.{Column}
 use Rattle.sqlite_schema.specs.declared.schema.Index.{Index}
 use Rattle.sqlite_value.specs.Keys.{plain}
 use Rattle.sqlite_catalog.specs.Listing.{automatic}
+use Rattle.fab_store_load.specs.TableNames.{table_name}
 use Rattle.fab_store_load.specs.declared.fault.Table.{Table}
 use Rattle.fab_store_load.specs.declared.fault.Table.TheVariants as table
 
@@ -81,21 +82,6 @@ tree_of table.Undo = 20
 tree_of table.Paths = 22
 tree_of table.Addresses = 24
 
-abbrev pub name_of : Table → List ℕ
-name_of table.Meta = codes "meta"
-name_of table.Ports = codes "ports"
-name_of table.Holders = codes "holders"
-name_of table.Volumes = codes "volumes"
-name_of table.Zoning = codes "zoning"
-name_of table.Active = codes "active"
-name_of table.Groups = codes "groups"
-name_of table.GroupParts = codes "group_parts"
-name_of table.Plans = codes "plans"
-name_of table.Approvals = codes "approvals"
-name_of table.Undo = codes "undo"
-name_of table.Paths = codes "paths"
-name_of table.Addresses = codes "addresses"
-
 abbrev pub columns_of : Table → List Column
 columns_of table.Meta = columns_named (codes "key" ∷ codes "value" ∷ []) None
 columns_of table.Ports = column_of (codes "wwpn") Text true ∷ column_of (codes "wwnn") Text true ∷ column_of (codes "fabric") Text false ∷ column_of (codes "domain") Integer false ∷ column_of (codes "slot") Integer false ∷ column_of (codes "holder") Text false ∷ []
@@ -128,7 +114,7 @@ places_of table.Paths = 1 ∷ 2 ∷ 3 ∷ 4 ∷ 5 ∷ 6 ∷ []
 places_of table.Addresses = 1 ∷ []
 
 abbrev pub made_of : Table → SqlTable
-made_of t = strict_table (tree_of t) (name_of t) (columns_of t) (places_of t)
+made_of t = strict_table (tree_of t) (table_name t) (columns_of t) (places_of t)
 
 -- the name of the index of its key
 abbrev pub index_name : Table → List ℕ

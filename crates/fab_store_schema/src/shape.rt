@@ -51,26 +51,6 @@ fn tree_of(table: Table) -> u32
     }
 }
 
-fn name_of(table: Table) -> &'static str
-    ensures { result.now ≡ spec.name_of table }
-{
-    match table {
-        Table::Meta => "meta",
-        Table::Ports => "ports",
-        Table::Holders => "holders",
-        Table::Volumes => "volumes",
-        Table::Zoning => "zoning",
-        Table::Active => "active",
-        Table::Groups => "groups",
-        Table::GroupParts => "group_parts",
-        Table::Plans => "plans",
-        Table::Approvals => "approvals",
-        Table::Undo => "undo",
-        Table::Paths => "paths",
-        Table::Addresses => "addresses",
-    }
-}
-
 fn index_name(table: Table) -> &'static str
     ensures { result.now ≡ spec.index_name table }
 {
@@ -257,7 +237,7 @@ fn is_table(found: &SqlTable, table: Table) -> bool
     ensures { IsTrue result → found.now ≡ spec.made_of table }
 {
     let places = places_of(table);
-    is_named(&found.name, name_of(table))
+    is_named(&found.name, table.name())
         && found.tree == tree_of(table)
         && are_columns_of(found.columns.as_slice(), table)
         && are_places(&found.primary, places)

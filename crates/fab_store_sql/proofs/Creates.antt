@@ -18,7 +18,8 @@ use Rattle.sqlite_rules.proofs.ListLemmas.{all_has}
 use Rattle.sqlite_rules.proofs.ProbeLemmas.{mapped_has}
 use Rattle.fab_store_load.specs.declared.fault.Table.{Table}
 use Rattle.fab_store_load.specs.declared.fault.Table.TheVariants as table
-use Rattle.fab_store_schema.specs.Schema.{all_tables, place_of, tree_of, name_of, columns_of, places_of, strict_table, made_of}
+use Rattle.fab_store_load.specs.TableNames.{table_name}
+use Rattle.fab_store_schema.specs.Schema.{all_tables, place_of, tree_of, columns_of, places_of, strict_table, made_of}
 use Rattle.fab_store_schema.specs.Statements.{create_text}
 use Rattle.fab_store_sql.specs.NewDesk.{schema_first, HasFirst, IsOneMore, HasMade}
 
@@ -31,7 +32,7 @@ same_value e = cc
 
 -- the table as its text defines it
 abbrev defined : Table → SqlTable
-defined t = strict_table 0 (name_of t) (columns_of t) (places_of t)
+defined t = strict_table 0 (table_name t) (columns_of t) (places_of t)
 
 creates_is : (t : Table) → (command_of (understood (schema_first (place_of t)) (create_text t)) ≡ CreateTable) × IsPlain (understood (schema_first (place_of t)) (create_text t)) × (statement_of (create_text t) (understood (schema_first (place_of t)) (create_text t)) ≡ create_text t)
 unfolding understood everything

@@ -5,7 +5,7 @@ use Rattle.std.specs.List.Sorted.{IsStrictlySortedBy}
 use Rattle.std.specs.BTreeSet.{BTreeSet, IsOrdered}
 use Rattle.fab_world.specs.fab_store_rows.declared.config_row.ConfigRow.{ConfigRow}
 use Rattle.fab_world.specs.fab_store_rows.RowOrder.{row_cmp, row_order}
-use Rattle.fab_world.proofs.fab_store_rows.OrderOfRows.{same_order}
+use Rattle.fab_world.specs.fab_store_rows.OrderOfRows.{same_order}
 use Rattle.fab_store_world.specs.PlanRows.{IsInOrder}
 
 no_rows : IsStrictlySortedBy row_order []

@@ -3,7 +3,7 @@ use Rattle.std.proofs.Common.{ℕ, List, Bool}
 use Rattle.std.specs.Cmp.{IsTotalOrder, bool_cmp_total, nat_cmp_total, then_total, on_total}
 use Rattle.fab_reach_base.proofs.fab_names.OrderLaws.{name_total}
 use Rattle.fab_world.specs.fab_store_rows.declared.config_row.ConfigRow.{ConfigRow}
-use Rattle.fab_world.proofs.fab_store_rows.OrderOfRows.{row_total}
+use Rattle.fab_world.specs.fab_store_rows.OrderOfRows.{row_total}
 use Rattle.fab_store_world.specs.Keys.{ApprovalKey, approval_cmp, UndoKey, undo_cmp}
 
 pub approval_total : IsTotalOrder approval_cmp

@@ -4,9 +4,9 @@ use Rattle.std.specs.declared.cmp.Ordering.{Ordering}
 use Rattle.std.specs.Cmp.{IsTotalOrder}
 use Rattle.std.specs.FinSet as set
 use Rattle.fab_reach_base.specs.fab_names.Orders.{name_cmp}
-use Rattle.fab_reach_base.proofs.fab_names.OrderLaws.{name_exact}
+use Rattle.fab_reach_base.proofs.fab_names.OrderLaws.{both_equal, name_exact}
 use Rattle.fab_reach_base.specs.Orders.{path_cmp}
-use Rattle.fab_reach_base.proofs.PathOrder.{both_equal, path_exact}
+use Rattle.fab_reach_base.specs.PathOrder.{path_exact}
 use Rattle.fab_world.specs.fab_store_rows.declared.record_row.PathRow.{PathRow}
 use Rattle.fab_world.specs.fab_store_rows.contracts.record_row.PathRowOrd.TheImpl.Laws.{total-law}
 use Rattle.fab_store_world.specs.Paths.{path_row_cmp, path_row_order}

@@ -19,7 +19,7 @@ use Rattle.fab_reach_base.specs.Orders as paths
 use Rattle.fab_reach_base.specs.Reach.{IsInitiatorOf, Reaches}
 use Rattle.fab_reach_base.specs.Records.{Records}
 use Rattle.fab_reach_base.proofs.Adding.{adds_as, adds_none, from_none}
-use Rattle.fab_reach_base.proofs.PathOrder.{path_total, path_exact}
+use Rattle.fab_reach_base.specs.PathOrder.{path_total, path_exact}
 use Rattle.fab_reach_base.proofs.Same.{same_some}
 use Rattle.fab_reach_base.proofs.Sets.{adds_insert, none_in}
 use Rattle.fab_world.specs.fab_store_rows.declared.record_row.PathRow.{PathRow}

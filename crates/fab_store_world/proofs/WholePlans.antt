@@ -15,7 +15,7 @@ use Rattle.fab_reach_base.proofs.fab_names.OrderLaws.{name_total}
 use Rattle.fab_world.specs.fab_store_load.Rows.{HasRepeat}
 use Rattle.fab_world.proofs.fab_store_load.GroupRows.{found_in_map}
 use Rattle.fab_world.specs.fab_store_rows.RowOrder.{row_cmp}
-use Rattle.fab_world.proofs.fab_store_rows.OrderOfRows.{row_total, row_exact}
+use Rattle.fab_world.specs.fab_store_rows.OrderOfRows.{row_total, row_exact}
 use Rattle.fab_world.specs.fab_store_rows.declared.config_row.ConfigRow.{ConfigRow}
 use Rattle.fab_world.specs.fab_store_rows.declared.record_row.PlanState.{PlanState}
 use Rattle.fab_world.specs.fab_store_rows.declared.record_row.PlanState.TheVariants as state

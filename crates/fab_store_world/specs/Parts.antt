@@ -16,7 +16,8 @@ use Rattle.fab_world.specs.fab_store_rows.PlanEntries.{PlanEntry}
 use Rattle.fab_world.specs.fab_store_rows.declared.record_row.ApprovalRow.{ApprovalRow}
 use Rattle.fab_world.specs.fab_store_rows.declared.record_row.UndoRow.{UndoRow}
 use Rattle.fab_world.specs.fab_store_rows.RowOrder.{row_cmp}
-use Rattle.fab_world.specs.fab_store_load.Rows.{AreRows, IsAt, IsIn}
+use Rattle.fab_reach_base.specs.fab_zoning.Edits.{IsIn}
+use Rattle.fab_world.specs.fab_store_load.Rows.{AreRows, IsAt}
 use Rattle.fab_world.specs.fab_store_load.Assembled.{map_at}
 use Rattle.fab_store_world.specs.Kinds.{approval_row, taken_row, added_row}
 use Rattle.fab_world.specs.PlanRecords.{Standing, staged, active, rolled_back, withdrawn, PlanRecord}

@@ -1,30 +1,9 @@
 //! The text of a refusal, by which tests compare it.
 
-use fab_desk_base::{DeskFault, DeskLimit};
+use fab_desk_base::DeskFault;
 use fab_mapping::Gone;
 use fab_plans::{Item, Refusal};
-use fab_store_rows::PlanState;
 use std::alloc::AllocError;
-
-fn state_word(state: PlanState) -> &'static str {
-    match state {
-        PlanState::Staged => "staged",
-        PlanState::Active => "active",
-        PlanState::RolledBack => "rolled-back",
-        PlanState::Withdrawn => "withdrawn",
-    }
-}
-
-fn limit_word(limit: DeskLimit) -> &'static str {
-    match limit {
-        DeskLimit::Ports => "ports",
-        DeskLimit::Holders => "holders",
-        DeskLimit::Volumes => "volumes",
-        DeskLimit::Plans => "plans",
-        DeskLimit::Paths => "paths",
-        DeskLimit::Changes => "changes",
-    }
-}
 
 fn tell_item(text: &mut String, item: Item) -> Result<(), AllocError> {
     match item {
@@ -63,7 +42,7 @@ fn tell_step(text: &mut String, step: usize, refusal: Refusal) -> Result<(), All
 
 fn tell_plan_fault(text: &mut String, fault: DeskFault) -> Result<(), AllocError> {
     match fault {
-        DeskFault::WrongState(state) => write!(text, "wrong-state {}", state_word(state)),
+        DeskFault::WrongState(state) => write!(text, "wrong-state {}", state.word()),
         DeskFault::NotLast(name) => write!(text, "not-last {name}"),
         DeskFault::Gone(gone) => tell_gone(text, gone),
         DeskFault::OwnPlan => write!(text, "own-plan"),
@@ -85,7 +64,7 @@ pub fn tell_fault(text: &mut String, fault: DeskFault) -> Result<(), AllocError>
         DeskFault::Denied { rule, name, need } => write!(text, "denied {rule} {name} {need}"),
         DeskFault::NotFound => write!(text, "not-found"),
         DeskFault::Exists(name) => write!(text, "exists {name}"),
-        DeskFault::Limit(limit) => write!(text, "limit {}", limit_word(limit)),
+        DeskFault::Limit(limit) => write!(text, "limit {}", limit.word()),
         _ => tell_plan_fault(text, fault),
     }
 }

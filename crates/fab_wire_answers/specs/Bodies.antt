@@ -7,16 +7,18 @@ use Rattle.fab_reach_base.specs.fab_names.declared.fabric.Fabric.{Fabric}
 use Rattle.fab_reach_base.specs.fab_names.declared.member.Member.{Member}
 use Rattle.fab_reach_base.specs.fab_inventory.declared.holder.Volume.{Volume}
 use Rattle.fab_reach_base.specs.fab_zoning.declared.flag.DefaultFlag.{DefaultFlag}
-use Rattle.fab_store_columns_base.specs.Columns.{kind_text}
-use Rattle.fab_store_columns.specs.PlanLines.{state_text}
+use Rattle.fab_reach_base.specs.fab_inventory.Words.{kind_text}
+use Rattle.fab_store_rows.specs.PlanStates.{state_text}
 use Rattle.fab_store_rows.specs.declared.record_row.PlanState.TheVariants.{Withdrawn}
-use Rattle.fab_world.specs.fab_plans_base.Values.{flag_text}
+use Rattle.fab_reach_base.specs.fab_zoning.Zonings.{flag_text}
 use Rattle.fab_policy.specs.Needs.{need_word}
 use Rattle.fab_reach_base.specs.declared.path.Path.{Path}
+use Rattle.fab_world.specs.fab_plans.Words.{step_limit_word}
 use Rattle.fab_world.specs.fab_plans.declared.fault.Refusal as plan
 use Rattle.fab_world.specs.fab_plans.declared.fault.Refusal.TheVariants as refusal
 use Rattle.fab_wire_base.specs.declared.requests.Refusal as wire
 use Rattle.fab_wire_base.specs.declared.requests.Refusal.TheVariants as no
+use Rattle.fab_desk_base.specs.Words.{limit_word}
 use Rattle.fab_desk_base.specs.declared.fault.DeskFault.{DeskFault}
 use Rattle.fab_desk_base.specs.declared.fault.DeskFault.TheVariants as fault
 use Rattle.fab_desk_base.specs.declared.reply.ZoneMembers.{ZoneMembers}
@@ -37,7 +39,6 @@ use Rattle.fab_wire_answers.specs.declared.answers.Answer.TheVariants as answer
 use Rattle.fab_wire_answers.specs.Codes.{line_of}
 use Rattle.fab_wire_answers.specs.Faults.{code_of_wire, code_of_fault}
 use Rattle.fab_wire_answers.specs.Parts.{word, member_data, path_data, unit_data, approval_data, place_data, zone_data, item_data, gone_item}
-use Rattle.fab_wire_answers.specs.Words.{limit_word, step_limit_word}
 
 -- ---- refusals
 

@@ -1,6 +1,5 @@
 pub mod Codes
 pub mod Faults
-pub mod Words
 pub mod Parts
 pub mod Bodies
 pub mod Messages

@@ -12,4 +12,3 @@ pub mod parts;
 mod refusals;
 mod replies;
 mod showing;
-pub mod words;

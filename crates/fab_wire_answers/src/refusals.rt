@@ -10,7 +10,6 @@ ghost use Rattle.fab_wire_answers.specs.Bodies.{refusal_of, use_of, wire_body, s
 
 use crate::codes::{Code, code_of_wire};
 use crate::parts::{About, item_of};
-use crate::words::{limit_word, state_word, step_limit_word};
 use fab_desk_base::DeskFault;
 use fab_policy::Need;
 use fab_reach_base::mapping::Nexus;
@@ -44,7 +43,7 @@ pub fn put_fault<S: Sink>(sink: &mut S, why: DeskFault) -> Result<(), WriteFaile
         DeskFault::Exists(name) => put_about(sink, Code::Exists, Item::Name(name), None),
         DeskFault::InUse { item, by } => put_use(sink, item, by, None),
         DeskFault::Unknown(item) => put_about(sink, Code::UnknownName, item, None),
-        DeskFault::Limit(limit) => put_limit(sink, limit_word(limit), None),
+        DeskFault::Limit(limit) => put_limit(sink, limit.word(), None),
         DeskFault::WrongState(state) => put_wrong_state(sink, state),
         DeskFault::NotLast(last) => put_not_last(sink, last),
         DeskFault::Gone(gone) => put_about(sink, Code::Gone, item_of(gone), None),
@@ -74,7 +73,7 @@ fn put_step_refusal<S: Sink>(
         plans::Refusal::WrongArray(item) => put_about(sink, Code::WrongArray, item, at),
         plans::Refusal::UnitTaken { group, unit } => put_taken(sink, group, unit, step),
         plans::Refusal::InUse { name, by } => put_use(sink, Item::Name(name), by, at),
-        plans::Refusal::Limit(limit) => put_limit(sink, step_limit_word(limit), at),
+        plans::Refusal::Limit(limit) => put_limit(sink, limit.word(), at),
         plans::Refusal::Clash(nexus) => put_clash(sink, nexus, step),
     }
 }
@@ -213,7 +212,7 @@ fn put_wrong_state<S: Sink>(sink: &mut S, state: PlanState) -> Result<(), WriteF
     object! {
         "code": code.number(),
         "error": Text(code.name()),
-        "state": Text(state_word(state))
+        "state": Text(state.word())
     }
     .put(sink)
 }

@@ -7,7 +7,6 @@ ghost use Rattle.fab_wire_answers.specs.Bodies.{staged_body, withdrawn_body, app
 use crate::parts::Parts;
 use crate::refusals::put_fault;
 use crate::showing::put_shown;
-use crate::words::state_word;
 use fab_desk_base::Reply;
 use fab_reach_base::Path;
 use fab_reach_base::names::Name;
@@ -66,7 +65,7 @@ fn put_staged<S: Sink>(sink: &mut S, plan: Name, steps: u64) -> Result<(), Write
 fn put_withdrawn<S: Sink>(sink: &mut S, plan: Name) -> Result<(), WriteFailed>
     ensures { Takes S.took S.cut sink.old (json_text (withdrawn_body plan)) sink.new result }
 {
-    object! { "plan": plan, "state": Text(state_word(PlanState::Withdrawn)) }.put(sink)
+    object! { "plan": plan, "state": Text(PlanState::Withdrawn.word()) }.put(sink)
 }
 
 /// Puts the body of a plan that is approved.

@@ -5,13 +5,11 @@ ghost use Rattle.fab_wire_streams.specs.JsonText.{json_text};
 ghost use Rattle.fab_wire_answers.specs.Bodies.{joined_body, joint_body, paths_body, port_body, holder_body, volume_body, host_group_body, group_body, plan_body, members_body, set_body, active_body, shown_body};
 
 use crate::parts::{At, Part, Parts};
-use crate::words::{flag_word, state_word};
 use fab_desk_base::{Joint, Shown, ShownGroup, ShownHolder, ShownPlan, ZoneMembers};
 use fab_reach_base::Path;
 use fab_reach_base::inventory::Volume;
 use fab_reach_base::names::{Address, Fabric, Member, Name, Place, Wwn};
 use fab_reach_base::zoning::DefaultFlag;
-use fab_store_columns_base::kind_word;
 use fab_wire_streams::object;
 use fab_wire_streams::sink::Sink;
 use fab_wire_streams::streams::WriteFailed;
@@ -122,7 +120,7 @@ fn put_holder<A: Allocator + Copy, S: Sink>(
     ensures { Takes S.took S.cut sink.old (json_text (holder_body holder.now)) sink.new result }
 {
     object! {
-        "kind": Text(kind_word(holder.kind)),
+        "kind": Text(holder.kind.word()),
         "name": holder.name,
         "ports": Array(holder.ports.as_slice()),
         "tenant": holder.tenant
@@ -186,7 +184,7 @@ fn put_plan<A: Allocator + Copy, S: Sink>(
         "approvals": Parts(plan.approvals.as_slice()),
         "author": plan.author,
         "plan": plan.name,
-        "state": Text(state_word(plan.state)),
+        "state": Text(plan.state.word()),
         "text": Text(plan.text.as_str())
     }
     .put(sink)
@@ -231,7 +229,7 @@ fn put_active<A: Allocator + Copy, S: Sink>(
 {
     object! {
         "active": active,
-        "default": Text(flag_word(flag)),
+        "default": Text(flag.word()),
         "fabric": fabric,
         "zones": Parts(zones)
     }

@@ -15,7 +15,7 @@ use Rattle.fab_reach_base.specs.Orders.{path_order, IsListOf}
 use Rattle.fab_reach_base.specs.Records.{ConfigRows, zoning_at}
 use Rattle.fab_reach_base.specs.Soundness.{HasSoundZonings}
 use Rattle.fab_reach_base.specs.declared.path.Path.{Path}
-use Rattle.fab_reach_base.proofs.PathOrder.{path_total, path_exact}
+use Rattle.fab_reach_base.specs.PathOrder.{path_total, path_exact}
 
 -- the zonings of both fabrics
 pub both_sound : (c : ConfigRows) → ((zoning_at c A).fabric ≡ A) × zonings.IsSound (zoning_at c A) → ((zoning_at c B).fabric ≡ B) × zonings.IsSound (zoning_at c B) → HasSoundZonings c

@@ -1,5 +1,5 @@
 -- What contracts see of the zoning of one fabric.
-use Rattle.std.specs.Prelude.{ℕ, ◌≡◌, List, Option, None, Bool, true, false, refl}
+use Rattle.std.specs.Prelude.{ℕ, ◌≡◌, List, Option, None, Bool, true, false, codes, refl}
 use Rattle.std.specs.declared.cmp.Ordering.{Ordering}
 use Rattle.std.specs.Coded.{Coded, code_by, coded×, coded_bool, coded_option}
 use Rattle.std.specs.FinMap as map
@@ -30,6 +30,11 @@ pub record FabricZoning : Type 0 where
 -- the zoning of a new fabric: no alias, zone or set, nothing active, and deny
 abbrev pub new_zoning : Fabric → FabricZoning
 new_zoning fabric = record { fabric = fabric; aliases = map.empty; zones = map.empty; sets = map.empty; active = None; rows = set.empty; flag = Deny }
+
+-- the word of a flag
+abbrev pub flag_text : DefaultFlag → List ℕ
+flag_text Permit = codes "permit"
+flag_text Deny = codes "deny"
 
 -- a flag as a truth value
 abbrev pub permits : DefaultFlag → Bool

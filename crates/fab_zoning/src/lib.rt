@@ -19,4 +19,6 @@ pub use flag::DefaultFlag;
 pub use items::{put_in_tree, take_from};
 pub use key::Key;
 pub use why::Why;
-pub use zoning::{MOST_ALIASES, MOST_MEMBERS, MOST_SETS, MOST_ZONES, Zoning, ZoningParts};
+pub use zoning::{
+    MOST_ALIASES, MOST_MEMBERS, MOST_SETS, MOST_ZONES, Zoning, ZoningParts, is_logged_in_at,
+};

@@ -124,7 +124,7 @@ impl<A: Allocator + Copy> Model for Zoning<A> {
 }
 
 /// Whether the port is logged in at the fabric.
-fn is_logged_in_at(fabric: Fabric, port: &Port) -> bool
+pub fn is_logged_in_at(fabric: Fabric, port: &Port) -> bool
     ensures { IsTrue result ↔ IsLoggedInAt fabric port.now }
 {
     match port.at {

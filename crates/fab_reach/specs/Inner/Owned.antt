@@ -2,12 +2,12 @@
 use Rattle.std.specs.Prelude.{ℕ, List}
 use Rattle.std.specs.BTreeMap.{BTreeMap}
 use Rattle.std.specs.BTreeSet.{BTreeSet}
+use Rattle.fab_zoning.specs.Edits.{IsIn}
 use Rattle.fab_reach_base.specs.Orders.{Has, path_cmp}
 use Rattle.fab_reach_base.specs.declared.path.Path.{Path}
 use Rattle.fab_reach_books.specs.Inner.Sets.{HasPortIn}
 use Rattle.fab_reach_books.specs.Pairs.{Pair, pair_cmp}
 use Rattle.fab_reach_index.specs.Inner.Holding.{Held, HoldsIn}
-use Rattle.fab_reach_index.specs.Inner.Placing.{IsIn}
 
 -- the path is one of the pair, whose initiator is one of the ports
 abbrev pub IsOwnedAt : BTreeSet ℕ → Pair × BTreeSet Path → Path → Type 0

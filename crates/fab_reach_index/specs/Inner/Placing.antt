@@ -1,11 +1,8 @@
 -- What the loops that make an index add. No public contract names anything of this file.
 use Rattle.std.specs.Prelude.{ℕ, ◌≡◌, List, Some, true, IsTrue}
-use Rattle.std.specs.declared.cmp.Ordering.{Ordering}
-use Rattle.std.specs.BTreeMap.{BTreeMap}
 use Rattle.std.specs.BTreeSet.{BTreeSet, contains}
 use Rattle.std.specs.FinSet as set
 use Rattle.fab_inventory.specs.declared.port.Known.{Known}
-use Rattle.fab_lemmas.specs.MapsOfSets.{tree_has}
 use Rattle.fab_mapping_base.specs.Groups.{StorageGroupRows}
 use Rattle.fab_reach_base.specs.Orders.{Has}
 use Rattle.fab_reach_base.specs.declared.path.Path.{Path}
@@ -14,10 +11,6 @@ use Rattle.fab_reach_base.specs.Records.{Records}
 use Rattle.fab_reach_books.specs.Affected.{IsInZone}
 use Rattle.fab_reach_index.specs.Indexes.{Zone, zone_cmp}
 use Rattle.fab_reach_books.specs.Pairs.{Pair}
-
--- the set at the key has the item
-abbrev pub IsIn : {Q K : Type 0} → (Q → Q → Ordering) → (K → K → Ordering) → BTreeMap Q (BTreeSet K) → Q × K → Type 0
-IsIn O R t e = tree_has O R t e.0 e.1 ≡ true
 
 -- the holder of a port, and the port
 abbrev pub ByHolder : ℕ × Known → List ℕ × ℕ → Type 0

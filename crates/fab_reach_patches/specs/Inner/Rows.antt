@@ -3,11 +3,11 @@ use Rattle.std.specs.Prelude.{ℕ, ◌≡◌, ◌⊎◌, List, Contains}
 use Rattle.std.specs.Ordering.{nat_cmp}
 use Rattle.std.specs.BTreeMap.{BTreeMap}
 use Rattle.std.specs.BTreeSet.{BTreeSet}
+use Rattle.fab_zoning.specs.Edits.{IsIn}
 use Rattle.fab_reach_base.specs.Records.{Records}
 use Rattle.fab_reach_base.specs.declared.path.Path.{Path}
 use Rattle.fab_reach_books.specs.Pairs.{Pair}
 use Rattle.fab_reach_index.specs.Indexes.{Zone, zone_cmp, PortInZone}
-use Rattle.fab_reach_index.specs.Inner.Placing.{IsIn}
 
 -- the path is one of these, and the pair is its own
 abbrev pub IsRowIn : List Path → Pair → Path → Type 0

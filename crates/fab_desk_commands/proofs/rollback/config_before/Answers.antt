@@ -1,6 +1,7 @@
 use Rattle.std.proofs.Common.{◌≡◌, IfSome, sym, ap, ◌∙◌, subst}
-use Rattle.fab_store_edits.specs.Tidy.{IsTidy}
-use Rattle.fab_store_edits.proofs.Differing.{same_difference, tidy_of}
+use Rattle.fab_store_rows.specs.Tidy.{IsTidy}
+use Rattle.fab_store_edits.proofs.Differing.{same_difference}
+use Rattle.fab_store_rows.proofs.Determined.{tidy_of}
 use Rattle.fab_world.specs.Plans.{change_in}
 use Rattle.fab_world.specs.Worlds.{WorldRows}
 use Rattle.fab_desk_commands.proofs.EditedBack.{some_back, edited_back}

@@ -1,5 +1,6 @@
 use Rattle.std.proofs.Common.{sym}
-use Rattle.fab_store_drafts.proofs.fab_store_edits.Differing.{one_led, tidy_of}
+use Rattle.fab_store_rows.proofs.Determined.{tidy_of}
+use Rattle.fab_store_drafts.proofs.fab_store_edits.Differing.{one_led}
 use Rattle.fab_plans_rows.proofs.spare.led.Goals as goal
 
 pub returns-in-Ok-true : goal.returns-in-Ok-true

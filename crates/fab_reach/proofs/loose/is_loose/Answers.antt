@@ -8,6 +8,6 @@ use Rattle.fab_reach.proofs.loose.is_loose.Goals as goal
 pub returns : goal.returns
 returns g c =
     let is = sym c.in-Some.ensures.port in (
-      (λ h. unzoned_loose (seen c.args.view.now) c.requires c.args.fabric c.args.name.now c.in-Some.port is (c.is_at.ensures.0 c.if-not-is_at.false) (subst (λ (x : FabricZoning). (z : List ℕ) → ¬ Holds x.rows c.in-Some.port z) c.zoning.ensures (c.is_unzoned.ensures.0 h))),
+      (λ h. unzoned_loose (seen c.args.view.now) c.requires c.args.fabric c.args.name.now c.in-Some.port is (c.is_logged_in_at.ensures.0 c.if-not-is_logged_in_at.false) (subst (λ (x : FabricZoning). (z : List ℕ) → ¬ Holds x.rows c.in-Some.port z) c.zoning.ensures (c.is_unzoned.ensures.0 h))),
       λ l. c.is_unzoned.ensures.1 (subst (λ (x : FabricZoning). (z : List ℕ) → ¬ Holds x.rows c.in-Some.port z) (sym c.zoning.ensures) (loose_unzoned (seen c.args.view.now) c.requires c.args.fabric c.args.name.now c.in-Some.port is l)),
     )

@@ -1,4 +1,4 @@
-use Rattle.fab_reach_base.proofs.PathOrder.{in_order}
+use Rattle.fab_reach_base.specs.PathOrder.{in_order}
 use Rattle.fab_reach_base.proofs.laws.paths_in_order.Goals as goal
 
 pub returns : goal.returns

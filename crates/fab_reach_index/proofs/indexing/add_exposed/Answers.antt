@@ -1,7 +1,7 @@
 use Rattle.std.proofs.Common.{sym, ◌∙◌}
 use Rattle.std.specs.Ordering.{nat_cmp}
 use Rattle.fab_names.specs.Orders.{name_cmp}
-use Rattle.fab_reach_index.specs.Inner.Placing.{IsIn}
+use Rattle.fab_zoning.specs.Edits.{IsIn}
 use Rattle.fab_reach_index.proofs.Placed.{exposed_placed, hidden_placed}
 use Rattle.fab_reach_index.proofs.indexing.add_exposed.Goals as goal
 

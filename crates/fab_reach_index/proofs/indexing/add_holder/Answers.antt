@@ -1,6 +1,6 @@
 use Rattle.std.specs.Ordering.{nat_cmp}
 use Rattle.fab_names.specs.Orders.{name_cmp}
-use Rattle.fab_reach_index.specs.Inner.Placing.{IsIn}
+use Rattle.fab_zoning.specs.Edits.{IsIn}
 use Rattle.fab_reach_index.proofs.Placed.{holder_added}
 use Rattle.fab_reach_index.proofs.indexing.add_holder.Goals as goal
 

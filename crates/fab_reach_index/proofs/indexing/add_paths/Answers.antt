@@ -1,10 +1,10 @@
 use Rattle.std.proofs.Common.{◌≡◌, ◌∷◌, [], ◌++◌, ◌∙◌}
 use Rattle.fab_lemmas.proofs.Walks.{walked, walk_end}
+use Rattle.fab_zoning.specs.Edits.{IsIn}
 use Rattle.fab_reach_base.proofs.Adding.{before_more}
 use Rattle.fab_reach_books.specs.Pairs.{Pair, pair_cmp}
 use Rattle.fab_reach_base.specs.Orders.{path_cmp}
 use Rattle.fab_reach_base.specs.declared.path.Path.{Path}
-use Rattle.fab_reach_index.specs.Inner.Placing.{IsIn}
 use Rattle.fab_reach_index.proofs.Placed.{paths_placed}
 use Rattle.fab_reach_index.proofs.indexing.add_paths.Goals as goal
 

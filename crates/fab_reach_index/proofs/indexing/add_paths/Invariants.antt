@@ -1,10 +1,10 @@
 use Rattle.std.proofs.Common.{◌≡◌, List, ◌++◌}
+use Rattle.fab_zoning.specs.Edits.{IsIn}
 use Rattle.fab_reach_base.specs.Adding.{Adds}
 use Rattle.fab_reach_base.proofs.Adding.{Before}
 use Rattle.fab_reach_books.specs.Pairs.{Pair, pair_cmp}
 use Rattle.fab_reach_base.specs.Orders.{path_cmp}
 use Rattle.fab_reach_base.specs.declared.path.Path.{Path}
-use Rattle.fab_reach_index.specs.Inner.Placing.{IsIn}
 use Rattle.fab_reach_index.proofs.indexing.add_paths.Given as goal
 
 abbrev pub invariant-loop-path : goal.invariant-loop-path

@@ -3,10 +3,10 @@ use Rattle.std.specs.FinSet as set
 use Rattle.std.specs.Map.Iter.{deref}
 use Rattle.std.proofs.lemmas.Map.Iter.{rest_more, rest_all}
 use Rattle.fab_lemmas.proofs.Walks.{walked, walk_end}
+use Rattle.fab_zoning.specs.Edits.{IsIn}
 use Rattle.fab_reach_base.proofs.Adding.{before_none, before_more}
 use Rattle.std.specs.Ordering.{nat_cmp}
 use Rattle.fab_names.specs.Orders.{name_cmp}
-use Rattle.fab_reach_index.specs.Inner.Placing.{IsIn}
 use Rattle.fab_reach_index.proofs.Placed.{targets_placed}
 use Rattle.fab_reach_index.proofs.indexing.add_targets.Goals as goal
 

@@ -2,12 +2,13 @@ use Rattle.std.proofs.Common.{sym, ◌∙◌, [], ◌∷◌, ◌++◌}
 use Rattle.std.specs.Map.Iter.{deref_pair}
 use Rattle.std.proofs.lemmas.Map.Iter.{rest_more, rest_all}
 use Rattle.fab_lemmas.proofs.Walks.{walked, walk_end}
+use Rattle.fab_zoning.specs.Edits.{IsIn}
 use Rattle.fab_reach_base.proofs.Adding.{before_none, before_more}
 use Rattle.std.specs.Ordering.{nat_cmp}
 use Rattle.fab_names.specs.Orders.{name_cmp}
 use Rattle.fab_reach_base.specs.Views.{seen}
 use Rattle.fab_reach_index.specs.Indexes.{IsHeldBy}
-use Rattle.fab_reach_index.specs.Inner.Placing.{IsIn, ByHolder}
+use Rattle.fab_reach_index.specs.Inner.Placing.{ByHolder}
 use Rattle.fab_reach_index.proofs.Placed.{tree_is, held_all}
 use Rattle.fab_reach_index.proofs.indexing.held_of.Goals as goal
 

@@ -2,13 +2,14 @@ use Rattle.std.proofs.Common.{◌≡◌, ℕ, List, [], ◌++◌}
 use Rattle.std.specs.FinMap as map
 use Rattle.std.specs.BTreeMap.{BTreeMap}
 use Rattle.std.specs.BTreeSet.{BTreeSet}
+use Rattle.fab_zoning.specs.Edits.{IsIn}
 use Rattle.fab_reach_base.specs.Adding.{Adds}
 use Rattle.fab_reach_base.proofs.Adding.{Before}
 use Rattle.std.specs.Ordering.{nat_cmp}
 use Rattle.fab_names.specs.Orders.{name_cmp}
 use Rattle.fab_inventory.specs.declared.port.Known.{Known}
 use Rattle.fab_reach_base.specs.Views.{seen}
-use Rattle.fab_reach_index.specs.Inner.Placing.{IsIn, ByHolder}
+use Rattle.fab_reach_index.specs.Inner.Placing.{ByHolder}
 use Rattle.fab_reach_index.proofs.indexing.held_of.Given as goal
 
 abbrev pub invariant-loop-name : goal.invariant-loop-name

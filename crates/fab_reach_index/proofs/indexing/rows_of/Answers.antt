@@ -1,7 +1,7 @@
+use Rattle.fab_zoning.specs.Edits.{IsIn}
 use Rattle.fab_reach_books.specs.Pairs.{pair_cmp}
 use Rattle.fab_reach_base.specs.Orders.{path_cmp}
 use Rattle.fab_reach_index.specs.Indexes.{IsRowOf}
-use Rattle.fab_reach_index.specs.Inner.Placing.{IsIn}
 use Rattle.fab_reach_index.proofs.Placed.{tree_is, rows_all}
 use Rattle.fab_reach_index.proofs.indexing.rows_of.Goals as goal
 

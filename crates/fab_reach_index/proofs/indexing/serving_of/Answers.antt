@@ -3,12 +3,13 @@ use Rattle.std.specs.FinMap as map
 use Rattle.std.specs.Map.Iter.{deref_pair}
 use Rattle.std.proofs.lemmas.Map.Iter.{rest_more, rest_all}
 use Rattle.fab_lemmas.proofs.Walks.{walked, walk_end}
+use Rattle.fab_zoning.specs.Edits.{IsIn}
 use Rattle.fab_reach_base.proofs.Adding.{before_none, before_more}
 use Rattle.fab_names.specs.Orders.{name_cmp}
 use Rattle.fab_mapping.specs.Mappings.{MappingRows}
 use Rattle.fab_reach_base.specs.Views.{seen}
 use Rattle.fab_reach_index.specs.Indexes.{IsHostGroupOf}
-use Rattle.fab_reach_index.specs.Inner.Placing.{IsIn, ByHostGroups}
+use Rattle.fab_reach_index.specs.Inner.Placing.{ByHostGroups}
 use Rattle.fab_reach_index.proofs.Placed.{tree_is, serving_all}
 use Rattle.fab_reach_index.proofs.indexing.serving_of.Goals as goal
 

@@ -2,12 +2,13 @@ use Rattle.std.proofs.Common.{◌≡◌, ℕ, List, [], ◌++◌}
 use Rattle.std.specs.FinMap as map
 use Rattle.std.specs.BTreeMap.{BTreeMap}
 use Rattle.std.specs.BTreeSet.{BTreeSet}
+use Rattle.fab_zoning.specs.Edits.{IsIn}
 use Rattle.fab_reach_base.specs.Adding.{Adds}
 use Rattle.fab_reach_base.proofs.Adding.{Before}
 use Rattle.fab_names.specs.Orders.{name_cmp}
 use Rattle.fab_mapping_base.specs.Groups.{StorageGroupRows}
 use Rattle.fab_reach_base.specs.Views.{seen}
-use Rattle.fab_reach_index.specs.Inner.Placing.{IsIn, ByHostGroups}
+use Rattle.fab_reach_index.specs.Inner.Placing.{ByHostGroups}
 use Rattle.fab_reach_index.proofs.indexing.serving_of.Given as goal
 
 abbrev pub invariant-loop-name : goal.invariant-loop-name

@@ -1,9 +1,9 @@
 use Rattle.std.proofs.Common.{◌≡◌, ℕ, ◌∷◌, [], ◌++◌, ◌∙◌}
 use Rattle.fab_lemmas.proofs.Walks.{walked, walk_end}
+use Rattle.fab_zoning.specs.Edits.{IsIn}
 use Rattle.fab_reach_base.proofs.Adding.{before_more}
 use Rattle.std.specs.Ordering.{nat_cmp}
 use Rattle.fab_reach_index.specs.Indexes.{Zone, zone_cmp}
-use Rattle.fab_reach_index.specs.Inner.Placing.{IsIn}
 use Rattle.fab_reach_index.proofs.ZonesPlaced.{port_placed}
 use Rattle.fab_reach_index.proofs.zone_ports.add_port.Goals as goal
 

@@ -1,9 +1,9 @@
 use Rattle.std.proofs.Common.{◌≡◌, ℕ, List, ◌++◌}
+use Rattle.fab_zoning.specs.Edits.{IsIn}
 use Rattle.fab_reach_base.specs.Adding.{Adds}
 use Rattle.fab_reach_base.proofs.Adding.{Before}
 use Rattle.std.specs.Ordering.{nat_cmp}
 use Rattle.fab_reach_index.specs.Indexes.{Zone, zone_cmp}
-use Rattle.fab_reach_index.specs.Inner.Placing.{IsIn}
 use Rattle.fab_reach_index.proofs.zone_ports.add_port.Given as goal
 
 abbrev pub invariant-loop-zone : goal.invariant-loop-zone

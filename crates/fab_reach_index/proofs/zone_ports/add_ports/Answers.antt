@@ -2,10 +2,11 @@ use Rattle.std.proofs.Common.{[], ◌∷◌, ◌++◌}
 use Rattle.std.specs.Map.Iter.{deref_pair}
 use Rattle.std.proofs.lemmas.Map.Iter.{rest_more, rest_all}
 use Rattle.fab_lemmas.proofs.Walks.{walked, walk_end}
+use Rattle.fab_zoning.specs.Edits.{IsIn}
 use Rattle.fab_reach_base.proofs.Adding.{before_more}
 use Rattle.std.specs.Ordering.{nat_cmp}
 use Rattle.fab_reach_index.specs.Indexes.{zone_cmp}
-use Rattle.fab_reach_index.specs.Inner.Placing.{IsIn, ByPortZones}
+use Rattle.fab_reach_index.specs.Inner.Placing.{ByPortZones}
 use Rattle.fab_reach_index.proofs.ZonesPlaced.{ports_placed}
 use Rattle.fab_reach_index.proofs.zone_ports.add_ports.Goals as goal
 

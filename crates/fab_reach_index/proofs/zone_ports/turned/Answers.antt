@@ -1,6 +1,6 @@
 use Rattle.std.specs.Ordering.{nat_cmp}
+use Rattle.fab_zoning.specs.Edits.{IsIn}
 use Rattle.fab_reach_index.specs.Indexes.{zone_cmp}
-use Rattle.fab_reach_index.specs.Inner.Placing.{IsIn}
 use Rattle.fab_reach_index.proofs.Placed.{tree_is}
 use Rattle.fab_reach_index.proofs.zone_ports.turned.Goals as goal
 

@@ -2,8 +2,8 @@ use Rattle.std.specs.Option.{option_copied}
 use Rattle.fab_lemmas.specs.MapsOfSets.{in_tree}
 use Rattle.fab_names.specs.Orders.{name_cmp}
 use Rattle.std.specs.Ordering.{nat_cmp}
+use Rattle.fab_zoning.specs.Edits.{IsIn}
 use Rattle.fab_reach_index.specs.Indexes.{zone_cmp}
-use Rattle.fab_reach_index.specs.Inner.Placing.{IsIn}
 use Rattle.fab_reach_index.proofs.ZonesPlaced.{zones_four}
 use Rattle.fab_reach_index.proofs.zoning_index.add_port_zones.Goals as goal
 

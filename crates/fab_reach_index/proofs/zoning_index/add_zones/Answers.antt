@@ -1,9 +1,9 @@
 use Rattle.std.proofs.Common.{◌≡◌, ◌∷◌, [], ◌++◌, ◌∙◌}
 use Rattle.fab_lemmas.proofs.Walks.{walked, walk_end}
+use Rattle.fab_zoning.specs.Edits.{IsIn}
 use Rattle.fab_reach_base.proofs.Adding.{before_more}
 use Rattle.std.specs.Ordering.{nat_cmp}
 use Rattle.fab_reach_index.specs.Indexes.{zone_cmp}
-use Rattle.fab_reach_index.specs.Inner.Placing.{IsIn}
 use Rattle.fab_reach_index.proofs.ZonesPlaced.{Placed, zones_placed}
 use Rattle.fab_reach_index.proofs.zoning_index.add_zones.Goals as goal
 

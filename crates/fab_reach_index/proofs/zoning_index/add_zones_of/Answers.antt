@@ -1,7 +1,7 @@
 use Rattle.std.specs.Ordering.{nat_cmp}
+use Rattle.fab_zoning.specs.Edits.{IsIn}
 use Rattle.fab_reach_index.specs.Indexes.{zone_cmp}
 use Rattle.fab_reach_base.specs.Views.{seen}
-use Rattle.fab_reach_index.specs.Inner.Placing.{IsIn}
 use Rattle.fab_reach_index.proofs.ZonesPlaced.{both_fabrics}
 use Rattle.fab_reach_index.proofs.zoning_index.add_zones_of.Goals as goal
 

@@ -1,5 +1,5 @@
+use Rattle.fab_zoning.specs.Edits.{IsIn}
 use Rattle.fab_reach_base.proofs.Adding.{adds_none}
-use Rattle.fab_reach_index.specs.Inner.Placing.{IsIn}
 use Rattle.fab_reach_moves.proofs.SaidRows.{Says, item_said}
 use Rattle.fab_reach_moves.proofs.saying.add_item.Goals as goal
 

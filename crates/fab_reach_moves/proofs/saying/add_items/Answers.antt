@@ -1,5 +1,5 @@
+use Rattle.fab_zoning.specs.Edits.{IsIn}
 use Rattle.fab_reach_base.proofs.Adding.{before_next, before_last}
-use Rattle.fab_reach_index.specs.Inner.Placing.{IsIn}
 use Rattle.fab_reach_moves.proofs.SaidRows.{Says, items_all}
 use Rattle.fab_reach_moves.proofs.saying.add_items.Goals as goal
 

@@ -1,7 +1,7 @@
 use Rattle.std.proofs.Common.{take}
+use Rattle.fab_zoning.specs.Edits.{IsIn}
 use Rattle.fab_reach_base.specs.Adding.{Adds}
 use Rattle.fab_reach_base.proofs.Adding.{Before}
-use Rattle.fab_reach_index.specs.Inner.Placing.{IsIn}
 use Rattle.fab_reach_moves.proofs.SaidRows.{Says}
 use Rattle.fab_reach_moves.proofs.saying.add_items.Given as goal
 

@@ -1,9 +1,9 @@
 use Rattle.std.proofs.Common.{◌∷◌, [], ◌++◌, ◌∙◌, refl}
 use Rattle.fab_lemmas.proofs.Walks.{walked, walk_end}
 use Rattle.fab_names.specs.Orders.{name_cmp}
+use Rattle.fab_zoning.specs.Edits.{IsIn}
 use Rattle.fab_reach_base.specs.Views.{seen}
 use Rattle.fab_reach_base.proofs.Adding.{before_none, before_more}
-use Rattle.fab_reach_index.specs.Inner.Placing.{IsIn}
 use Rattle.fab_reach_patches.proofs.GroupsGathered.{OfServed, all_served}
 use Rattle.fab_reach_patches.proofs.group_maps.add_all_served_before.Goals as goal
 

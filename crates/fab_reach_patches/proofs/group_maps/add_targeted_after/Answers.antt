@@ -2,7 +2,7 @@ use Rattle.std.proofs.Common.{sym, ◌∙◌}
 use mathlib.Core.Bool.{true≢false}
 use Rattle.std.specs.Ordering.{nat_cmp}
 use Rattle.fab_names.specs.Orders.{name_cmp}
-use Rattle.fab_reach_index.specs.Inner.Placing.{IsIn}
+use Rattle.fab_zoning.specs.Edits.{IsIn}
 use Rattle.fab_reach_patches.proofs.GroupsGathered.{targeted_adds, targeted_none}
 use Rattle.fab_reach_patches.proofs.group_maps.add_targeted_after.Goals as goal
 

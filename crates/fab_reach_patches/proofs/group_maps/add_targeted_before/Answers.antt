@@ -2,8 +2,8 @@ use Rattle.std.proofs.Common.{sym, ◌∙◌}
 use mathlib.Core.Bool.{true≢false}
 use Rattle.std.specs.Ordering.{nat_cmp}
 use Rattle.fab_names.specs.Orders.{name_cmp}
+use Rattle.fab_zoning.specs.Edits.{IsIn}
 use Rattle.fab_reach_base.specs.Views.{seen}
-use Rattle.fab_reach_index.specs.Inner.Placing.{IsIn}
 use Rattle.fab_reach_patches.proofs.GroupsGathered.{targeted_adds, targeted_none}
 use Rattle.fab_reach_patches.proofs.group_maps.add_targeted_before.Goals as goal
 

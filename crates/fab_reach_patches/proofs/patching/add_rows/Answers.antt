@@ -1,7 +1,7 @@
+use Rattle.fab_zoning.specs.Edits.{IsIn}
 use Rattle.fab_reach_base.specs.Orders.{path_cmp}
 use Rattle.fab_reach_base.proofs.Adding.{before_next, before_last}
 use Rattle.fab_reach_books.specs.Pairs.{pair_cmp}
-use Rattle.fab_reach_index.specs.Inner.Placing.{IsIn}
 use Rattle.fab_reach_patches.proofs.Going.{OfPath, rows_all}
 use Rattle.fab_reach_patches.proofs.patching.add_rows.Goals as goal
 

@@ -1,9 +1,9 @@
 use Rattle.std.proofs.Common.{take}
+use Rattle.fab_zoning.specs.Edits.{IsIn}
 use Rattle.fab_reach_base.specs.Adding.{Adds}
 use Rattle.fab_reach_base.specs.Orders.{path_cmp}
 use Rattle.fab_reach_base.proofs.Adding.{Before}
 use Rattle.fab_reach_books.specs.Pairs.{pair_cmp}
-use Rattle.fab_reach_index.specs.Inner.Placing.{IsIn}
 use Rattle.fab_reach_patches.proofs.Going.{OfPath}
 use Rattle.fab_reach_patches.proofs.patching.add_rows.Given as goal
 

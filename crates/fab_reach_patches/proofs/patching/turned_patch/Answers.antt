@@ -1,6 +1,6 @@
 use Rattle.std.specs.Ordering.{nat_cmp}
+use Rattle.fab_zoning.specs.Edits.{IsIn}
 use Rattle.fab_reach_index.specs.Indexes.{zone_cmp, PortInZone, ZoneHasPort}
-use Rattle.fab_reach_index.specs.Inner.Placing.{IsIn}
 use Rattle.fab_reach_patches.proofs.Leading.{leads_by}
 use Rattle.fab_reach_patches.proofs.Going.{goes_round}
 use Rattle.fab_reach_patches.proofs.patching.turned_patch.Goals as goal

@@ -1,8 +1,8 @@
 use Rattle.std.specs.Ordering.{nat_cmp}
+use Rattle.fab_zoning.specs.Edits.{IsIn}
 use Rattle.fab_reach_base.specs.Views.{seen}
 use Rattle.fab_reach_books.specs.Inner.Sets.{HasPortIn}
 use Rattle.fab_reach_index.specs.Indexes.{zone_cmp, PortInZone}
-use Rattle.fab_reach_index.specs.Inner.Placing.{IsIn}
 use Rattle.fab_reach_patches.proofs.Leading.{leads_by}
 use Rattle.fab_reach_patches.proofs.Going.{zones_go, goes_as}
 use Rattle.fab_reach_patches.proofs.patching.zone_patch.Goals as goal

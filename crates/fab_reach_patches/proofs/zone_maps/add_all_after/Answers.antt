@@ -1,9 +1,10 @@
 use Rattle.std.proofs.Common.{◌∷◌, [], ◌++◌, ◌∙◌, refl}
 use Rattle.std.specs.Ordering.{nat_cmp}
 use Rattle.fab_lemmas.proofs.Walks.{walked, walk_end}
+use Rattle.fab_zoning.specs.Edits.{IsIn}
 use Rattle.fab_reach_base.proofs.Adding.{before_none, before_more}
 use Rattle.fab_reach_index.specs.Indexes.{zone_cmp}
-use Rattle.fab_reach_index.specs.Inner.Placing.{IsIn, ByZone}
+use Rattle.fab_reach_index.specs.Inner.Placing.{ByZone}
 use Rattle.fab_reach_patches.proofs.ZonesGathered.{all_after}
 use Rattle.fab_reach_patches.proofs.zone_maps.add_all_after.Goals as goal
 

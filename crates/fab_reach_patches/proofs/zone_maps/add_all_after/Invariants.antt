@@ -1,12 +1,13 @@
 use Rattle.std.proofs.Common.{◌≡◌, List, ◌++◌}
 use Rattle.std.specs.Ordering.{nat_cmp}
+use Rattle.fab_zoning.specs.Edits.{IsIn}
 use Rattle.fab_reach_base.specs.Adding.{Adds}
 use Rattle.fab_reach_base.specs.Records.{Records}
 use Rattle.fab_reach_base.specs.Serving.{IsServing}
 use Rattle.fab_reach_base.specs.Views.{seen}
 use Rattle.fab_reach_base.proofs.Adding.{Before}
 use Rattle.fab_reach_index.specs.Indexes.{zone_cmp}
-use Rattle.fab_reach_index.specs.Inner.Placing.{IsIn, ByZone}
+use Rattle.fab_reach_index.specs.Inner.Placing.{ByZone}
 use Rattle.fab_reach_moves.specs.Inner.Telling.{IsTold}
 use Rattle.fab_reach_patches.proofs.zone_maps.add_all_after.Given as goal
 

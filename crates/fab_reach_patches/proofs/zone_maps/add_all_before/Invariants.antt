@@ -1,9 +1,9 @@
 use Rattle.std.proofs.Common.{◌≡◌, List, ◌++◌}
 use Rattle.std.specs.Ordering.{nat_cmp}
+use Rattle.fab_zoning.specs.Edits.{IsIn}
 use Rattle.fab_reach_base.specs.Adding.{Adds}
 use Rattle.fab_reach_base.proofs.Adding.{Before}
 use Rattle.fab_reach_index.specs.Indexes.{zone_cmp}
-use Rattle.fab_reach_index.specs.Inner.Placing.{IsIn}
 use Rattle.fab_reach_patches.proofs.ZonesGathered.{OfPort}
 use Rattle.fab_reach_patches.proofs.zone_maps.add_all_before.Given as goal
 

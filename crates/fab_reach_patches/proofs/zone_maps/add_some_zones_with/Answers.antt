@@ -2,10 +2,11 @@ use Rattle.std.proofs.Common.{◌≡◌, Option, true, OnOk, sym, ap, subst, ◌
 use mathlib.Core.Bool.{true≢false}
 use Rattle.std.specs.Ordering.{nat_cmp}
 use Rattle.fab_names.specs.declared.member.Member.{Member}
+use Rattle.fab_zoning.specs.Edits.{IsIn}
 use Rattle.fab_reach_base.specs.Adding.{Adds}
 use Rattle.fab_reach_base.specs.Records.{zoning_at}
 use Rattle.fab_reach_index.specs.Indexes.{zone_cmp}
-use Rattle.fab_reach_index.specs.Inner.Placing.{IsIn, ByZones}
+use Rattle.fab_reach_index.specs.Inner.Placing.{ByZones}
 use Rattle.fab_reach_index.proofs.ZonesPlaced.{zones_none}
 use Rattle.fab_zoning_rows.specs.Holding.{has_row}
 use Rattle.fab_reach_patches.proofs.zone_maps.add_some_zones_with.Goals as goal

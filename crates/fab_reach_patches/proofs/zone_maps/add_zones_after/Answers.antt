@@ -1,11 +1,12 @@
 use Rattle.std.proofs.Common.{◌≡◌, Option, true, subst}
 use Rattle.fab_names.specs.declared.member.Member.{Member}
 use Rattle.fab_zoning_rows.specs.Holding.{has_row}
+use Rattle.fab_zoning.specs.Edits.{IsIn}
 use Rattle.fab_reach_base.specs.Adding.{Adds}
 use Rattle.fab_reach_base.specs.Records.{zoning_at}
 use Rattle.std.specs.Ordering.{nat_cmp}
 use Rattle.fab_reach_index.specs.Indexes.{zone_cmp}
-use Rattle.fab_reach_index.specs.Inner.Placing.{IsIn, ByZones}
+use Rattle.fab_reach_index.specs.Inner.Placing.{ByZones}
 use Rattle.fab_reach_patches.proofs.ZonesGathered.{unknown, nowhere, four_zones}
 use Rattle.fab_reach_patches.proofs.zone_maps.add_zones_after.Goals as goal
 

@@ -1,10 +1,10 @@
 use Rattle.std.proofs.Common.{◌≡◌, true}
 use Rattle.std.specs.FinSet as set
 use Rattle.std.specs.Ordering.{nat_cmp}
+use Rattle.fab_zoning.specs.Edits.{IsIn}
 use Rattle.fab_reach_base.specs.Records.{zoning_at}
 use Rattle.fab_reach_books.specs.Inner.Sets.{HasName}
 use Rattle.fab_reach_index.specs.Indexes.{zone_cmp}
-use Rattle.fab_reach_index.specs.Inner.Placing.{IsIn}
 use Rattle.fab_reach_index.proofs.ZonesPlaced.{zones_as}
 use Rattle.fab_reach_patches.proofs.zone_maps.add_zones_with.Goals as goal
 

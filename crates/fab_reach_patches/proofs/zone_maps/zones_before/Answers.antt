@@ -1,7 +1,7 @@
 use Rattle.std.specs.Ordering.{nat_cmp}
+use Rattle.fab_zoning.specs.Edits.{IsIn}
 use Rattle.fab_reach_books.specs.Inner.Sets.{HasPortIn}
 use Rattle.fab_reach_index.specs.Indexes.{zone_cmp}
-use Rattle.fab_reach_index.specs.Inner.Placing.{IsIn}
 use Rattle.fab_reach_index.proofs.Placed.{tree_is}
 use Rattle.fab_reach_patches.proofs.zone_maps.zones_before.Goals as goal
 

@@ -5,7 +5,7 @@ use Rattle.fab_reach_base.specs.Records.{ConfigRows}
 use Rattle.fab_store_rows.specs.declared.config_row.GroupRow.TheVariants as group
 use Rattle.fab_store_rows.specs.declared.config_row.ConfigRow.TheVariants as config
 use Rattle.fab_store_edits.specs.Inner.Edits.{IsTaken}
-use Rattle.fab_store_edits.specs.Tidy.{IsTidy}
+use Rattle.fab_store_rows.specs.Tidy.{IsTidy}
 use Rattle.fab_store_edits.proofs.Becoming.{hosts_out}
 use Rattle.fab_store_edits.proofs.GroupMoves.{hosts_dropped, tidy_mapped}
 use Rattle.fab_store_edits.proofs.Holding.{hosts_held}

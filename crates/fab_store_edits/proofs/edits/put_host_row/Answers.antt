@@ -2,7 +2,7 @@ use Rattle.std.proofs.Common.{◌≡◌, true, false, IfOk, subst}
 use Rattle.fab_reach_base.specs.Records.{ConfigRows}
 use Rattle.fab_store_edits.specs.Rows.{host_row}
 use Rattle.fab_store_edits.specs.Inner.Edits.{NoRow, IsPut, IsOrphan}
-use Rattle.fab_store_edits.specs.Tidy.{IsTidy}
+use Rattle.fab_store_rows.specs.Tidy.{IsTidy}
 use Rattle.fab_store_edits.proofs.GroupMoves.{host_put, tidy_mapped}
 use Rattle.fab_store_edits.proofs.Refusing.{if_ok, host_orphan}
 use Rattle.fab_store_edits.proofs.edits.put_host_row.Goals as goal

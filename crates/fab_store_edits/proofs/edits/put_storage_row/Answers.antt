@@ -3,7 +3,7 @@ use Rattle.fab_reach_base.specs.Records.{ConfigRows}
 use Rattle.fab_store_rows.specs.Gathering.{Has}
 use Rattle.fab_store_edits.specs.Rows.{part_row}
 use Rattle.fab_store_edits.specs.Inner.Edits.{NoRow, IsPut, IsRefused}
-use Rattle.fab_store_edits.specs.Tidy.{IsTidy}
+use Rattle.fab_store_rows.specs.Tidy.{IsTidy}
 use Rattle.fab_store_edits.proofs.GroupMoves.{part_put, tidy_mapped}
 use Rattle.fab_store_edits.proofs.Refusing.{if_ok, part_refused}
 use Rattle.fab_store_edits.proofs.edits.put_storage_row.Goals as goal

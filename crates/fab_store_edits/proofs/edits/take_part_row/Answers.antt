@@ -3,7 +3,7 @@ use Rattle.fab_reach_base.specs.Records.{ConfigRows}
 use Rattle.fab_store_rows.specs.declared.config_row.PartRow.TheVariants as parts
 use Rattle.fab_store_rows.specs.declared.config_row.ConfigRow.TheVariants as config
 use Rattle.fab_store_edits.specs.Inner.Edits.{IsTaken}
-use Rattle.fab_store_edits.specs.Tidy.{IsTidy}
+use Rattle.fab_store_rows.specs.Tidy.{IsTidy}
 use Rattle.fab_store_edits.proofs.GroupMoves.{host_taken, part_taken, tidy_mapped}
 use Rattle.fab_store_edits.proofs.Answering.{on_ok}
 use Rattle.fab_store_edits.proofs.edits.take_part_row.Goals as goal

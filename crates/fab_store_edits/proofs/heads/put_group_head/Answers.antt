@@ -6,7 +6,7 @@ use Rattle.fab_store_rows.specs.declared.config_row.GroupRow.TheVariants as grou
 use Rattle.fab_store_rows.specs.declared.config_row.ConfigRow.TheVariants as config
 use Rattle.fab_store_rows.specs.Gathering.{Has}
 use Rattle.fab_store_edits.specs.Inner.Edits.{IsPut}
-use Rattle.fab_store_edits.specs.Tidy.{IsTidy}
+use Rattle.fab_store_rows.specs.Tidy.{IsTidy}
 use Rattle.fab_store_edits.proofs.GroupMoves.{storage_head_put, tidy_mapped}
 use Rattle.fab_store_edits.proofs.Refusing.{storage_rival}
 use Rattle.fab_store_edits.proofs.heads.put_group_head.Goals as goal

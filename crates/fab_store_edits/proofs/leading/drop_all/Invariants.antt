@@ -1,4 +1,4 @@
-use Rattle.fab_store_edits.specs.Tidy.{IsTidy}
+use Rattle.fab_store_rows.specs.Tidy.{IsTidy}
 use Rattle.fab_store_edits.proofs.ManyRows.{DropSoFar}
 use Rattle.fab_store_edits.proofs.leading.drop_all.Given as goal
 

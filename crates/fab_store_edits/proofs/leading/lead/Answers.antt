@@ -2,7 +2,7 @@ use Rattle.std.proofs.Common.{sym, ◌∙◌}
 use mathlib.Core.Bool.{true≢false}
 use Rattle.std.proofs.lemmas.Map.Made.{is_member-Decides}
 use Rattle.fab_reach_base.proofs.fab_lemmas.SeenSets.{tie_decides}
-use Rattle.fab_store_rows.proofs.OrderOfRows.{row_total, row_exact}
+use Rattle.fab_store_rows.specs.OrderOfRows.{row_total, row_exact}
 use Rattle.fab_store_edits.proofs.Outcomes.{can_of}
 use Rattle.fab_store_edits.proofs.leading.lead.Goals as goal
 

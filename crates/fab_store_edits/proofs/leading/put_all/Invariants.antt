@@ -1,5 +1,5 @@
 use Rattle.fab_store_rows.specs.Gathering.{Has}
-use Rattle.fab_store_edits.specs.Tidy.{IsTidy}
+use Rattle.fab_store_rows.specs.Tidy.{IsTidy}
 use Rattle.fab_store_edits.proofs.ManyRows.{PutSoFar}
 use Rattle.fab_store_edits.proofs.leading.put_all.Given as goal
 

@@ -6,7 +6,7 @@ use Rattle.fab_store_rows.specs.declared.config_row.SettingRow.TheVariants.{Acti
 use Rattle.fab_store_rows.specs.declared.config_row.ConfigRow.TheVariants as config
 use Rattle.fab_store_edits.specs.Rows.{name_row}
 use Rattle.fab_store_edits.specs.Inner.Edits.{Is, IsPut}
-use Rattle.fab_store_edits.specs.Tidy.{IsTidy}
+use Rattle.fab_store_rows.specs.Tidy.{IsTidy}
 use Rattle.fab_store_edits.proofs.ZoningMoves.{tidy_with}
 use Rattle.fab_store_edits.proofs.Refusing.{name_put, name_tidy}
 use Rattle.fab_store_edits.proofs.settings.set_name.Goals as goal

@@ -1,5 +1,5 @@
 use Rattle.std.proofs.Common.{sym, subst}
-use Rattle.fab_store_edits.specs.Tidy.{HasNoEmptySet}
+use Rattle.fab_store_rows.specs.Tidy.{HasNoEmptySet}
 use Rattle.fab_store_edits.proofs.Answering.{on_two, either_way}
 use Rattle.fab_store_edits.proofs.ItemMoves.{put_alias, put_zone, put_set, some_aliases, some_zones, some_sets}
 use Rattle.fab_store_edits.proofs.zoning_rows.put_item_in.Goals as goal

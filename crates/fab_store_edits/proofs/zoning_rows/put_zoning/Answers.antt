@@ -3,7 +3,7 @@ use Rattle.fab_reach_base.specs.fab_names.declared.fabric.Fabric.TheVariants.{A,
 use Rattle.fab_reach_base.specs.Records.{ConfigRows}
 use Rattle.fab_store_rows.specs.declared.config_row.ConfigRow.TheVariants as config
 use Rattle.fab_store_edits.specs.Inner.Edits.{NoRow, IsPut}
-use Rattle.fab_store_edits.specs.Tidy.{IsTidy}
+use Rattle.fab_store_rows.specs.Tidy.{IsTidy}
 use Rattle.fab_store_edits.proofs.Answering.{on_ok}
 use Rattle.fab_store_edits.proofs.ZoningMoves.{put_zoning_at, tidy_with}
 use Rattle.fab_store_edits.proofs.zoning_rows.put_zoning.Goals as goal

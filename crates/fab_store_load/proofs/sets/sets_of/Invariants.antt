@@ -1,5 +1,6 @@
 use Rattle.std.proofs.Common.{take}
-use Rattle.fab_store_load.specs.Rows.{AreRows, IsIn, HasItems}
+use Rattle.fab_reach_base.specs.fab_zoning.Edits.{IsIn, HasItems}
+use Rattle.fab_store_load.specs.Rows.{AreRows}
 use Rattle.fab_store_load.proofs.sets.sets_of.Given as goal
 
 abbrev pub invariant-loop-row : goal.invariant-loop-row

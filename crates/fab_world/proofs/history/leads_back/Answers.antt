@@ -1,7 +1,7 @@
 use Rattle.std.proofs.Common.{reverse, sym, subst}
 use Rattle.std.specs.BTreeMap.{get}
 use Rattle.fab_reach_base.specs.fab_names.Orders.{name_cmp}
-use Rattle.fab_store_drafts.proofs.fab_store_edits.Differing.{tidy_of}
+use Rattle.fab_store_load.proofs.fab_store_rows.Determined.{tidy_of}
 use Rattle.fab_world.specs.History.{LeadsBack, changes_of}
 use Rattle.fab_world.proofs.WaysBack.{last_first}
 use Rattle.fab_world.proofs.history.leads_back.Goals as goal

@@ -1,5 +1,5 @@
 use Rattle.std.proofs.Common.{sym}
-use Rattle.fab_store_edits.proofs.Differing.{tidy_of}
+use Rattle.fab_store_rows.proofs.Determined.{tidy_of}
 use Rattle.fab_store_drafts.proofs.Law.{told_only, told_none, none_led}
 use Rattle.fab_store_drafts.proofs.draft.Draft.undo.Goals as goal
 

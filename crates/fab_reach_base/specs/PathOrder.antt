@@ -1,28 +1,14 @@
 -- The order of paths is total, and tells paths apart.
 use Rattle.std.proofs.Common.{◌≡◌, refl}
-use Rattle.std.specs.declared.cmp.Ordering.{Ordering}
-use Rattle.std.specs.declared.cmp.Ordering.TheVariants.{Less, Equal, Greater}
-use Rattle.std.specs.Ordering.{nat_cmp, ordering_then}
+use Rattle.std.specs.Ordering.{nat_cmp}
 use Rattle.std.specs.Cmp.{IsTotalOrder, nat_cmp_total}
 use Rattle.std.proofs.lemmas.Cmp.{on_total, then_total}
 use Rattle.std.specs.FinSet as set
-use Rattle.fab_mapping.specs.fab_mapping_base.fab_names.declared.fabric.Fabric.TheVariants.{A, B}
 use Rattle.fab_mapping.specs.fab_mapping_base.fab_names.contracts.fabric.FabricOrd.TheImpl.Laws.{total-law}
 use Rattle.fab_mapping.specs.fab_mapping_base.fab_names.Orders.{fabric_cmp, name_cmp}
-use Rattle.fab_names.proofs.OrderLaws.{name_total, name_exact}
+use Rattle.fab_names.proofs.OrderLaws.{both_equal, fabric_exact, name_total, name_exact}
 use Rattle.fab_reach_base.specs.Orders.{path_cmp, path_order}
 use Rattle.fab_reach_base.specs.declared.path.Path.{Path}
-
-pub fabric_exact : set.IsAntisymmetric fabric_cmp
-fabric_exact A A e = refl
-fabric_exact A B e = absurd cc
-fabric_exact B A e = absurd cc
-fabric_exact B B e = refl
-
-pub both_equal : (r s : Ordering) → ordering_then r s ≡ Equal → (r ≡ Equal) × (s ≡ Equal)
-both_equal Less s e = absurd cc
-both_equal Equal s e = (refl, e)
-both_equal Greater s e = absurd cc
 
 pub path_total : IsTotalOrder path_cmp
 path_total =

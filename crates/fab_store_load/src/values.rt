@@ -1,45 +1,8 @@
-//! Keys and values of the maps that rows are gathered into.
-use crate::kind::{Key, Value};
+//! Values of the maps that rows are gathered into.
+use crate::kind::Value;
 use crate::kinds::Head;
-use fab_names::{Address, Fabric, Member, Name, Wwn};
+use fab_names::{Address, Name};
 use fab_reach_base::inventory::{Holder, Seat, Volume};
-use fab_store_rows::ConfigRow;
-
-impl Key for Wwn {
-    ghost use Rattle.std.specs.FinSet.{nat_cmp-IsAntisymmetric};
-
-    ghost exact = { nat_cmp-IsAntisymmetric };
-}
-
-impl Key for u16 {
-    ghost use Rattle.std.specs.FinSet.{nat_cmp-IsAntisymmetric};
-
-    ghost exact = { nat_cmp-IsAntisymmetric };
-}
-
-impl Key for Name {
-    ghost use Rattle.fab_names.proofs.OrderLaws.{name_exact};
-
-    ghost exact = { name_exact };
-}
-
-impl Key for Member {
-    ghost use Rattle.fab_names.proofs.OrderLaws.{member_exact};
-
-    ghost exact = { member_exact };
-}
-
-impl Key for Fabric {
-    ghost use Rattle.fab_store_load.specs.Values.{exact_fabric};
-
-    ghost exact = { exact_fabric };
-}
-
-impl Key for ConfigRow {
-    ghost use Rattle.fab_store_rows.proofs.OrderOfRows.{row_exact};
-
-    ghost exact = { row_exact };
-}
 
 impl Value for Seat {
     ghost use Rattle.fab_store_load.specs.Values.{same_seat};

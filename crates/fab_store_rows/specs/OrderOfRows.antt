@@ -7,12 +7,11 @@ use Rattle.std.specs.Option.{option_cmp}
 use Rattle.std.specs.Cmp.{IsTotalOrder}
 use Rattle.std.specs.FinSet as set
 use Rattle.fab_reach_base.specs.fab_names.declared.fabric.Fabric.{Fabric}
-use Rattle.fab_reach_base.specs.fab_names.declared.fabric.Fabric.TheVariants.{A, B}
 use Rattle.fab_reach_base.specs.fab_names.declared.member.Member.{Member}
 use Rattle.fab_reach_base.specs.fab_names.Orders.{name_cmp, fabric_order, member_order}
 use Rattle.fab_names.proofs.InOrder.{fabrics, members}
 use Rattle.fab_names.proofs.OrderLaws as names
-use Rattle.fab_names.proofs.OrderLaws.{name_exact}
+use Rattle.fab_names.proofs.OrderLaws.{both_equal, name_exact}
 use Rattle.fab_store_rows.specs.declared.config_row.SettingRow.{SettingRow}
 use Rattle.fab_store_rows.specs.declared.config_row.SettingRow.TheVariants.{ActiveSet, DefaultZone}
 use Rattle.fab_store_rows.specs.declared.config_row.ZoningItem.{ZoningItem}
@@ -113,16 +112,8 @@ same_order = λ i a b. in_order a b i
 
 -- ---- it tells rows apart
 
-pub both : (r s : Ordering) → ordering_then r s ≡ Equal → (r ≡ Equal) × (s ≡ Equal)
-both Less s e = absurd cc
-both Equal s e = (refl, e)
-both Greater s e = absurd cc
-
-pub fabric_exact : (f g : Fabric) → fabric_order f g ≡ Equal → f ≡ g
-fabric_exact A A e = refl
-fabric_exact A B e = absurd cc
-fabric_exact B A e = absurd cc
-fabric_exact B B e = refl
+fabric_exact : (f g : Fabric) → fabric_order f g ≡ Equal → f ≡ g
+fabric_exact f g e = names.fabric_exact f g (fabrics f g ∙ e)
 
 number_exact : set.IsAntisymmetric nat_cmp
 number_exact = set.nat_cmp-IsAntisymmetric
@@ -137,56 +128,56 @@ bool_exact true false e = absurd cc
 bool_exact true true e = refl
 
 setting_exact : (a b : SettingRow) → setting_order a b ≡ Equal → a ≡ b
-setting_exact (ActiveSet f None) (ActiveSet g None) e = ap (λ x. ActiveSet x None) (fabric_exact f g (both (fabric_order f g) Equal e).0)
-setting_exact (ActiveSet f None) (ActiveSet g (Some n)) e = let w = both (fabric_order f g) Less e in absurd cc
-setting_exact (ActiveSet f (Some m)) (ActiveSet g None) e = let w = both (fabric_order f g) Greater e in absurd cc
+setting_exact (ActiveSet f None) (ActiveSet g None) e = ap (λ x. ActiveSet x None) (fabric_exact f g (both_equal (fabric_order f g) Equal e).0)
+setting_exact (ActiveSet f None) (ActiveSet g (Some n)) e = let w = both_equal (fabric_order f g) Less e in absurd cc
+setting_exact (ActiveSet f (Some m)) (ActiveSet g None) e = let w = both_equal (fabric_order f g) Greater e in absurd cc
 setting_exact (ActiveSet f (Some m)) (ActiveSet g (Some n)) e =
-    let w = both (fabric_order f g) (name_cmp m n) e in
+    let w = both_equal (fabric_order f g) (name_cmp m n) e in
     λ i. ActiveSet (fabric_exact f g w.0 i) (Some (name_exact m n w.1 i))
 setting_exact (ActiveSet f m) (DefaultZone g q) e = absurd cc
 setting_exact (DefaultZone f p) (ActiveSet g n) e = absurd cc
 setting_exact (DefaultZone f p) (DefaultZone g q) e =
-    let w = both (fabric_order f g) (bool_cmp p q) e in
+    let w = both_equal (fabric_order f g) (bool_cmp p q) e in
     λ i. DefaultZone (fabric_exact f g w.0 i) (bool_exact p q w.1 i)
 
 item_exact : (a b : ZoningItem) → item_order a b ≡ Equal → a ≡ b
 item_exact (Alias m x) (Alias n y) e =
-    let w = both (name_cmp m n) (member_order x y) e in
+    let w = both_equal (name_cmp m n) (member_order x y) e in
     λ i. Alias (name_exact m n w.0 i) (member_exact x y w.1 i)
 item_exact (Alias m x) (Zone n y) e = absurd cc
 item_exact (Alias m x) (Set n z) e = absurd cc
 item_exact (Zone m x) (Alias n y) e = absurd cc
 item_exact (Zone m x) (Zone n y) e =
-    let w = both (name_cmp m n) (member_order x y) e in
+    let w = both_equal (name_cmp m n) (member_order x y) e in
     λ i. Zone (name_exact m n w.0 i) (member_exact x y w.1 i)
 item_exact (Zone m x) (Set n z) e = absurd cc
 item_exact (Set m x) (Alias n y) e = absurd cc
 item_exact (Set m x) (Zone n y) e = absurd cc
 item_exact (Set m x) (Set n z) e =
-    let w = both (name_cmp m n) (name_cmp x z) e in
+    let w = both_equal (name_cmp m n) (name_cmp x z) e in
     λ i. Set (name_exact m n w.0 i) (name_exact x z w.1 i)
 
 zoning_exact : (a b : ZoningRow) → zoning_order a b ≡ Equal → a ≡ b
 zoning_exact a b e =
-    let w = both (fabric_order a.fabric b.fabric) (item_order a.item b.item) e in
+    let w = both_equal (fabric_order a.fabric b.fabric) (item_order a.item b.item) e in
     λ i. record { fabric = fabric_exact a.fabric b.fabric w.0 i; item = item_exact a.item b.item w.1 i }
 
 active_exact : (a b : ActiveRow) → active_order a b ≡ Equal → a ≡ b
 active_exact a b e =
-    let f = both (fabric_order a.fabric b.fabric) (ordering_then (name_cmp a.zone b.zone) (member_order a.member b.member)) e in
-    let w = both (name_cmp a.zone b.zone) (member_order a.member b.member) f.1 in
+    let f = both_equal (fabric_order a.fabric b.fabric) (ordering_then (name_cmp a.zone b.zone) (member_order a.member b.member)) e in
+    let w = both_equal (name_cmp a.zone b.zone) (member_order a.member b.member) f.1 in
     λ i. record { fabric = fabric_exact a.fabric b.fabric f.0 i; zone = name_exact a.zone b.zone w.0 i; member = member_exact a.member b.member w.1 i }
 
 group_exact : (a b : GroupRow) → group_order a b ≡ Equal → a ≡ b
 group_exact (group.Host a) (group.Host b) e =
-    let w = both (name_cmp a.name b.name) (name_cmp a.tenant b.tenant) e in
+    let w = both_equal (name_cmp a.name b.name) (name_cmp a.tenant b.tenant) e in
     λ i. group.Host (record { name = name_exact a.name b.name w.0 i; tenant = name_exact a.tenant b.tenant w.1 i })
 group_exact (group.Host a) (group.Storage b) e = absurd cc
 group_exact (group.Storage a) (group.Host b) e = absurd cc
 group_exact (group.Storage a) (group.Storage b) e =
-    let n = both (name_cmp a.name b.name) (ordering_then (name_cmp a.tenant b.tenant) (ordering_then (name_cmp a.array b.array) (bool_cmp a.exposed b.exposed))) e in
-    let t = both (name_cmp a.tenant b.tenant) (ordering_then (name_cmp a.array b.array) (bool_cmp a.exposed b.exposed)) n.1 in
-    let r = both (name_cmp a.array b.array) (bool_cmp a.exposed b.exposed) t.1 in
+    let n = both_equal (name_cmp a.name b.name) (ordering_then (name_cmp a.tenant b.tenant) (ordering_then (name_cmp a.array b.array) (bool_cmp a.exposed b.exposed))) e in
+    let t = both_equal (name_cmp a.tenant b.tenant) (ordering_then (name_cmp a.array b.array) (bool_cmp a.exposed b.exposed)) n.1 in
+    let r = both_equal (name_cmp a.array b.array) (bool_cmp a.exposed b.exposed) t.1 in
     λ i. group.Storage (record {
       name = name_exact a.name b.name n.0 i;
       tenant = name_exact a.tenant b.tenant t.0 i;
@@ -204,17 +195,17 @@ storage_part_exact (Target a) (Unit u w) e = absurd cc
 storage_part_exact (Unit t v) (HostGroup b) e = absurd cc
 storage_part_exact (Unit t v) (Target b) e = absurd cc
 storage_part_exact (Unit t v) (Unit u w) e =
-    let k = both (nat_cmp t u) (name_cmp v w) e in
+    let k = both_equal (nat_cmp t u) (name_cmp v w) e in
     λ i. Unit (number_exact t u k.0 i) (name_exact v w k.1 i)
 
 part_exact : (a b : PartRow) → part_order a b ≡ Equal → a ≡ b
 part_exact (parts.Host m x) (parts.Host n y) e =
-    let w = both (name_cmp m n) (name_cmp x y) e in
+    let w = both_equal (name_cmp m n) (name_cmp x y) e in
     λ i. parts.Host (name_exact m n w.0 i) (name_exact x y w.1 i)
 part_exact (parts.Host m x) (parts.Storage n q) e = absurd cc
 part_exact (parts.Storage m p) (parts.Host n y) e = absurd cc
 part_exact (parts.Storage m p) (parts.Storage n q) e =
-    let w = both (name_cmp m n) (storage_part_order p q) e in
+    let w = both_equal (name_cmp m n) (storage_part_order p q) e in
     λ i. parts.Storage (name_exact m n w.0 i) (storage_part_exact p q w.1 i)
 
 exact : (a b : ConfigRow) → row_order a b ≡ Equal → a ≡ b

@@ -1,4 +1,4 @@
--- What an edit by rows leaves of a configuration: nothing is there that no row tells.
+-- A configuration in which nothing is that no row tells.
 use Rattle.std.specs.Prelude.{ℕ, ◌≡◌, ◌<◌, List, Some}
 use Rattle.std.specs.declared.cmp.Ordering.{Ordering}
 use Rattle.std.specs.FinMap as map
