@@ -1,6 +1,8 @@
 pub mod Keys
 pub mod Opens
 pub mod Answered
+pub mod Picks
+pub mod Filtered
 pub mod Gathered
 pub mod Unseen
 pub mod Sights

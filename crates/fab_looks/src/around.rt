@@ -1,8 +1,8 @@
 //! The things around a port that a caller may read of.
-ghost use Rattle.std.specs.Prelude.{Contains, OnOk, IfOk};
-ghost use Rattle.fab_looks.specs.Inner.Gathered.{IsTargetedQuery};
-ghost use Rattle.fab_looks.specs.PortWays.{AreOfPort, ArePortWay, HolderQuery, TargetedQuery};
-ghost use Rattle.fab_reach_base.specs.Adding.{Adds};
+ghost use Rattle.std.specs.Prelude.{OnOk, IfOk};
+ghost use Rattle.fab_looks.specs.Inner.Gathered.{Appends, IsTargetedQuery};
+ghost use Rattle.fab_looks.specs.PortWays.{AreOfPort, ArePortWay, HolderQuery, IsOwnTarget};
+ghost use Rattle.fab_looks.specs.Ways.{AreGroupReads, IsOneAtMost};
 ghost use Rattle.fab_world.specs.Soundness.{IsSound};
 
 use crate::rows::answers_to;
@@ -24,7 +24,7 @@ fn add_holder<A: Allocator + Copy>(
     id: CallerId,
     port: &Wwn,
 ) -> Result<(), AllocError>
-    ensures { OnOk result (Adds (HolderQuery policy.now world.now id port.now) (Contains queries.old.items) (Contains queries.new.items)) }
+    ensures { OnOk result (Appends (IsOneAtMost (HolderQuery policy.now world.now id port.now)) queries.old.items queries.new.items) }
 {
     let Some(known) = world.inventory.port(port) else {
         return Ok(());
@@ -53,7 +53,7 @@ fn add_targeted<A: Allocator + Copy>(
     name: Name,
     group: &StorageGroup<A>,
 ) -> Result<(), AllocError>
-    ensures { OnOk result (Adds (IsTargetedQuery policy.now world.now id port.now (name, group.now)) (Contains queries.old.items) (Contains queries.new.items)) }
+    ensures { OnOk result (Appends (IsOneAtMost (IsTargetedQuery policy.now world.now id port.now (name, group.now))) queries.old.items queries.new.items) }
 {
     if !group.has_target(port) {
         return Ok(());
@@ -62,7 +62,8 @@ fn add_targeted<A: Allocator + Copy>(
     Ok(())
 }
 
-/// Adds the reads of the storage groups of which the port is a target, if they are open to the caller.
+/// Adds the reads of the storage groups of which the port is a target, if they are open to the caller, in
+/// the order of their names.
 fn add_all_targeted<A: Allocator + Copy>(
     queries: &mut Vec<Query, A>,
     policy: &Policy,
@@ -70,7 +71,7 @@ fn add_all_targeted<A: Allocator + Copy>(
     id: CallerId,
     port: &Wwn,
 ) -> Result<(), AllocError>
-    ensures { OnOk result (Adds (TargetedQuery policy.now world.now id port.now) (Contains queries.old.items) (Contains queries.new.items)) }
+    ensures { OnOk result (Appends (AreGroupReads (IsOwnTarget policy.now world.now id port.now)) queries.old.items queries.new.items) }
 {
     for (name, group) in world.config.mapping().groups() {
         add_targeted(queries, policy, world, id, port, *name, group)?;
@@ -78,8 +79,8 @@ fn add_all_targeted<A: Allocator + Copy>(
     Ok(())
 }
 
-/// The reads that are open to the caller of a port and the things around it: its holder, the active zones
-/// that have it, and the storage groups of which it is a target.
+/// The reads that are open to the caller of a port and the things around it, in this order: of the port, of
+/// its holder, of the active zones that have it, and of the storage groups of which it is a target.
 ///
 /// # Errors
 /// `AllocError` where there is no memory.
@@ -100,9 +101,9 @@ fn queries_of<A: Allocator + Copy>(
     Ok(queries)
 }
 
-/// What the reads show of a port and the things around it that are the caller's: its holder, the active
-/// zones that have it and are defined, and the storage groups of which it is a target. Nothing, where the
-/// port is not known.
+/// What the reads show of a port and the things around it that are the caller's, each once and in this
+/// order: the port, its holder, the active zones that have it and are defined, and the storage groups of
+/// which it is a target. Nothing, where the port is not known.
 ///
 /// It goes once through the zones of the fabric and once through the storage groups.
 ///

@@ -1,8 +1,8 @@
 //! The things on the way from a host to a volume that a caller may read of.
-ghost use Rattle.std.specs.Prelude.{Contains, OnOk, IfOk};
-ghost use Rattle.fab_looks.specs.Inner.Gathered.{IsMappedQuery, IsPortQuery};
-ghost use Rattle.fab_looks.specs.Ways.{AreOfWay, AreWayRows, HostQuery, IsOpenQuery, MappedQuery};
-ghost use Rattle.fab_reach_base.specs.Adding.{Adds};
+ghost use Rattle.std.specs.Prelude.{◌≡◌, ◌++◌, ℕ, map, OnOk, IfOk};
+ghost use Rattle.fab_desk_base.specs.declared.command.Query.TheVariants as query;
+ghost use Rattle.fab_looks.specs.Inner.Gathered.{Appends, AreOfHost, IsMappedQuery};
+ghost use Rattle.fab_looks.specs.Ways.{AreGroupReads, AreOfWay, AreWayRows, IsOneAtMost, IsOpenQuery, IsOwnMapping};
 ghost use Rattle.fab_world.specs.Soundness.{IsSound};
 
 use crate::rows::answers_to;
@@ -23,7 +23,7 @@ pub fn add_open<A: Allocator + Copy>(
     id: CallerId,
     query: Query,
 ) -> Result<(), AllocError>
-    ensures { OnOk result (Adds (IsOpenQuery policy.now world.now id query) (Contains queries.old.items) (Contains queries.new.items)) }
+    ensures { OnOk result (Appends (IsOneAtMost (IsOpenQuery policy.now world.now id query)) queries.old.items queries.new.items) }
 {
     if !is_open_to(policy, world, id, &query) {
         return Ok(());
@@ -32,12 +32,12 @@ pub fn add_open<A: Allocator + Copy>(
     Ok(())
 }
 
-/// Adds the reads of ports.
+/// Adds the reads of ports, in their order.
 fn add_ports<A: Allocator + Copy>(
     queries: &mut Vec<Query, A>,
     ports: &[Wwn],
 ) -> Result<(), AllocError>
-    ensures { OnOk result (Adds (IsPortQuery ports.now) (Contains queries.old.items) (Contains queries.new.items)) }
+    ensures { OnOk result (queries.new.items ≡ queries.old.items ++ map (λ (a : ℕ). query.Port a) ports.now) }
 {
     for port in ports {
         queries.push(Query::Port { name: *port })?;
@@ -53,7 +53,7 @@ fn add_host<A: Allocator + Copy>(
     id: CallerId,
     host: &Name,
 ) -> Result<(), AllocError>
-    ensures { OnOk result (Adds (HostQuery policy.now world.now id host.now) (Contains queries.old.items) (Contains queries.new.items)) }
+    ensures { OnOk result (Appends (AreOfHost policy.now world.now id host.now) queries.old.items queries.new.items) }
 {
     let query = Query::Holder {
         kind: HolderKind::Host,
@@ -78,7 +78,7 @@ fn add_group<A: Allocator + Copy>(
     name: Name,
     group: &StorageGroup<A>,
 ) -> Result<(), AllocError>
-    ensures { OnOk result (Adds (IsMappedQuery policy.now world.now id volume.now (name, group.now)) (Contains queries.old.items) (Contains queries.new.items)) }
+    ensures { OnOk result (Appends (IsOneAtMost (IsMappedQuery policy.now world.now id volume.now (name, group.now))) queries.old.items queries.new.items) }
 {
     if !group.has_volume(volume) {
         return Ok(());
@@ -87,7 +87,8 @@ fn add_group<A: Allocator + Copy>(
     Ok(())
 }
 
-/// Adds the reads of the storage groups that map the volume, if they are open to the caller.
+/// Adds the reads of the storage groups that map the volume, if they are open to the caller, in the order
+/// of their names.
 fn add_groups<A: Allocator + Copy>(
     queries: &mut Vec<Query, A>,
     policy: &Policy,
@@ -95,7 +96,7 @@ fn add_groups<A: Allocator + Copy>(
     id: CallerId,
     volume: &Name,
 ) -> Result<(), AllocError>
-    ensures { OnOk result (Adds (MappedQuery policy.now world.now id volume.now) (Contains queries.old.items) (Contains queries.new.items)) }
+    ensures { OnOk result (Appends (AreGroupReads (IsOwnMapping policy.now world.now id volume.now)) queries.old.items queries.new.items) }
 {
     for (name, group) in world.config.mapping().groups() {
         add_group(queries, policy, world, id, volume, *name, group)?;
@@ -103,8 +104,8 @@ fn add_groups<A: Allocator + Copy>(
     Ok(())
 }
 
-/// The reads that are open to the caller of the things on the way from a host to a volume: of the host
-/// and the ports that it holds, of the volume, and of the storage groups that map it.
+/// The reads that are open to the caller of the things on the way from a host to a volume, in this order:
+/// of the host, of the ports that it holds, of the volume, and of the storage groups that map it.
 ///
 /// # Errors
 /// `AllocError` where there is no memory.
@@ -126,8 +127,8 @@ fn way_queries<A: Allocator + Copy>(
     Ok(queries)
 }
 
-/// What the reads show of the things on the way from a host to a volume that are the caller's: the host
-/// and its ports, the volume, and the storage groups that map it.
+/// What the reads show of the things on the way from a host to a volume that are the caller's, each once
+/// and in this order: the host, its ports, the volume, and the storage groups that map it.
 ///
 /// It goes once through the known ports and once through the storage groups.
 ///

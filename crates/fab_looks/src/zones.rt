@@ -1,8 +1,7 @@
 //! The zones of a port.
-ghost use Rattle.std.specs.Prelude.{Contains, OnOk};
-ghost use Rattle.fab_looks.specs.Inner.Gathered.{IsZoneRead};
-ghost use Rattle.fab_looks.specs.PortWays.{ZoneQuery};
-ghost use Rattle.fab_reach_base.specs.Adding.{Adds};
+ghost use Rattle.std.specs.Prelude.{◌≡◌, ◌++◌, OnOk};
+ghost use Rattle.fab_looks.specs.Inner.Gathered.{Appends, zone_reads};
+ghost use Rattle.fab_looks.specs.PortWays.{AreZoneReads, IsOwnZone};
 
 use crate::listing::{Kind, list};
 use fab_desk_base::Query;
@@ -13,14 +12,14 @@ use fab_world::World;
 use std::alloc::{AllocError, Allocator};
 use std::collections::BTreeSet;
 
-/// Adds the reads of those of the zones that a port is in.
+/// Adds the reads of those of the zones that a port is in, in the order of the names.
 fn add_those<A: Allocator + Copy>(
     queries: &mut Vec<Query, A>,
     zones: &PortZones<'_, A>,
     fabric: Fabric,
     names: &BTreeSet<Name, A>,
 ) -> Result<(), AllocError>
-    ensures { OnOk result (Adds (IsZoneRead zones.now fabric names.now.keys) (Contains queries.old.items) (Contains queries.new.items)) }
+    ensures { OnOk result (queries.new.items ≡ queries.old.items ++ zone_reads zones.now fabric names.now.keys) }
 {
     for name in names {
         if zones.contains(name) {
@@ -33,8 +32,8 @@ fn add_those<A: Allocator + Copy>(
     Ok(())
 }
 
-/// Adds the reads of the active zones that have the port where it is logged in, if they are open to the
-/// caller: they are where a zone of this name is defined.
+/// Adds the reads of the active zones that have the port where it is logged in, in the order of their names,
+/// if they are open to the caller: they are where a zone of this name is defined.
 pub fn add_zones<A: Allocator + Copy>(
     alloc: A,
     queries: &mut Vec<Query, A>,
@@ -43,7 +42,7 @@ pub fn add_zones<A: Allocator + Copy>(
     id: CallerId,
     name: &Wwn,
 ) -> Result<(), AllocError>
-    ensures { OnOk result (Adds (ZoneQuery policy.now world.now id name.now) (Contains queries.old.items) (Contains queries.new.items)) }
+    ensures { OnOk result (Appends (AreZoneReads (IsOwnZone policy.now world.now id name.now)) queries.old.items queries.new.items) }
 {
     let Some(port) = world.inventory.port(name) else {
         return Ok(());

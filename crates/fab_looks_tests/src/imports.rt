@@ -171,15 +171,17 @@ fn imported<R: Abort + AllocGlobal, B: PathBook<Global>>(
     try_import(rt.alloc(), world, &mut book, policy, token, 0, fabric, rows)
 }
 
-/// Whether this is the text or the JSON of what the import would do.
+/// Whether this is what the import would do: its JSON, where it begins with a brace, and else its text.
 fn is_printed(
     rt: &impl AllocGlobal,
     tried: &TriedImport<Global>,
     most_lost: Option<u64>,
     wanted: &str,
 ) -> bool {
+    if wanted.starts_with('{') {
+        return is_text(rt, &ImportJson { tried, most_lost }, wanted);
+    }
     is_text(rt, &ImportText { tried, most_lost }, wanted)
-        || is_text(rt, &ImportJson { tried, most_lost }, wanted)
 }
 
 /// Whether the import would do what the case says.

@@ -4,7 +4,7 @@ use crate::stock::{caller, made, name};
 use fab_inventory::HolderKind;
 use fab_looks::{Kind, list, list_ports, told, who_told};
 use fab_looks_base::Why;
-use fab_looks_ways::{pairs_told, reachers_told};
+use fab_looks_ways::{Reacher, pairs_told, reachers_told};
 use fab_names::{Fabric, Name, Wwn};
 use fab_plans::trial;
 use fab_plans_text::read_plan;
@@ -13,7 +13,7 @@ use fab_test_alloc::Refusing;
 use fab_test_machine::{ADA, policy};
 use fab_wire_requests::port_list::read_ports;
 use fab_world::World;
-use std::alloc::Global;
+use std::alloc::{AllocError, Global};
 use std::process::Abort;
 
 /// Memory of which one request may be refused.
@@ -125,48 +125,23 @@ fn world_over<'a>(rt: &(impl Abort + AllocGlobal), alloc: Heap<'a>) -> World<Hea
     world
 }
 
-/// How much is told of a host and a volume, if there is memory.
-fn told_of_both<'a>(
-    alloc: Heap<'a>,
-    policy: &Policy,
-    world: &World<Heap<'a>>,
-    id: CallerId,
-    host: &Name,
-    volume: &Name,
-    look: Look,
-) -> Option<usize> {
-    match look {
-        Look::Why => match told(alloc, policy, world, id, host, volume).ok()? {
-            Why::Reaches(paths) => Some(paths.len()),
-            Why::Missing(_) => None,
-        },
-        Look::Pairs => Some(
-            pairs_told(alloc, policy, world, id, host, volume)
-                .ok()?
-                .len(),
-        ),
-        _ => None,
+/// How many paths an answer tells.
+fn paths_in(why: &Why<Heap<'_>>) -> usize {
+    match why {
+        Why::Reaches(paths) => paths.len(),
+        Why::Missing(_) => 0,
     }
 }
 
-/// How much is told of a volume, if there is memory.
-fn told_of_volume<'a>(
-    alloc: Heap<'a>,
-    policy: &Policy,
-    world: &World<Heap<'a>>,
-    id: CallerId,
-    volume: &Name,
-    look: Look,
-) -> Option<usize> {
-    if matches!(look, Look::Who) {
-        return Some(who_told(alloc, policy, world, id, volume).ok()?.len());
+/// How many storage groups and logical unit numbers are told of the first host.
+fn told_of_first(reachers: &[Reacher<Heap<'_>>]) -> usize {
+    match reachers.first() {
+        Some(first) => first.groups.len().saturating_add(first.units.len()),
+        None => 0,
     }
-    let reachers = reachers_told(alloc, policy, world, id, volume).ok()?;
-    let reacher = reachers.first()?;
-    Some(reacher.groups.len().saturating_add(reacher.units.len()))
 }
 
-/// How much is told, if there is memory.
+/// How much is told.
 fn told_of<'a>(
     rt: &impl Abort,
     alloc: Heap<'a>,
@@ -174,24 +149,23 @@ fn told_of<'a>(
     world: &World<Heap<'a>>,
     id: CallerId,
     look: Look,
-) -> Option<usize> {
+) -> Result<usize, AllocError> {
     let (host, volume) = (name(rt, "db1"), name(rt, "v1"));
-    match look {
-        Look::Why | Look::Pairs => told_of_both(alloc, policy, world, id, &host, &volume, look),
-        Look::Who | Look::Reachers => told_of_volume(alloc, policy, world, id, &volume, look),
-        Look::Names => Some(
-            list(alloc, policy, world, id, Kind::Zones(Fabric::A))
-                .ok()?
-                .len(),
-        ),
-        Look::Ports => Some(list_ports(alloc, world).ok()?.len()),
-    }
+    let count = match look {
+        Look::Why => paths_in(&told(alloc, policy, world, id, &host, &volume)?),
+        Look::Who => who_told(alloc, policy, world, id, &volume)?.len(),
+        Look::Names => list(alloc, policy, world, id, Kind::Zones(Fabric::A))?.len(),
+        Look::Ports => list_ports(alloc, world)?.len(),
+        Look::Pairs => pairs_told(alloc, policy, world, id, &host, &volume)?.len(),
+        Look::Reachers => told_of_first(&reachers_told(alloc, policy, world, id, &volume)?),
+    };
+    Ok(count)
 }
 
 /// How many requests a look makes at most.
 const MOST: u64 = 100;
 
-/// Whether all is told, or want of memory where the request after so many is refused.
+/// Whether just so much is told, or want of memory where the request after so many is refused.
 fn is_refused<'a>(
     rt: &impl Abort,
     alloc: Heap<'a>,
@@ -203,8 +177,8 @@ fn is_refused<'a>(
 ) -> bool {
     alloc.refuse_after(requests);
     match told_of(rt, alloc, policy, world, id, case.0) {
-        Some(count) => count == case.1,
-        None => alloc.has_refused(),
+        Ok(count) => count == case.1,
+        Err(_) => alloc.has_refused(),
     }
 }
 

@@ -157,9 +157,12 @@ fn planned<R: Abort + AllocGlobal, B: PathBook<Global>>(
     try_plan(rt.alloc(), world, &mut book, policy, token, 0, plan)
 }
 
-/// Whether this is the text or the JSON of what the plan would do.
+/// Whether this is what the plan would do: its JSON, where it begins with a brace, and else its text.
 fn is_printed(rt: &impl AllocGlobal, tried: &TriedPlan<Global>, wanted: &str) -> bool {
-    is_text(rt, &PlanText(tried), wanted) || is_text(rt, &PlanJson(tried), wanted)
+    if wanted.starts_with('{') {
+        return is_text(rt, &PlanJson(tried), wanted);
+    }
+    is_text(rt, &PlanText(tried), wanted)
 }
 
 /// Whether the plan would do what the case says.

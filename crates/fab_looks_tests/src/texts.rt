@@ -104,7 +104,7 @@ const REPORTS: &[Lines] = &[
 /// each with its members; and its text.
 struct Active {
     fabric: Fabric,
-    set: &'static str,
+    set: Option<&'static str>,
     flag: DefaultFlag,
     zones: &'static [(&'static str, &'static [&'static str])],
     text: &'static str,
@@ -113,14 +113,14 @@ struct Active {
 const ACTIVE: &[Active] = &[
     Active {
         fabric: Fabric::A,
-        set: "",
+        set: None,
         flag: DefaultFlag::Deny,
         zones: &[],
         text: "fabric A\nactive -\ndefault deny\n",
     },
     Active {
         fabric: Fabric::B,
-        set: "s1",
+        set: Some("s1"),
         flag: DefaultFlag::Permit,
         zones: &[
             (
@@ -203,11 +203,19 @@ fn zones_of(
     list
 }
 
+/// The name of a set, if there is one.
+fn set_of(rt: &impl Abort, text: Option<&str>) -> Option<Name> {
+    match text {
+        Some(text) => Some(Name::read(text).expect(rt, "a name")),
+        None => None,
+    }
+}
+
 /// Whether the active set has this text.
 fn active_is_right(rt: &(impl Abort + AllocGlobal), case: &Active) -> bool {
     let zones = zones_of(rt, case.zones);
     let mut writer = Counted::new(Vec::new(rt.alloc()));
-    let set = Name::read(case.set).ok();
+    let set = set_of(rt, case.set);
     let done = active_text(&mut writer, case.fabric, set, case.flag, zones.as_slice()).is_ok();
     done && writer.into_inner().as_slice() == case.text.as_bytes()
 }

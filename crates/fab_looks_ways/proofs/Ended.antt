@@ -28,7 +28,8 @@ use Rattle.fab_world.specs.Worlds.{WorldRows, records_of}
 use Rattle.fab_desk_base.specs.Tenants.{Has}
 use Rattle.fab_looks.specs.Told.{SeesHost, SeesVolume}
 use Rattle.fab_looks_ways.specs.Inner.Gathering.{PortEnds, PortsEnds, TargetEnds, TargetsEnds, GroupEnds, GroupsEnds, IsEndsOf, AreEndsOf}
-use Rattle.fab_looks_ways.specs.Pairs.{HasEnds, IsOwnMapping, IsPair, IsUpAt, ends_cmp, ends_order}
+use Rattle.fab_looks_ways.specs.Pairs.{HasEnds, IsPair, IsUpAt, ends_cmp, ends_order}
+use Rattle.fab_looks.specs.Ways.{IsOwnMapping}
 use Rattle.fab_looks_ways.specs.declared.ends.Ends.{Ends}
 use Rattle.fab_looks_ways.proofs.EndsOrder.{ends_total, ends_exact}
 

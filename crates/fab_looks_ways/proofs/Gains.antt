@@ -17,7 +17,7 @@ use Rattle.fab_desk_base.specs.Showing.{IsOpenTo}
 use Rattle.fab_desk_base.specs.Tenants.{Has}
 use Rattle.fab_desk_base.specs.declared.command.Query.TheVariants as query
 use Rattle.fab_looks_ways.specs.Inner.Gathering.{IsOwnEntry}
-use Rattle.fab_looks_ways.specs.Pairs.{IsOwnMapping}
+use Rattle.fab_looks.specs.Ways.{IsOwnMapping}
 
 -- an insertion adds its name
 pub adds_name : (s n : BTreeSet (List ℕ)) (k : List ℕ) → ((q : List ℕ) → contains name_cmp n q ≡ cond (is_at (name_cmp k) q) true (contains name_cmp s q)) → Adds (λ y. y ≡ k) (Has s) (Has n)

@@ -29,7 +29,7 @@ use Rattle.fab_looks.specs.Seeing.{AreTold}
 use Rattle.fab_looks_base.specs.declared.reaching.Counts.{Counts}
 use Rattle.fab_looks_ways.specs.Inner.Offers.{HasUnit, IsOfferOf}
 use Rattle.fab_looks_ways.specs.Offers.{AreToldReachers, HasTenant, IsOffer, IsUnitAt, IsUnitOf, TellsReacher}
-use Rattle.fab_looks_ways.specs.Pairs.{IsOwnMapping}
+use Rattle.fab_looks.specs.Ways.{IsOwnMapping}
 use Rattle.fab_looks_ways.specs.declared.reachers.Reacher.{Reacher}
 
 -- ---- storage groups

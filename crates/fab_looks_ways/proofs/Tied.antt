@@ -23,7 +23,6 @@ use Rattle.fab_reach_base.specs.Reach.{IsPort}
 use Rattle.fab_reach_base.specs.Records.{Records, zoning_at}
 use Rattle.fab_reach_base.proofs.Same.{same_some, same_fabric}
 use Rattle.fab_desk_base.specs.Tenants.{Has}
-use Rattle.fab_looks.proofs.Gathered.{adds_both}
 use Rattle.fab_looks_ways.specs.Inner.Ties.{AreZonesAt, IsMemo}
 use Rattle.fab_looks_ways.specs.Pairs.{AreZonesOf, told_as}
 use Rattle.fab_looks_ways.specs.declared.zoned.Zoned.{Zoned}
@@ -42,6 +41,14 @@ some_of true b c d h = refl
 some_of false true c d h = refl
 some_of false false true d h = refl
 some_of false false false d h = elim h [ inl e ↦ absurd cc | inr (inl e) ↦ absurd cc | inr (inr (inl e)) ↦ absurd cc | inr (inr (inr e)) ↦ e ]
+
+-- some and then others
+adds_both : {Y : Type 0} (P Q old mid new : Y → Type 0) → Adds P old mid → Adds Q mid new → Adds (λ y. P y ⊎ Q y) old new
+adds_both P Q old mid new a b = record {
+  sound = λ y h. elim (b.sound y h) [ inl m ↦ elim (a.sound y m) [ inl o ↦ inl o | inr p ↦ inr (inl p) ] | inr q ↦ inr (inr q) ];
+  kept = λ y h. b.kept y (a.kept y h);
+  there = λ y h. elim h [ inl p ↦ b.kept y (a.there y p) | inr q ↦ b.there y q ];
+}
 
 -- a name of one of the sets
 abbrev pub InSet : Option (BTreeSet (List ℕ)) → List ℕ → Type 0

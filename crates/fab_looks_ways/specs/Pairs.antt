@@ -15,15 +15,14 @@ use Rattle.fab_reach_base.specs.fab_inventory.declared.port.Port.{Port}
 use Rattle.fab_reach_base.specs.fab_zoning.Joins.{Joined, IsFirstZone, InDefaultZone}
 use Rattle.fab_reach_base.specs.fab_zoning.Zonings.{FabricZoning}
 use Rattle.fab_reach_base.specs.fab_zoning_rows.Holding.{Holds, IsLoggedInAt}
-use Rattle.fab_reach_base.specs.fab_mapping_base.Groups.{StorageGroupRows, MapsVolume}
+use Rattle.fab_reach_base.specs.fab_mapping_base.Groups.{StorageGroupRows}
 use Rattle.fab_reach_base.specs.Gathering.{Serves}
 use Rattle.fab_reach_base.specs.Reach.{IsPort}
 use Rattle.fab_reach_base.specs.Records.{Records, zoning_at}
 use Rattle.fab_policy.specs.fab_policy_base.Policies.{PolicyRows}
 use Rattle.fab_world.specs.Worlds.{WorldRows, records_of}
-use Rattle.fab_desk_base.specs.Showing.{IsOpenTo}
-use Rattle.fab_desk_base.specs.declared.command.Query.TheVariants as query
 use Rattle.fab_looks.specs.Told.{SeesHost, SeesVolume}
+use Rattle.fab_looks.specs.Ways.{IsOwnMapping}
 use Rattle.fab_looks_ways.specs.contracts.ends.EndsOrd.TheImpl as ends
 use Rattle.fab_looks_ways.specs.declared.ends.Ends.{Ends}
 use Rattle.fab_looks_ways.specs.declared.pairing.Pair.{Pair}
@@ -51,10 +50,6 @@ HasEnds s e = IsTrue (contains ends_cmp s e)
 -- the port of this name is known, and logged in at the fabric
 abbrev pub IsUpAt : Records → Fabric → ℕ → Type 0
 IsUpAt w f a = (x : Port) × IsPort w a x × IsLoggedInAt f x
-
--- a storage group of this name maps the volume, and its read is open to the caller
-abbrev pub IsOwnMapping : PolicyRows → WorldRows → ℕ → List ℕ → List ℕ → Type 0
-IsOwnMapping p w id volume n = (g : StorageGroupRows) × (map.get w.config.mapping.groups n ≡ Some g) × MapsVolume volume g × IsOpenTo p w id (query.Group n)
 
 -- the storage group of this name serves the host, and has the target
 abbrev pub IsServedTarget : Records → List ℕ → List ℕ → ℕ → Type 0

@@ -2,7 +2,7 @@
 ghost use Rattle.std.specs.Prelude.{◌↔◌, ℕ, List, OnOk, IfOk};
 ghost use Rattle.fab_desk_base.specs.Tenants.{Has};
 ghost use Rattle.fab_looks_ways.specs.Inner.Gathering.{IsOwnEntry};
-ghost use Rattle.fab_looks_ways.specs.Pairs.{IsOwnMapping};
+ghost use Rattle.fab_looks.specs.Ways.{IsOwnMapping};
 ghost use Rattle.fab_reach_base.specs.Adding.{Adds};
 
 use fab_desk_base::Query;

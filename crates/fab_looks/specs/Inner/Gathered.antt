@@ -1,7 +1,9 @@
 -- Reads that are gathered.
-use Rattle.std.specs.Prelude.{ℕ, ◌≡◌, List, Contains, true}
+use Rattle.std.specs.Prelude.{ℕ, ◌≡◌, List, ◌++◌, map, true}
+use Rattle.std.specs.List.{filter}
 use Rattle.std.specs.FinSet as set
 use Rattle.fab_reach_base.specs.fab_names.declared.fabric.Fabric.{Fabric}
+use Rattle.fab_reach_base.specs.fab_inventory.declared.holder.HolderKind.TheVariants as kind
 use Rattle.fab_reach_base.specs.fab_mapping_base.Groups.{StorageGroupRows, MapsVolume}
 use Rattle.fab_policy.specs.fab_policy_base.Policies.{PolicyRows}
 use Rattle.fab_world.specs.Worlds.{WorldRows}
@@ -9,11 +11,15 @@ use Rattle.fab_desk_base.specs.declared.command.Query.{Query}
 use Rattle.fab_desk_base.specs.declared.command.Query.TheVariants as query
 use Rattle.fab_reach_base.specs.fab_zoning_rows.PortZones.{in_zones}
 use Rattle.fab_reach_base.specs.fab_zoning_rows.declared.port_zones.PortZones.{PortZones}
-use Rattle.fab_looks.specs.Ways.{IsOpenQuery}
+use Rattle.fab_looks.specs.Ways.{ArePortReads, IsOneAtMost, IsOpenQuery, IsOwnPort}
 
--- it is the read of one of the ports
-abbrev pub IsPortQuery : List ℕ → Query → Type 0
-IsPortQuery ports q = (a : ℕ) × Contains ports a × (q ≡ query.Port a)
+-- more reads, which have P, stand behind those that were there
+abbrev pub Appends : (List Query → Type 0) → List Query → List Query → Type 0
+Appends P old new = (more : List Query) × P more × (new ≡ old ++ more)
+
+-- the reads that are open to the caller of the host and then of the ports that it holds
+abbrev pub AreOfHost : PolicyRows → WorldRows → ℕ → List ℕ → List Query → Type 0
+AreOfHost p w id host qs = (hosts ports : List Query) × IsOneAtMost (IsOpenQuery p w id (query.Holder kind.Host host)) hosts × ArePortReads (IsOwnPort p w id host) ports × (qs ≡ hosts ++ ports)
 
 -- the storage group of the entry maps the volume, and it is its read, which is open to the caller
 abbrev pub IsMappedQuery : PolicyRows → WorldRows → ℕ → List ℕ → List ℕ × StorageGroupRows → Query → Type 0
@@ -23,10 +29,6 @@ IsMappedQuery p w id volume e q = MapsVolume volume e.1 × IsOpenQuery p w id (q
 abbrev pub IsTargetedQuery : PolicyRows → WorldRows → ℕ → ℕ → List ℕ × StorageGroupRows → Query → Type 0
 IsTargetedQuery p w id a e q = (set.contains e.1.targets a ≡ true) × IsOpenQuery p w id (query.Group e.0) q
 
--- it is the read of this zone, in which a port is
-abbrev pub IsReadOf : {A : Type 0} → PortZones A → Fabric → List ℕ → Query → Type 0
-IsReadOf zones f n q = (in_zones zones n ≡ true) × (q ≡ query.Zone f n)
-
--- and that of one of these zones
-abbrev pub IsZoneRead : {A : Type 0} → PortZones A → Fabric → List (List ℕ) → Query → Type 0
-IsZoneRead zones f names q = (n : List ℕ) × Contains names n × IsReadOf zones f n q
+-- the reads of those of the zones in which a port is, in the order of the names
+abbrev pub zone_reads : {A : Type 0} → PortZones A → Fabric → List (List ℕ) → List Query
+zone_reads zones f names = map (λ (z : List ℕ). query.Zone f z) (filter (in_zones zones) names)

@@ -13,7 +13,8 @@ use Rattle.fab_world.specs.Worlds.{WorldRows, records_of}
 use Rattle.fab_desk_base.specs.Showing.{IsOpenTo}
 use Rattle.fab_desk_base.specs.Tenants.{Has}
 use Rattle.fab_desk_base.specs.declared.command.Query.TheVariants as query
-use Rattle.fab_looks_ways.specs.Pairs.{HasEnds, IsOwnMapping, IsServedTarget, IsUpAt}
+use Rattle.fab_looks_ways.specs.Pairs.{HasEnds, IsServedTarget, IsUpAt}
+use Rattle.fab_looks.specs.Ways.{IsOwnMapping}
 use Rattle.fab_looks_ways.specs.declared.ends.Ends.{Ends}
 
 -- the storage group of the entry maps the volume, its read is open to the caller, and it is its name

@@ -1,16 +1,14 @@
-use Rattle.std.proofs.Common.{Contains, sym, ◌∙◌}
+use Rattle.std.proofs.Common.{◌≡◌, true, sym, ◌∙◌}
 use mathlib.Core.Bool.{true≢false}
-use Rattle.fab_reach_base.proofs.Adding.{adds_none, adds_as}
-use Rattle.fab_desk_base.specs.declared.command.Query.TheVariants as query
-use Rattle.fab_looks.specs.Inner.Gathered.{IsTargetedQuery}
-use Rattle.fab_looks.specs.Ways.{IsOpenQuery}
+use Rattle.std.specs.FinSet as set
+use Rattle.fab_reach_base.specs.fab_mapping_base.Groups.{StorageGroupRows}
+use Rattle.fab_looks.proofs.Gathered.{group_passed, group_read}
 use Rattle.fab_looks.proofs.around.add_targeted.Goals as goal
 
 pub returns-then-not-has_target : goal.returns-then-not-has_target
 returns-then-not-has_target g c =
-    adds_none (IsTargetedQuery c.args.policy.now c.args.world.now c.args.id c.args.port.now (c.args.name, c.args.group.now)) (Contains c.args.queries.now.items) (λ q h. true≢false (sym h.0 ∙ sym c.has_target.ensures ∙ c.if-not-has_target.true))
+    group_passed c.args.policy.now c.args.world.now c.args.id (λ (h : StorageGroupRows). set.contains h.targets c.args.port.now ≡ true) (c.args.name, c.args.group.now) c.args.queries.now.items (λ h. true≢false (sym h ∙ sym c.has_target.ensures ∙ c.if-not-has_target.true))
 
 pub returns : goal.returns
 returns g c =
-    adds_as (IsOpenQuery c.args.policy.now c.args.world.now c.args.id (query.Group c.args.name)) (IsTargetedQuery c.args.policy.now c.args.world.now c.args.id c.args.port.now (c.args.name, c.args.group.now)) (Contains c.args.queries.now.items) (Contains c.add_open.new.queries.items)
-    (λ q o. (sym c.has_target.ensures ∙ c.if-not-has_target.false, o)) (λ q h. h.1) c.in_ok-add_open.ensures
+    group_read c.args.policy.now c.args.world.now c.args.id (λ (h : StorageGroupRows). set.contains h.targets c.args.port.now ≡ true) (c.args.name, c.args.group.now) c.args.queries.now.items c.add_open.new.queries.items (sym c.has_target.ensures ∙ c.if-not-has_target.false) c.in_ok-add_open.ensures

@@ -1,8 +1,6 @@
-use Rattle.std.proofs.Common.{take, Contains}
-use Rattle.fab_reach_base.specs.Adding.{Adds}
-use Rattle.fab_reach_base.proofs.Adding.{Before}
-use Rattle.fab_looks.proofs.Gathered.{ByPort}
+use Rattle.std.proofs.Common.{◌≡◌, ℕ, ◌++◌, map, take}
+use Rattle.fab_desk_base.specs.declared.command.Query.TheVariants as query
 use Rattle.fab_looks.proofs.way.add_ports.Given as goal
 
 abbrev pub invariant-loop-port : goal.invariant-loop-port
-invariant-loop-port g l = Adds (Before ByPort (take l.port-index l.ports)) (Contains l.fn.queries.items) (Contains l.queries.items)
+invariant-loop-port g l = l.queries.items ≡ l.fn.queries.items ++ map (λ (a : ℕ). query.Port a) (take l.port-index l.ports)

@@ -1,4 +1,4 @@
-use Rattle.fab_looks_ways.specs.Pairs.{IsOwnMapping}
+use Rattle.fab_looks.specs.Ways.{IsOwnMapping}
 use Rattle.fab_looks_ways.proofs.Gains.{names_from}
 use Rattle.fab_looks_ways.proofs.groups.own_groups.Goals as goal
 
