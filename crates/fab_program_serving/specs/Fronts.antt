@@ -3,7 +3,7 @@ use Rattle.std.specs.Prelude.{ℕ, ◌≡◌, List, Bool, None, is_none}
 use Rattle.fab_wire_serving.specs.Sides.{Side, Sides}
 use Rattle.fab_store.specs.declared.OpenFault.{OpenFault}
 use Rattle.fab_store.specs.declared.Store as store
-use Rattle.fab_wire_base.specs.Whole.{IsWhole}
+use Rattle.fab_wire_base.specs.Whole.{IsWhole, Lacks}
 use Rattle.fab_wire.specs.Desks.{IsOpened, IsUnopened}
 use Rattle.fab_wire.specs.Handled.{policy_of, world_of, serving_of}
 use Rattle.fab_wire.specs.Known.{is_known}
@@ -19,6 +19,10 @@ is_halted_desk d = is_none (serving_of d)
 -- whatever comes behind these bytes, a connection asks what they ask
 abbrev pub IsWholeDesk : {A S B R : Type 0} → Desk A S B R → List ℕ → Type 0
 IsWholeDesk d bytes = IsWhole (is_known (policy_of d)) bytes
+
+-- no head is there yet, or some of its body is lacking: so many bytes have to be there
+abbrev pub LacksDesk : {A S B R : Type 0} → Desk A S B R → List ℕ → ℕ → Type 0
+LacksDesk d bytes size = Lacks (is_known (policy_of d)) bytes size
 
 -- the store that was left aside is let go of
 abbrev pub ReleasesDesk : {A S B R : Type 0} → Desk A S B R → Desk A S B R → Type 0

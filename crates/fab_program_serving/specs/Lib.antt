@@ -1,3 +1,4 @@
 pub mod Fronts
+pub mod FrontLaws
 pub mod Servings
 pub mod Once

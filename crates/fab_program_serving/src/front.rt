@@ -31,7 +31,8 @@ impl<S: Store<Global>> Server for Front<S> {
 
     type Outcome = Outcome;
 
-    ghost use Rattle.fab_program_serving.specs.Fronts.{is_halted_desk, IsWholeDesk, ServesDesk, ReleasesDesk, ReopensDesk, RefusesDesk};
+    ghost use Rattle.fab_program_serving.specs.FrontLaws.{forgets_desk};
+    ghost use Rattle.fab_program_serving.specs.Fronts.{is_halted_desk, IsWholeDesk, LacksDesk, ServesDesk, ReleasesDesk, ReopensDesk, RefusesDesk};
     ghost use Rattle.fab_wire_log.specs.Shown.{shown_text};
     ghost use Rattle.fab_wire.specs.Telling.{outcome_text};
 
@@ -39,9 +40,13 @@ impl<S: Store<Global>> Server for Front<S> {
 
     ghost serves = { λ f moment before after outcome g. ServesDesk S.Store f.desk moment before after outcome g.desk };
 
+    ghost forgets = { λ old moment input sent until after outcome new served. forgets_desk S.Store old.desk moment input sent until after outcome new.desk served };
+
     ghost shows = { outcome_text };
 
     ghost is_whole = { λ f bytes. IsWholeDesk f.desk bytes };
+
+    ghost lacking = { λ f bytes size. LacksDesk f.desk bytes size };
 
     ghost releases = { λ f g. ReleasesDesk f.desk g.desk };
 

@@ -1,5 +1,5 @@
 -- What clauses see of a stream with a deadline. Times are nanoseconds on the monotonic clock.
-use Rattle.std.specs.Prelude.{ℕ, ◌≡◌, ◌+◌, ◌*◌, ◌^◌, ◌⊎◌, nat_lt, max, if◌then◌else◌, Result, Ok, Err}
+use Rattle.std.specs.Prelude.{ℕ, ◌≡◌, ◌+◌, ◌-◌, ◌*◌, ◌^◌, ◌⊎◌, nat_lt, max, min, if◌then◌else◌, Result, Ok, Err}
 use Rattle.std.specs.Time.{instant_nanos}
 use Rattle.fab_wire_gathering.specs.declared.deadline.Deadline.{Deadline}
 use Rattle.fab_wire_gathering.specs.declared.deadline.Timed.{Timed}
@@ -33,6 +33,10 @@ seen_at t = seen_by t.deadline
 -- the clock was read
 abbrev pub HasSeen : {C S : Type 0} → (C → ℕ → Type 0) → Timed C S → Timed C S → Type 0
 HasSeen tells old new = (reading : ℕ) × tells (clock_of old) reading × (seen_at new ≡ max (seen_at old) reading)
+
+-- from a reading of the clock on there is as much time as was left, and no more than so much
+abbrev pub IsHastened : {C S : Type 0} → ℕ → ℕ → Timed C S → Timed C S → Type 0
+IsHastened reading most old new = end_at new ≡ end_after reading (min (end_at old - max (seen_at old) reading) most)
 
 -- there was no time left: the call failed, and the stream was not asked
 abbrev pub IsOver : {C S A E : Type 0} → Timed C S → Timed C S → Result A E → Type 0

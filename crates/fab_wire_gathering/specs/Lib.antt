@@ -1,1 +1,3 @@
 pub mod Deadlines
+pub mod Guests
+pub mod Pieces

@@ -1,16 +1,16 @@
 //! A stream whose reads and writes end in time.
 
-ghost use Rattle.std.specs.Prelude.{◌≡◌, ◌<◌, ◌≤◌, ◌+◌, ◌⊎◌, ℕ, Some, max, min, IfSome, IfNone, IfOk, IsErrAnd, OnOk};
+ghost use Rattle.std.specs.Prelude.{◌≡◌, ◌<◌, ◌≤◌, ◌+◌, ◌⊎◌, ℕ, Some, max, min, IfSome, IfNone, IfOk, IsErrAnd, OnOk, OnErr};
 ghost use Rattle.std.specs.Duration.{as_nanos};
 ghost use Rattle.std.specs.Io.{ReadsAtMost, WritesAtMost};
 ghost use Rattle.std.specs.Io.KnownBytes.{Keeps, ReadConsumes, WriteAppends};
 ghost use Rattle.std.specs.IoError.{error_kind};
 ghost use Rattle.std.specs.Time.{instant_nanos};
-ghost use Rattle.fab_wire_gathering.specs.Deadlines.{end_after, end_of, seen_by, clock_of, stream_of, end_at, seen_at, HasSeen, IsOver, IsAsked};
+ghost use Rattle.fab_wire_gathering.specs.Deadlines.{end_after, end_of, seen_by, clock_of, stream_of, end_at, seen_at, HasSeen, IsOver, IsAsked, IsHastened};
 
 use crate::bounds::Bounded;
 use crate::clock::Ticks;
-use crate::stream::Stream;
+use crate::stream::{Sink, Source};
 use std::io;
 use std::io::{ErrorKind, Read, Write};
 use std::time::{Duration, Instant};
@@ -67,7 +67,7 @@ impl Deadline {
 
     /// Puts the deadline off, where the clock does not end before.
     pub fn put_off(&mut self, by: Duration)
-        ensures end { (end_of self.new ≡ end_of self.old + as_nanos by) ⊎ (end_of self.new ≡ end_of self.old) }
+        ensures end { end_of self.new ≡ end_after (end_of self.old) (as_nanos by) }
         ensures seen { seen_by self.new ≡ seen_by self.old }
     {
         if let Some(end) = self.end.checked_add(by) {
@@ -146,6 +146,9 @@ impl<'c, C: Ticks, S> Timed<'c, C, S> {
         ensures stream { stream_of self.new ≡ stream_of self.old }
         ensures sooner { end_at self.new ≤ end_at self.old }
         ensures soon { OnOk result ((reading : ℕ) × C.tells (clock_of self.old) reading × (end_at self.new ≤ reading + as_nanos most)) }
+        ensures hastened { OnOk result ((reading : ℕ) × C.tells (clock_of self.old) reading × IsHastened reading (as_nanos most) self.old self.new) }
+        ensures kept { OnErr result (end_at self.new ≡ end_at self.old) }
+        ensures late { OnErr result (C.fails (clock_of self.old) ⊎ (end_at self.new ≤ seen_at self.new)) }
     {
         let reading = self.clock.reading()?;
         match self.deadline.left(reading) {
@@ -158,7 +161,7 @@ impl<'c, C: Ticks, S> Timed<'c, C, S> {
     }
 }
 
-impl<'c, C: Ticks, S: Stream> Timed<'c, C, S> {
+impl<'c, C: Ticks, S: Sink> Timed<'c, C, S> {
     /// Tells the other side that nothing more is sent.
     ///
     /// # Errors
@@ -166,6 +169,7 @@ impl<'c, C: Ticks, S: Stream> Timed<'c, C, S> {
     pub fn end_writing(&mut self) -> io::Result<()>
         ensures clock { clock_of self.new ≡ clock_of self.old }
         ensures end { end_at self.new ≡ end_at self.old }
+        ensures ended { S.ends (stream_of self.old) (stream_of self.new) }
     {
         self.stream.end_writing()
     }
@@ -175,7 +179,7 @@ impl<'c, C: Ticks, S> Bounded for Timed<'c, C, S> {
     ghost until = { λ timed. Some (end_at timed) };
 }
 
-impl<'c, C: Ticks, S: Stream> Read for Timed<'c, C, S> {
+impl<'c, C: Ticks, S: Source> Read for Timed<'c, C, S> {
     ghost remaining = { λ timed. S.remaining (stream_of timed) };
 
     /// One read of the stream, if there is time for it.
@@ -192,7 +196,7 @@ impl<'c, C: Ticks, S: Stream> Read for Timed<'c, C, S> {
     }
 }
 
-impl<'c, C: Ticks, S: Stream> Write for Timed<'c, C, S> {
+impl<'c, C: Ticks, S: Sink> Write for Timed<'c, C, S> {
     ghost contents = { λ timed. S.contents (stream_of timed) };
 
     /// One write to the stream, if there is time for it.

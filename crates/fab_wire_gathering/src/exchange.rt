@@ -1,10 +1,11 @@
 //! The request of a guest as its turn reads it, and its answer as its turn writes it.
 
-ghost use Rattle.std.specs.Prelude.{⊤};
-ghost use Rattle.std.specs.Io.{ReadsAtMost, WritesAtMost};
+ghost use Rattle.std.specs.Prelude.{◌≡◌, ◌++◌, ⊤, ℕ, take, drop, IfOk};
+ghost use Rattle.std.specs.Io.{WritesAtMost};
+ghost use Rattle.fab_wire_gathering.specs.Guests.{gathered_of, read_of};
 
 use crate::guest::{Ending, Guest};
-use crate::stream::Stream;
+use crate::stream::{Sink, Source};
 use std::alloc::Global;
 use std::cell::Cell;
 use std::io;
@@ -12,46 +13,71 @@ use std::io::{ErrorKind, Read};
 use std::net::{Shutdown, TcpStream};
 use std::time::Duration;
 
-/// What a guest has sent, and what is answered to it. Reads give the bytes that were gathered, and then
-/// what came behind them: an end, a failure, or the rest, which is read from the socket. What is written
-/// is kept, as far as there is memory, and the rest goes to the socket; of a guest whose rest is read all
-/// of it does.
+/// What a guest has sent. Reads give the bytes that were gathered, and then what came behind them: an
+/// end, a failure, or the rest, which is read from the socket.
 #[derive(Drop)]
-pub struct Exchange<'g> {
-    alloc: Global,
+pub struct Request<'g> {
     stream: &'g TcpStream,
     ending: Ending,
-    bytes: Cell<&'g [u8]>,
-    answer: Cell<Vec<u8>>,
+    bytes: &'g [u8],
 }
 
-impl<'g> Exchange<'g> {
-    /// Nothing has been read or written yet.
-    pub fn new(alloc: Global, guest: &'g Guest) -> Self {
-        Exchange {
-            alloc,
+impl<'g> Request<'g> {
+    /// Nothing has been read yet.
+    pub fn of(guest: &'g Guest) -> Self
+        ensures { read_of result.ending result.bytes.now ≡ gathered_of guest.now }
+    {
+        Request {
             stream: guest.stream(),
             ending: guest.ending(),
-            bytes: Cell::new(guest.bytes()),
-            answer: Cell::new(Vec::new(alloc)),
+            bytes: guest.bytes(),
+        }
+    }
+}
+
+impl<'g> Source for Request<'g> {
+    ghost remaining = { λ request. read_of request.ending request.bytes.now };
+
+    ghost waits = { λ before most after. ⊤ };
+
+    fn read_for(&mut self, most: Duration, buf: &mut [u8]) -> io::Result<usize> {
+        if !self.bytes.is_empty() {
+            return self.bytes.read(buf);
+        }
+        match self.ending {
+            Ending::Whole | Ending::Ended => Ok(0),
+            Ending::Failed => Err(io::Error::from(ErrorKind::TimedOut)),
+            Ending::Starved => self.stream.read_for(most, buf),
+        }
+    }
+}
+
+/// What is answered to a guest. What is written is kept, as far as there is memory, and the rest goes to
+/// the socket; of a guest whose rest is read all of it does.
+#[derive(Drop)]
+pub struct Answer<'g> {
+    alloc: Global,
+    stream: &'g TcpStream,
+    is_kept: bool,
+    kept: Cell<Vec<u8>>,
+}
+
+impl<'g> Answer<'g> {
+    /// Nothing has been written yet.
+    pub fn to(alloc: Global, guest: &'g Guest) -> Self {
+        Answer {
+            alloc,
+            stream: guest.stream(),
+            is_kept: guest.ending() != Ending::Starved,
+            kept: Cell::new(Vec::new(alloc)),
         }
     }
 
-    /// What is kept of the answer, in no more memory than that takes.
-    pub fn into_answer(self) -> Vec<u8> {
-        let mut answer = self.answer.into_inner();
-        answer.shrink_to_fit();
-        answer
-    }
-
-    /// Reads what was gathered.
-    fn read_gathered(&self, buf: &mut [u8]) -> io::Result<usize>
-        ensures { ReadsAtMost result buf.new }
-    {
-        let mut bytes = self.bytes.get();
-        let taken = bytes.read(buf)?;
-        self.bytes.set(bytes);
-        Ok(taken)
+    /// What is kept of it, in no more memory than that takes.
+    pub fn into_kept(self) -> Vec<u8> {
+        let mut kept = self.kept.into_inner();
+        kept.shrink_to_fit();
+        kept
     }
 }
 
@@ -61,7 +87,8 @@ impl<'g> Exchange<'g> {
 /// # Errors
 /// That of the socket, which waits for so long at most; then nothing is kept any more.
 fn keep(kept: &mut Vec<u8>, mut stream: &TcpStream, most: Duration, buf: &[u8]) -> io::Result<usize>
-    ensures { WritesAtMost result buf.now }
+    ensures bound { WritesAtMost result buf.now }
+    ensures kept { IfOk result (λ size. (sent : ℕ) × (kept.new.items ≡ drop sent (kept.old.items ++ take size buf.now))) }
 {
     if kept.extend_from_slice(buf).is_ok() {
         return Ok(buf.len());
@@ -77,34 +104,22 @@ fn keep(kept: &mut Vec<u8>, mut stream: &TcpStream, most: Duration, buf: &[u8]) 
     Ok(fits)
 }
 
-impl<'e, 'g> Stream for &'e Exchange<'g> {
+impl<'e, 'g> Sink for &'e Answer<'g> {
     ghost waits = { λ before most after. ⊤ };
 
-    fn read_for(&mut self, most: Duration, buf: &mut [u8]) -> io::Result<usize> {
-        if !self.bytes.get().is_empty() {
-            return self.read_gathered(buf);
-        }
-        match self.ending {
-            Ending::Whole | Ending::Ended => Ok(0),
-            Ending::Failed => Err(io::Error::from(ErrorKind::TimedOut)),
-            Ending::Starved => {
-                let mut stream = self.stream;
-                stream.read_for(most, buf)
-            }
-        }
-    }
+    ghost ends = { λ before after. ⊤ };
 
     fn write_for(&mut self, most: Duration, buf: &[u8]) -> io::Result<usize> {
-        if self.ending == Ending::Starved {
+        if !self.is_kept {
             let mut stream = self.stream;
             return stream.write_for(most, buf);
         }
-        let mut kept = self.answer.replace(Vec::new(self.alloc));
+        let mut kept = self.kept.replace(Vec::new(self.alloc));
         let went = keep(&mut kept, self.stream, most, buf);
         if went.is_err() {
             kept.clear();
         }
-        self.answer.set(kept);
+        self.kept.set(kept);
         went
     }
 

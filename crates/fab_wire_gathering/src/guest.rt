@@ -1,10 +1,17 @@
 //! One connection that is never waited for: what it has sent, and what it has taken of its answer.
 
+ghost use Rattle.std.specs.Prelude.{◌≡◌, ◌++◌, ◌⊎◌, ◌≤◌, ℕ, List, [], length};
+ghost use Rattle.std.specs.Duration.{as_nanos};
+ghost use Rattle.fab_wire_gathering.specs.Deadlines.{end_of, end_after};
+ghost use Rattle.fab_wire_gathering.specs.Guests.{WaitsSo};
+ghost use Rattle.fab_wire_gathering.specs.declared.guest.Ending.TheVariants as ending;
+ghost use Rattle.fab_wire_gathering.specs.declared.guest.Stage.TheVariants as stage;
+
 use crate::deadline::Deadline;
 use crate::framing::Framing;
-use crate::pieces::{Went, first_of, rest_of, room_in};
+use crate::pieces::{Went, first_of, room_in, write_rest};
 use std::alloc::Global;
-use std::io::{Read, Write};
+use std::io::Read;
 use std::net::{Shutdown, TcpStream};
 use std::time::{Duration, Instant};
 
@@ -71,7 +78,10 @@ pub struct Guest {
 impl Guest {
     /// A connection of which nothing has been read yet, at a reading of the clock. It is given up where
     /// its request is not there by the deadline.
-    pub fn new(alloc: Global, stream: TcpStream, now: Instant, deadline: Deadline) -> Self {
+    pub fn new(alloc: Global, stream: TcpStream, now: Instant, deadline: Deadline) -> Self
+        ensures sends { result.stage ≡ stage.Sends }
+        ensures none { result.bytes.items ≡ [] }
+    {
         Guest {
             stream,
             stage: Stage::Sends,
@@ -86,7 +96,9 @@ impl Guest {
     }
 
     /// The same, whose request is not gathered: all of it is still to be read, in its turn.
-    pub fn carried(alloc: Global, stream: TcpStream, now: Instant, deadline: Deadline) -> Self {
+    pub fn carried(alloc: Global, stream: TcpStream, now: Instant, deadline: Deadline) -> Self
+        ensures { WaitsSo ending.Starved result }
+    {
         let mut guest = Guest::new(alloc, stream, now, deadline);
         guest.wait(Ending::Starved);
         guest
@@ -98,17 +110,23 @@ impl Guest {
     }
 
     /// What it is about.
-    pub fn stage(&self) -> Stage {
+    pub fn stage(&self) -> Stage
+        ensures { result ≡ self.now.stage }
+    {
         self.stage
     }
 
     /// How the bytes of its request ended.
-    pub fn ending(&self) -> Ending {
+    pub fn ending(&self) -> Ending
+        ensures { result ≡ self.now.ending }
+    {
         self.ending
     }
 
     /// What it has sent of its request; once it is answered, its answer.
-    pub fn bytes(&self) -> &[u8] {
+    pub fn bytes(&self) -> &[u8]
+        ensures { result.now ≡ self.now.bytes.items }
+    {
         self.bytes.as_slice()
     }
 
@@ -138,19 +156,27 @@ impl Guest {
     }
 
     /// Gives it so much more time.
-    pub fn put_off(&mut self, by: Duration) {
+    pub fn put_off(&mut self, by: Duration)
+        ensures { end_of self.new.deadline ≡ end_after (end_of self.old.deadline) (as_nanos by) }
+    {
         self.deadline.put_off(by);
     }
 
     /// Its request waits for its turn from now on.
-    fn wait(&mut self, ending: Ending) {
+    fn wait(&mut self, ending: Ending)
+        ensures waits { WaitsSo ending self.new }
+        ensures bytes { self.new.bytes ≡ self.old.bytes }
+    {
         self.ending = ending;
         self.stage = Stage::Waits;
     }
 
     /// Goes on as far as it can without waiting, by a piece of room for what is read. It says whether
     /// something may be left that did not have to wait.
-    pub fn go_on<F: Framing>(&mut self, framing: &F, piece: &mut [u8], now: Instant) -> bool {
+    pub fn go_on<F: Framing>(&mut self, framing: &F, piece: &mut [u8], now: Instant) -> bool
+        ensures whole { self.old.stage ≡ stage.Sends → WaitsSo ending.Whole self.new → F.is_whole framing.now self.new.bytes.items }
+        ensures sent { self.old.stage ≡ stage.Takes → self.new.bytes ≡ self.old.bytes }
+    {
         match self.stage {
             Stage::Sends => self.receive(framing, piece, now),
             Stage::Takes => self.send(),
@@ -169,7 +195,10 @@ impl Guest {
 
     /// Reads what has come of the request. Room for it is had before, so that nothing that was read is
     /// lost where there is none.
-    fn receive<F: Framing>(&mut self, framing: &F, piece: &mut [u8], now: Instant) -> bool {
+    fn receive<F: Framing>(&mut self, framing: &F, piece: &mut [u8], now: Instant) -> bool
+        ensures bytes { (more : List ℕ) × (self.new.bytes.items ≡ self.old.bytes.items ++ more) }
+        ensures whole { self.old.stage ≡ stage.Sends → WaitsSo ending.Whole self.new → F.is_whole framing.now self.new.bytes.items }
+    {
         for _ in 0..MOST_PIECES {
             let lacking = self.lacking();
             if self.bytes.reserve_exact(lacking).is_err() {
@@ -183,7 +212,7 @@ impl Guest {
                 Went::Failed => self.wait(Ending::Failed),
                 Went::Waits => return false,
             }
-            if self.stage != Stage::Sends {
+            if !matches!(self.stage, Stage::Sends) {
                 return false;
             }
         }
@@ -191,7 +220,10 @@ impl Guest {
     }
 
     /// There is no memory for what it sends. Where it has sent something, that is read in its turn.
-    fn starve(&mut self, piece: &mut [u8]) {
+    fn starve(&mut self, piece: &mut [u8])
+        ensures bytes { self.new.bytes ≡ self.old.bytes }
+        ensures waits { (self.new ≡ self.old) ⊎ WaitsSo ending.Starved self.new }
+    {
         match Went::of(self.stream.peek(room_in(piece, 1))) {
             Went::Waits => {}
             _ => self.wait(Ending::Starved),
@@ -199,7 +231,11 @@ impl Guest {
     }
 
     /// Keeps what has come, and looks whether it is a whole request.
-    fn keep<F: Framing>(&mut self, framing: &F, piece: &[u8], now: Instant) {
+    fn keep<F: Framing>(&mut self, framing: &F, piece: &[u8], now: Instant)
+        ensures bytes { (self.new.bytes.items ≡ self.old.bytes.items ++ piece.now)
+            ⊎ ((self.new.bytes.items ≡ self.old.bytes.items) × WaitsSo ending.Failed self.new) }
+        ensures whole { self.old.stage ≡ stage.Sends → WaitsSo ending.Whole self.new → F.is_whole framing.now self.new.bytes.items }
+    {
         self.heard = now;
         if self.bytes.extend_from_slice(piece).is_err() {
             self.wait(Ending::Failed);
@@ -215,15 +251,18 @@ impl Guest {
     }
 
     /// Sends what is left of the answer. It says whether something may be left that the socket takes.
-    pub fn send(&mut self) -> bool {
+    pub fn send(&mut self) -> bool
+        ensures bytes { self.new.bytes ≡ self.old.bytes }
+        ensures taken { self.old.stage ≡ stage.Takes → self.new.stage ≡ stage.Taken → length self.new.bytes.items ≤ self.new.sent }
+    {
         for _ in 0..MOST_PIECES {
-            let rest = rest_of(self.bytes.as_slice(), self.sent);
-            if rest.is_empty() {
+            if self.sent >= self.bytes.len() {
                 self.stage = Stage::Taken;
                 return false;
             }
-            match Went::of((&self.stream).write(rest)) {
-                Went::Some(size) => self.sent = self.sent.saturating_add(size),
+            let bytes = self.bytes.as_slice();
+            match write_rest(&mut &self.stream, bytes, &mut self.sent) {
+                Went::Some(_) => {}
                 Went::Waits => return false,
                 _ => {
                     self.stage = Stage::Unsent;
@@ -275,7 +314,11 @@ impl Guest {
     }
 
     /// It has this answer now, in the turn of this number, and until the deadline to take it.
-    pub fn answer(&mut self, answer: Vec<u8>, number: u64, deadline: Deadline) {
+    pub fn answer(&mut self, answer: Vec<u8>, number: u64, deadline: Deadline)
+        ensures bytes { self.new.bytes ≡ answer }
+        ensures none { self.new.sent ≡ 0 }
+        ensures takes { self.new.stage ≡ stage.Takes }
+    {
         self.bytes = answer;
         self.sent = 0;
         self.number = number;

@@ -10,15 +10,12 @@ use std::io::{Read, Write};
 use std::net::{Shutdown, TcpStream};
 use std::time::Duration;
 
-/// A stream whose reads and writes wait no longer than they are told.
-pub trait Stream {
+/// What is read of a connection, by reads that wait no longer than they are told.
+pub trait Source {
     // The bytes that reads will give from here on, where they are known.
     ghost remaining: { Self → Option (List ℕ) } = { λ _. None };
 
-    // The bytes that it was given, where they are known.
-    ghost contents: { Self → Option (List ℕ) } = { λ _. None };
-
-    // A call that waits this many nanoseconds at most may leave it so.
+    // A read that waits this many nanoseconds at most may leave it so.
     ghost waits: { Self → ℕ → Self → Type 0 };
 
     /// One read, which waits so long at most.
@@ -29,6 +26,18 @@ pub trait Stream {
         ensures bound { ReadsAtMost result buf.new }
         ensures bytes { ReadConsumes (remaining self.old) (remaining self.new) result buf.new }
         ensures waited { waits self.old (as_nanos most) self.new };
+}
+
+/// What is written to a connection, by writes that wait no longer than they are told.
+pub trait Sink {
+    // The bytes that it was given, where they are known.
+    ghost contents: { Self → Option (List ℕ) } = { λ _. None };
+
+    // A write that waits this many nanoseconds at most may leave it so.
+    ghost waits: { Self → ℕ → Self → Type 0 };
+
+    // Telling the other side that nothing more is sent may leave it so.
+    ghost ends: { Self → Self → Type 0 };
 
     /// One write, which waits so long at most.
     ///
@@ -43,16 +52,23 @@ pub trait Stream {
     ///
     /// # Errors
     /// Whatever the system answers.
-    fn end_writing(&mut self) -> io::Result<()>;
+    fn end_writing(&mut self) -> io::Result<()>
+        ensures { ends self.old self.new };
 }
 
-impl<'s> Stream for &'s TcpStream {
+impl<'s> Source for &'s TcpStream {
     ghost waits = { λ before most after. ⊤ };
 
     fn read_for(&mut self, most: Duration, buf: &mut [u8]) -> io::Result<usize> {
         self.set_read_timeout(Some(most))?;
         self.read(buf)
     }
+}
+
+impl<'s> Sink for &'s TcpStream {
+    ghost waits = { λ before most after. ⊤ };
+
+    ghost ends = { λ before after. ⊤ };
 
     fn write_for(&mut self, most: Duration, buf: &[u8]) -> io::Result<usize> {
         self.set_write_timeout(Some(most))?;

@@ -1,8 +1,8 @@
 -- Lines that wait, become others, and come into the log in their order.
-use Rattle.std.proofs.Common.{◌≡◌, ℕ, zero, suc, unwrap_or, ◌+◌, ◌⊎◌, inl, inr, refl, sym, subst, ap, ◌∙◌, arith, List, [], ◌∷◌, ◌++◌, length, append_assoc, Option, None, Some}
-use Rattle.std.specs.Prelude.{codes, slice_set, slice_index_or, IsSome}
+use Rattle.std.proofs.Common.{◌≡◌, ℕ, zero, suc, unwrap_or, ◌+◌, ◌<◌, ◌⊎◌, inl, inr, refl, sym, subst, ap, ◌∙◌, arith, List, [], ◌∷◌, ◌++◌, length, append_assoc, Option, None, Some}
+use Rattle.std.specs.Prelude.{Bool, codes, slice_set, slice_index_or, IsSome}
 use Rattle.fab_wire_streams.specs.declared.counted.Counted.{Counted}
-use Rattle.fab_wire_log.specs.Pending.{IsMarked, AreMarked, AreNoted, Advances}
+use Rattle.fab_wire_log.specs.Pending.{IsMarked, IsEnded, EndsAt, AreMarked, AreNoted, Advances}
 use Rattle.fab_wire_log.specs.Shown.{shown_text}
 use Rattle.fab_wire_log.specs.declared.pending.Line.{Line}
 
@@ -45,6 +45,15 @@ module _ (tells : ℕ → Type 0) (fails : Type 0) where
   are_marked_at [] i old new e h = tt
   are_marked_at (x ∷ lines) zero old new e h = (subst (λ (w : Line). IsMarked tells fails w new) e h, are_marked_refl lines)
   are_marked_at (x ∷ lines) (suc i) old new e h = (inl refl, are_marked_at lines i old new e h)
+
+  -- the turn of one of them ended
+  pub ends_at : (lines : List Line) (i : ℕ) (is_taken : Bool) (old new : Line) → i < length lines → old ≡ slice_index_or lines i old → IsEnded tells fails is_taken old new
+      → EndsAt tells fails i is_taken lines (slice_set lines i new)
+  ends_at [] i is_taken old new h e k = absurd (omega arith)
+  ends_at (x ∷ lines) zero is_taken old new h e k = ([], old, new, lines, refl, ap (λ (w : Line). w ∷ lines) (sym e), refl, k)
+  ends_at (x ∷ lines) (suc i) is_taken old new h e k =
+      let (front, was, became, behind, place, before, after, ended) = ends_at lines i is_taken old new (omega arith) e k in
+      (x ∷ front, was, became, behind, omega arith, ap (λ (w : List Line). x ∷ w) before, ap (λ (w : List Line). x ∷ w) after, ended)
 
   pub marked_length : (xs ys : List Line) → AreMarked tells fails xs ys → length ys ≡ length xs
   marked_length [] [] h = refl

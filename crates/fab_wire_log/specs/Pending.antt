@@ -1,10 +1,16 @@
 -- Lines of turns that are not in the log yet.
-use Rattle.std.specs.Prelude.{ℕ, ◌≡◌, ◌⊎◌, List, [], ◌∷◌, ◌++◌, Option, Some, IfSome, codes}
+use Rattle.std.specs.Prelude.{ℕ, ◌≡◌, ◌<◌, ◌≤◌, ◌-◌, ◌⊎◌, Bool, true, false, List, [], ◌∷◌, ◌++◌, length, Option, Some, IfSome, IsSome, codes}
 use Rattle.std.specs.Time.{instant_nanos}
 use Rattle.fab_wire_streams.specs.declared.counted.Counted.{Counted}
 use Rattle.fab_wire_log.specs.Lines.{line_text, Notes, Lasted}
 use Rattle.fab_wire_log.specs.Shown.{shown_text}
 use Rattle.fab_wire_log.specs.declared.pending.Line.{Line}
+use Rattle.fab_wire_log.specs.declared.shown.Shown.{Shown}
+
+-- what is shown of a turn whose answer was taken, or was not
+abbrev pub ShowsEnd : Bool → Shown → Shown → Type 0
+ShowsEnd true old new = new ≡ old
+ShowsEnd false old new = shown_text new ≡ codes "unsent"
 
 -- what the clock tells, and whether it may fail
 module _ (tells : ℕ → Type 0) (fails : Type 0) where
@@ -17,6 +23,21 @@ module _ (tells : ℕ → Type 0) (fails : Type 0) where
   IsMarked old new =
       (new ≡ old) ⊎ ((new.moment ≡ old.moment) × (new.start ≡ old.start)
       × ((shown_text new.shown ≡ shown_text old.shown) ⊎ (shown_text new.shown ≡ codes "unsent")) × IsTimed new)
+
+  -- a line, and what it became as its turn ended, whose answer was taken or was not
+  abbrev pub IsEnded : Bool → Line → Line → Type 0
+  IsEnded is_taken old new = (new.moment ≡ old.moment) × (new.start ≡ old.start) × ShowsEnd is_taken old.shown new.shown × IsTimed new × IsSome new.milliseconds
+
+  -- the turn of the line at a place ended so, and the other lines are as they were
+  abbrev pub EndsAt : ℕ → Bool → List Line → List Line → Type 0
+  EndsAt place is_taken lines lines' = (front : List Line) × (old : Line) × (new : Line) × (behind : List Line)
+      × (length front ≡ place) × (lines ≡ front ++ old ∷ behind) × (lines' ≡ front ++ new ∷ behind) × IsEnded is_taken old new
+
+  -- the lines are those of the turns from a number on: the turn of this number ended so; or no line is of it, and all are as they were
+  abbrev pub HasEnded : ℕ → ℕ → Bool → List Line → List Line → Type 0
+  HasEnded first number is_taken lines lines' =
+      ((first ≤ number) × EndsAt (number - first) is_taken lines lines')
+      ⊎ (((number < first) ⊎ (length lines ≤ number - first)) × (lines' ≡ lines))
 
   -- line by line
   abbrev pub AreMarked : List Line → List Line → Type 0

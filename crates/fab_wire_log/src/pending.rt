@@ -2,10 +2,10 @@
 //!
 //! Answers are sent side by side, and end in any order. The log has its lines in the order of the turns.
 
-ghost use Rattle.std.specs.Prelude.{◌≡◌, ◌<◌, ◌-◌, ◌⊎◌, ◌++◌, ◌∷◌, [], false, length, codes, IfOk, IsSome};
+ghost use Rattle.std.specs.Prelude.{◌≡◌, ◌<◌, ◌+◌, ◌-◌, ◌^◌, ◌⊎◌, ◌++◌, ◌∷◌, [], false, length, min, codes, IfOk, IsSome};
 ghost use Rattle.std.specs.VecDeque.{deque_len, deque_capacity};
 ghost use Rattle.fab_wire_log.specs.Shown.{shown_text};
-ghost use Rattle.fab_wire_log.specs.Pending.{Advances, AreMarked, IsMarked};
+ghost use Rattle.fab_wire_log.specs.Pending.{Advances, AreMarked, IsMarked, ShowsEnd, IsEnded, HasEnded};
 
 use crate::Watch;
 use crate::shown::Shown;
@@ -44,7 +44,8 @@ pub struct Pending {
 
 /// What the log shows of a turn whose answer was taken, or was not.
 fn shown_of(shown: Shown, is_taken: bool) -> Shown
-    ensures { (result ≡ shown) ⊎ (shown_text result ≡ codes "unsent") }
+    ensures either { (result ≡ shown) ⊎ (shown_text result ≡ codes "unsent") }
+    ensures shows { ShowsEnd is_taken shown result }
 {
     if is_taken {
         shown
@@ -56,6 +57,7 @@ fn shown_of(shown: Shown, is_taken: bool) -> Shown
 /// A line as it is once its turn has ended.
 fn marked<C: Ticks, W: Write>(watch: &Watch<'_, C, W>, line: Line, is_taken: bool) -> Line
     ensures marked { IsMarked (C.tells watch.now.clock.now) (C.fails watch.now.clock.now) line result }
+    ensures ended { IsEnded (C.tells watch.now.clock.now) (C.fails watch.now.clock.now) is_taken line result }
     ensures known { IsSome result.milliseconds }
 {
     Line {
@@ -100,21 +102,27 @@ impl Pending {
     }
 
     /// The number of the next turn.
-    pub fn next_number(&self) -> u64 {
+    pub fn next_number(&self) -> u64
+        ensures { result ≡ min (self.now.first + length self.now.lines.items) (2 ^ 64 - 1) }
+    {
         self.first.saturating_add(self.lines.len() as u64)
     }
 
     /// Puts the line of a turn behind the others.
     pub fn push(&mut self, line: Line)
         requires { deque_len self.old.lines < deque_capacity self.old.lines }
-        ensures { self.new.lines.items ≡ self.old.lines.items ++ line ∷ [] }
+        ensures items { self.new.lines.items ≡ self.old.lines.items ++ line ∷ [] }
+        ensures first { self.new.first ≡ self.old.first }
     {
         self.lines.push_back_reserved(line);
     }
 
     /// Notes that a turn has ended. It says nothing of a turn whose line is in the log.
     pub fn end<C: Ticks, W: Write>(&mut self, watch: &Watch<'_, C, W>, ended: Ended)
-        ensures { AreMarked (C.tells watch.now.clock.now) (C.fails watch.now.clock.now) self.old.lines.items self.new.lines.items }
+        ensures marked { AreMarked (C.tells watch.now.clock.now) (C.fails watch.now.clock.now) self.old.lines.items self.new.lines.items }
+        ensures ended { HasEnded (C.tells watch.now.clock.now) (C.fails watch.now.clock.now)
+            self.old.first ended.number ended.is_taken self.old.lines.items self.new.lines.items }
+        ensures first { self.new.first ≡ self.old.first }
     {
         let Some(behind) = ended.number.checked_sub(self.first) else {
             return;

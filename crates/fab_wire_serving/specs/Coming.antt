@@ -1,6 +1,8 @@
 -- What came of a connection over a stream.
-use Rattle.std.specs.Prelude.{ℕ, ◌≡◌, ◌<◌, ◌⊎◌, List, Option, codes}
+use Rattle.std.specs.Prelude.{ℕ, ◌≡◌, ◌<◌, ◌≤◌, ◌⊎◌, List, Option, codes}
 use Rattle.std.specs.Io.KnownBytes.{Keeps}
+use Rattle.fab_wire_gathering.specs.Deadlines.{clock_of, stream_of, end_at, seen_at, IsHastened}
+use Rattle.fab_wire_gathering.specs.declared.deadline.Timed.{Timed}
 use Rattle.fab_wire_serving.specs.Sides.{Side, Sides}
 use Rattle.fab_wire_serving.specs.declared.connection.Came.{Came}
 use Rattle.fab_wire_serving.specs.declared.connection.Came.TheVariants.{Served, Unsent}
@@ -29,3 +31,12 @@ came_text text Unsent = codes "unsent"
 -- how long bytes that nobody reads are taken behind an answer at most, in nanoseconds: a second
 abbrev pub most_lingering : ℕ
 most_lingering = 1_000_000_000
+
+-- a connection is let go of at once: the clock could not be read, or its time was up
+abbrev pub IsLate : {C S : Type 0} → (C → Type 0) → Timed C S → Timed C S → Type 0
+IsLate fails old new = (end_at new ≡ end_at old) × (fails (clock_of old) ⊎ (end_at new ≤ seen_at new))
+
+-- from a reading of the clock on there is a second at most, and the other side was told that nothing more is sent
+abbrev pub IsLetGo : {C S : Type 0} → (C → ℕ → Type 0) → (S → S → Type 0) → Timed C S → Timed C S → Type 0
+IsLetGo {C} {S} tells ends old new = ((reading : ℕ) × tells (clock_of old) reading × IsHastened reading most_lingering old new)
+    × ((between : S) × ends (stream_of old) between)

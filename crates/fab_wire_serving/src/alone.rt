@@ -86,7 +86,15 @@ fn serve_next<
     let (stream, moment, start) = next_connection(watch.clock, listener, now)?;
     restore(server, again);
     let deadline = Deadline::after(begun(watch.clock, start), watch.most);
-    let came = serve_stream(watch.alloc, watch.clock, server, moment, &stream, deadline);
+    let came = serve_stream(
+        watch.alloc,
+        watch.clock,
+        server,
+        moment,
+        &stream,
+        &stream,
+        deadline,
+    );
     watch.note(moment, came.shown::<D>(), start);
     let_go(&mut Timed::new(watch.clock, &stream, deadline));
     Ok(())

@@ -4,7 +4,7 @@ ghost use Rattle.std.specs.Prelude.{◌≡◌, ◌≤◌, ◌<◌, ◌+◌, ◌�
 ghost use Rattle.std.specs.Io.Buffered.{writer_contents};
 ghost use Rattle.std.specs.Io.KnownBytes.{Keeps};
 ghost use Rattle.fab_wire_streams.specs.Counting.{inner_of, failures_of};
-ghost use Rattle.fab_wire_serving.specs.Coming.{ComesSo, IsSent, came_text, most_lingering};
+ghost use Rattle.fab_wire_serving.specs.Coming.{ComesSo, IsSent, IsLate, IsLetGo, came_text, most_lingering};
 ghost use Rattle.fab_wire_gathering.specs.Deadlines.{end_of, end_at, clock_of, stream_of};
 ghost use Rattle.fab_wire_log.specs.Shown.{shown_text};
 ghost use Rattle.fab_wire_serving.specs.Sides.{begun_sides};
@@ -12,7 +12,7 @@ ghost use Rattle.fab_wire_serving.specs.Sides.{begun_sides};
 use crate::Server;
 use fab_wire_gathering::clock::Ticks;
 use fab_wire_gathering::deadline::{Deadline, Timed};
-use fab_wire_gathering::stream::Stream;
+use fab_wire_gathering::stream::{Sink, Source};
 use fab_wire_log::Shown;
 use fab_wire_streams::counted::Counted;
 use std::alloc::Global;
@@ -76,22 +76,24 @@ fn send_rest<W: Write + Drop>(writer: Counted<BufWriter<W>>) -> bool
     emptied(writer.into_inner()).is_some()
 }
 
-/// Serves the connection of a stream at a moment (Unix seconds), until the deadline. The answer is
-/// sent in large pieces; where there is no memory for them, in those in which it is written.
-pub fn serve_stream<C: Ticks, D: Server, S: Stream + Copy>(
+/// Serves a connection at a moment (Unix seconds), until the deadline: what is read of it, and what is
+/// written to it. The answer is sent in large pieces; where there is no memory for them, in those in which
+/// it is written.
+pub fn serve_stream<C: Ticks, D: Server, R: Source + Drop, S: Sink + Copy>(
     alloc: Global,
     clock: &C,
     server: &mut D,
     moment: u64,
-    stream: S,
+    source: R,
+    sink: S,
     deadline: Deadline,
 ) -> Came<D::Outcome>
     ensures { ComesSo
-        (λ outcome after. D.serves server.old moment (begun_sides (S.remaining stream) (S.contents stream) (end_of deadline)) after outcome server.new)
+        (λ outcome after. D.serves server.old moment (begun_sides (R.remaining source) (S.contents sink) (end_of deadline)) after outcome server.new)
         (IsSent S.contents) result }
 {
-    let mut reader = Counted::new(Timed::new(clock, stream, deadline));
-    let timed = Timed::new(clock, stream, deadline);
+    let mut reader = Counted::new(Timed::new(clock, source, deadline));
+    let timed = Timed::new(clock, sink, deadline);
     match BufWriter::with_capacity(alloc, MOST_AT_ONCE, timed) {
         Ok(buffer) => {
             let mut writer = Counted::new(buffer);
@@ -103,7 +105,7 @@ pub fn serve_stream<C: Ticks, D: Server, S: Stream + Copy>(
             }
         }
         Err(_) => {
-            let mut writer = Counted::new(Timed::new(clock, stream, deadline));
+            let mut writer = Counted::new(Timed::new(clock, sink, deadline));
             Came::Served(server.serve_one(moment, &mut reader, &mut writer))
         }
     }
@@ -112,10 +114,11 @@ pub fn serve_stream<C: Ticks, D: Server, S: Stream + Copy>(
 /// Ends a connection in stages (RFC 9112, section 9.6): nothing more is sent, and what the other side
 /// still sends is taken for a second, or until the deadline. Closed with bytes unread, the connection
 /// would be reset, and the answer lost with it.
-pub fn let_go<C: Ticks, S: Stream>(timed: &mut Timed<'_, C, S>)
+pub fn let_go<C: Ticks, S: Source + Sink>(timed: &mut Timed<'_, C, S>)
     ensures sooner { end_at timed.new ≤ end_at timed.old }
     ensures soon { (stream_of timed.new ≡ stream_of timed.old)
         ⊎ ((reading : ℕ) × C.tells (clock_of timed.old) reading × (end_at timed.new ≤ reading + most_lingering)) }
+    ensures ended { IsLate C.fails timed.old timed.new ⊎ IsLetGo C.tells S.ends timed.old timed.new }
 {
     if timed
         .hasten(Duration::from_secs(LINGERING_SECONDS))
@@ -129,7 +132,7 @@ pub fn let_go<C: Ticks, S: Stream>(timed: &mut Timed<'_, C, S>)
 }
 
 /// Takes what a stream still gives.
-fn take_rest<C: Ticks, S: Stream>(timed: &mut Timed<'_, C, S>)
+fn take_rest<C: Ticks, S: Source>(timed: &mut Timed<'_, C, S>)
     ensures { end_at timed.new ≡ end_at timed.old }
 {
     let mut bytes = [0u8; 8192];

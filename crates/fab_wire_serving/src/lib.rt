@@ -5,7 +5,7 @@
 //! `Server`: it may halt, and is then opened anew before the next turn. A connection that sends or takes
 //! its bytes too slowly is given up, and each one has its line in a log (`fab_wire_log`).
 //!
-//! Clocks, listeners and streams are small traits (`Ticks`, `Listens`, `Stream`), so that contracts say
+//! Clocks, listeners and streams are small traits (`Ticks`, `Listens`, `Source`, `Sink`), so that contracts say
 //! what a clock told, and for how long a stream was asked to wait.
 #![tactic(auto)]
 

@@ -1,9 +1,10 @@
 //! The connections that are there, and the lines of the log that wait.
 
-ghost use Rattle.std.specs.Prelude.{◌≡◌, ◌<◌, ◌++◌, ◌∷◌, [], IfOk, IfErr, IfSome, IfNone};
+ghost use Rattle.std.specs.Prelude.{◌≡◌, ◌<◌, ◌++◌, ◌∷◌, [], true, IfOk, IfErr, IfSome, IfNone};
 ghost use Rattle.std.specs.Time.{instant_nanos};
 ghost use Rattle.std.specs.VecDeque.{deque_len, deque_capacity};
-ghost use Rattle.fab_wire_log.specs.Pending.{Advances, AreMarked};
+ghost use Rattle.fab_wire_log.specs.Numbers.{first_of};
+ghost use Rattle.fab_wire_log.specs.Pending.{Advances, AreMarked, HasEnded};
 ghost use Rattle.fab_wire_serving.specs.Starts.{AreTold};
 ghost use Rattle.fab_wire_serving.specs.Stops.{IsStopped};
 
@@ -33,6 +34,8 @@ struct Framed<'d, D: Server> {
 
 impl<'d, D: Server> Framing for Framed<'d, D> {
     ghost is_whole = { λ framed bytes. D.is_whole framed.server.now bytes };
+
+    ghost lacking = { λ framed bytes size. D.lacking framed.server.now bytes size };
 
     fn lacks(&self, bytes: &[u8]) -> Option<usize> {
         self.server.lacks(bytes)
@@ -371,6 +374,8 @@ impl Room {
         ensures starts { self.new.starts ≡ self.old.starts }
         ensures lines { AreMarked (C.tells watch.now.clock.now) (C.fails watch.now.clock.now)
             self.old.pending.lines.items self.new.pending.lines.items }
+        ensures ended { HasEnded (C.tells watch.now.clock.now) (C.fails watch.now.clock.now)
+            (first_of self.old.pending) number true self.old.pending.lines.items self.new.pending.lines.items }
     {
         let ended = Ended {
             number,

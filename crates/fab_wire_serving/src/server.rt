@@ -1,7 +1,7 @@
 //! What serves connections.
 
-ghost use Rattle.std.specs.Prelude.{◌≡◌, ◌<◌, ℕ, Bool, true, List, length, IfSome, IfNone, OnOk, IfErr, OnErr};
-ghost use Rattle.fab_wire_serving.specs.Sides.{Sides, sides};
+ghost use Rattle.std.specs.Prelude.{◌≡◌, ◌<◌, ℕ, Bool, true, List, Option, Some, None, length, IfSome, IfNone, OnOk, IfErr, OnErr};
+ghost use Rattle.fab_wire_serving.specs.Sides.{Sides, begun_sides, sides};
 ghost use Rattle.fab_wire_log.specs.Shown.{shown_text};
 
 use fab_wire_gathering::bounds::Bounded;
@@ -28,6 +28,10 @@ pub trait Server {
     // it, and what came of the connection.
     ghost serves: { Self → ℕ → Sides → Sides → Self.Outcome → Self → Type 0 };
 
+    // What it does where the bytes of a connection are known, it does where they are not.
+    ghost forgets: { (old : Self) → (moment : ℕ) → (input : List ℕ) → (sent : Option (List ℕ)) → (until : ℕ) → (after : Sides) → (outcome : Self.Outcome) → (new : Self)
+        → serves old moment (begun_sides (Some input) sent until) after outcome new → serves old moment (begun_sides None sent until) after outcome new };
+
     // The text of what came of a connection.
     ghost shows: { Self.Outcome → List ℕ };
 
@@ -43,10 +47,14 @@ pub trait Server {
     // Whatever comes behind these bytes of a connection, it asks what they ask.
     ghost is_whole: { Self → List ℕ → Type 0 };
 
+    // These bytes of a connection are looked at again when so many are there.
+    ghost lacking: { Self → List ℕ → ℕ → Type 0 };
+
     /// How many bytes of a connection have to be there before they are looked at again; none where
     /// what it asks is known, whatever comes behind them.
     fn lacks(&self, bytes: &[u8]) -> Option<usize>
         ensures whole { IfNone result (is_whole self.now bytes.now) }
+        ensures lacking { IfSome result (λ size. lacking self.now bytes.now size) }
         ensures more { IfSome result (λ size. length bytes.now < size) };
 
     /// Whether it is halted.

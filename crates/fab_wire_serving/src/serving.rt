@@ -5,6 +5,7 @@ ghost use Rattle.std.specs.Prelude.{◌≡◌, ◌<◌, ◌⊎◌, ℕ, List, []
 ghost use Rattle.std.specs.Duration.{as_nanos};
 ghost use Rattle.std.specs.Time.{instant_nanos};
 ghost use Rattle.fab_wire_gathering.specs.Deadlines.{end_of};
+ghost use Rattle.fab_wire_gathering.specs.Guests.{gathered_of};
 ghost use Rattle.fab_wire_serving.specs.Coming.{CameSo, came_text};
 ghost use Rattle.fab_wire_log.specs.Pending.{Advances};
 ghost use Rattle.fab_wire_serving.specs.Waiting.{ArePlayed, IsTurnTaken};
@@ -21,7 +22,7 @@ use crate::room::{Room, Turn};
 use crate::{Listens, Server};
 use fab_wire_gathering::clock::Ticks;
 use fab_wire_gathering::deadline::Deadline;
-use fab_wire_gathering::exchange::Exchange;
+use fab_wire_gathering::exchange::{Answer, Request};
 use fab_wire_gathering::guest::Guest;
 use fab_wire_log::pending::Line;
 use fab_wire_log::{Shown, Watch};
@@ -60,8 +61,8 @@ pub(crate) fn restore<D: Server, O: FnMut() -> Result<D::Store, D::Fault>>(
     }
 }
 
-/// Serves the connection of a guest, at a moment, until the deadline. It gives what the log shows of it,
-/// and what is kept of its answer.
+/// Serves the connection of a guest, at a moment, until the deadline: the bytes that were gathered of it,
+/// and no others. It gives what the log shows of it, and what is kept of its answer.
 fn serve_guest<C: Ticks, D: Server>(
     alloc: Global,
     clock: &C,
@@ -71,13 +72,14 @@ fn serve_guest<C: Ticks, D: Server>(
     deadline: Deadline,
 ) -> (Shown, Vec<u8>)
     ensures { (came : Came D.Outcome)
-        × CameSo (λ outcome after. D.serves server.old moment (begun_sides None None (end_of deadline)) after outcome server.new) came
+        × CameSo (λ outcome after. D.serves server.old moment (begun_sides (gathered_of guest.now) None (end_of deadline)) after outcome server.new) came
         × (shown_text result.0 ≡ came_text D.shows came) }
 {
-    let exchange = Exchange::new(alloc, guest);
-    let came = serve_stream(alloc, clock, server, moment, &exchange, deadline);
+    let request = Request::of(guest);
+    let answer = Answer::to(alloc, guest);
+    let came = serve_stream(alloc, clock, server, moment, request, &answer, deadline);
     let shown = came.shown::<D>();
-    (shown, exchange.into_answer())
+    (shown, answer.into_kept())
 }
 
 /// Serves a connection whose turn has come: a server that is halted is opened anew before, if it can be.

@@ -2,13 +2,14 @@
 
 ghost use Rattle.std.specs.Prelude.{⊤};
 
-use fab_wire_gathering::stream::Stream;
+use super::echo::{MUCH, byte_at};
+use fab_wire_gathering::stream::{Sink, Source};
 use fab_wire_serving::Listens;
 use std::alloc::Global;
 use std::cell::Cell;
 use std::io;
 use std::io::{ErrorKind, Read, Write};
-use std::net::{Net, TcpListener, TcpStream};
+use std::net::{Net, Shutdown, TcpListener, TcpStream};
 use std::os::fd::{AsRawFd, RawFd};
 use std::time::{Clock, Duration};
 
@@ -51,6 +52,76 @@ impl Clock for Ticking {
     }
 }
 
+/// A clock that stands still. Whenever it is read a client, which never waits, takes what has come of an
+/// answer that is more than any socket holds.
+#[derive(Drop)]
+pub struct Taking<'t> {
+    client: &'t TcpStream,
+    taken: Cell<usize>,
+    is_wrong: Cell<bool>,
+}
+
+impl<'t> Taking<'t> {
+    /// Nothing has been taken yet.
+    pub fn by(client: &'t TcpStream) -> Self {
+        Taking {
+            client,
+            taken: Cell::new(0),
+            is_wrong: Cell::new(false),
+        }
+    }
+
+    /// How many bytes the client has taken; none where one was wrong.
+    pub fn taken(&self) -> Option<usize> {
+        if self.is_wrong.get() {
+            None
+        } else {
+            Some(self.taken.get())
+        }
+    }
+
+    /// Takes what has come. A client that has taken a wrong byte goes away.
+    fn take(&self) -> io::Result<()> {
+        let mut client = self.client;
+        let mut piece = [0u8; 65536];
+        for _ in 0..1000 {
+            let size = client.read(&mut piece)?;
+            if size == 0 {
+                return Ok(());
+            }
+            if !is_of_much(self.taken.get(), &piece[..size]) {
+                self.is_wrong.set(true);
+                client.shutdown(Shutdown::Both)?;
+            }
+            self.taken.set(self.taken.get().saturating_add(size));
+        }
+        Ok(())
+    }
+}
+
+/// Whether these bytes are those from a place on of what is more than any socket holds, and any behind it.
+fn is_of_much(place: usize, bytes: &[u8]) -> bool {
+    let mut place = place;
+    for &byte in bytes {
+        if place < MUCH && byte != byte_at(place) {
+            return false;
+        }
+        place = place.saturating_add(1);
+    }
+    true
+}
+
+impl<'t> Clock for Taking<'t> {
+    fn monotonic(&self) -> io::Result<Duration> {
+        let _ = self.take();
+        Ok(Duration::ZERO)
+    }
+
+    fn since_1970(&self) -> io::Result<Duration> {
+        Ok(Duration::ZERO)
+    }
+}
+
 /// A clock that cannot be read.
 #[derive(Drop)]
 pub struct Broken;
@@ -72,7 +143,7 @@ pub struct Slow<'t> {
     pub told: &'t Cell<u64>,
 }
 
-impl<'t> Stream for Slow<'t> {
+impl<'t> Source for Slow<'t> {
     ghost waits = { λ before most after. ⊤ };
 
     fn read_for(&mut self, most: Duration, buf: &mut [u8]) -> io::Result<usize> {
@@ -85,6 +156,12 @@ impl<'t> Stream for Slow<'t> {
             None => Ok(0),
         }
     }
+}
+
+impl<'t> Sink for Slow<'t> {
+    ghost waits = { λ before most after. ⊤ };
+
+    ghost ends = { λ before after. ⊤ };
 
     fn write_for(&mut self, most: Duration, buf: &[u8]) -> io::Result<usize> {
         self.told.set(most.as_secs());
@@ -120,13 +197,19 @@ impl Brittle {
     }
 }
 
-impl<'s> Stream for &'s Brittle {
+impl<'s> Source for &'s Brittle {
     ghost waits = { λ before most after. ⊤ };
 
     fn read_for(&mut self, _most: Duration, buf: &mut [u8]) -> io::Result<usize> {
         let mut told = self.told;
         told.read(buf)
     }
+}
+
+impl<'s> Sink for &'s Brittle {
+    ghost waits = { λ before most after. ⊤ };
+
+    ghost ends = { λ before after. ⊤ };
 
     fn write_for(&mut self, _most: Duration, buf: &[u8]) -> io::Result<usize> {
         let write = self.writes.get();

@@ -43,7 +43,8 @@ impl Drop for Held<'_> {
 
 /// Says again what it is told in one read of up to 64 bytes. It halts at `!`, and says `halted` until
 /// it is opened anew. At `*` it says more than any socket holds. What begins with `+` is whole with the
-/// first `.` at its end, and what begins with `#` when more bytes are there than any memory has.
+/// first `.` at its end, and is said again to its end, and what begins with `#` is whole when more bytes
+/// are there than any memory has.
 #[derive(Drop)]
 pub struct Echo<'h> {
     is_halted: bool,
@@ -59,7 +60,12 @@ impl<'h> Echo<'h> {
         }
     }
 
-    fn answer<W: Write>(&mut self, told: &[u8], writer: &mut W) -> io::Result<Shown> {
+    fn answer<R: Read, W: Write>(
+        &mut self,
+        told: &[u8],
+        reader: &mut R,
+        writer: &mut W,
+    ) -> io::Result<Shown> {
         if told.starts_with(b"!") {
             self.is_halted = true;
         }
@@ -71,15 +77,45 @@ impl<'h> Echo<'h> {
             say_much(writer)?;
         }
         writer.write_all(told)?;
+        if told.starts_with(b"+") {
+            say_rest(reader, writer)?;
+        }
         Ok(Shown::Status(200))
     }
 }
 
-/// Says 40 million stars.
+/// How many bytes more than any socket holds.
+pub const MUCH: usize = 41943040;
+
+/// The byte at a place of what is more than any socket holds. The bytes of 16384 places are told apart by
+/// where they change.
+pub fn byte_at(place: usize) -> u8 {
+    (place / 64 % 256) as u8
+}
+
+/// Fills bytes with those of the first places.
+pub fn fill(bytes: &mut [u8]) {
+    for (place, byte) in bytes.iter_mut().enumerate() {
+        *byte = byte_at(place);
+    }
+}
+
+/// Says as much as that.
 fn say_much<W: Write>(writer: &mut W) -> io::Result<()> {
-    let stars = [b'*'; 16384];
-    for _ in 0..2560 {
-        writer.write_all(&stars)?;
+    let mut bytes = [0u8; 16384];
+    fill(&mut bytes);
+    for _ in 0..MUCH / 16384 {
+        writer.write_all(&bytes)?;
+    }
+    Ok(())
+}
+
+/// Says again what is still told, in as many reads as 64000 bytes take.
+fn say_rest<R: Read, W: Write>(reader: &mut R, writer: &mut W) -> io::Result<()> {
+    let mut told = [0u8; 64];
+    for _ in 0..1000 {
+        let taken = reader.read(&mut told)?;
+        writer.write_all(&told[..taken])?;
     }
     Ok(())
 }
@@ -104,9 +140,13 @@ impl<'h> Server for Echo<'h> {
 
     ghost serves = { λ before moment sides sides' outcome after. ⊤ };
 
+    ghost forgets = { λ before moment input sent until sides outcome after served. served };
+
     ghost shows = { shown_text };
 
     ghost is_whole = { λ echo bytes. ⊤ };
+
+    ghost lacking = { λ echo bytes size. ⊤ };
 
     ghost releases = { λ before after. ⊤ };
 
@@ -152,7 +192,7 @@ impl<'h> Server for Echo<'h> {
         let mut told = [0u8; 64];
         match reader.read(&mut told) {
             Ok(0) => Shown::Word("empty"),
-            Ok(taken) => match self.answer(&told[..taken], writer) {
+            Ok(taken) => match self.answer(&told[..taken], reader, writer) {
                 Ok(said) => said,
                 Err(_) => counted("unsent", writer.failures()),
             },

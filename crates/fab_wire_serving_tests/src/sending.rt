@@ -17,7 +17,7 @@ fn came(rt: &impl Abort, alloc: Global, told: &'static [u8], fails_at: u64) -> (
     let start = Instant::now(&clock).expect(rt, "a clock");
     let deadline = Deadline::after(start, Duration::from_secs(1));
     let mut echo = Echo::over(None);
-    let came = serve_stream(alloc, &clock, &mut echo, 0, &stream, deadline);
+    let came = serve_stream(alloc, &clock, &mut echo, 0, &stream, &stream, deadline);
     let shown = match came.shown::<Echo<'_>>() {
         Shown::Status(_) => "answered",
         Shown::Word(word) => word,

@@ -1,7 +1,7 @@
 //! Connections over loopback. The bytes of most of them are sent before they are served.
 
-use super::doubles::{Broken, Busy, Crowd, Full, Leaky, Ticking};
-use super::echo::{Echo, Held};
+use super::doubles::{Broken, Busy, Crowd, Full, Leaky, Taking, Ticking};
+use super::echo::{Echo, Held, MUCH, fill};
 use fab_wire_log::Watch;
 use fab_wire_serving::{Listens, ServeFault, listen_at, serve_on};
 use mio::Poll;
@@ -241,7 +241,7 @@ const HALTED: Turns = &[
 
 const ANEW: Turns = &[(b"!", b"halted"), (b"a", b"a")];
 
-const MUCH: Turns = &[(b"#much", b"#much"), (b"b", b"b")];
+const STARVED: Turns = &[(b"#much", b"#much"), (b"b", b"b")];
 
 /// The server is halted by the first; no store is there before the second, and one that is refused before
 /// the third. Opening it anew takes ten seconds, which the log counts, and the 20 seconds and a bit that
@@ -266,7 +266,7 @@ const CASES: &[Case] = &[
         log: "1000 503 70000 ms\n1001 200 160000 ms\n",
     },
     Case {
-        turns: MUCH,
+        turns: STARVED,
         is_told: true,
         step: 0,
         most: LONG,
@@ -396,6 +396,32 @@ fn an_answer_is_not_lost_where_more_is_sent_than_read(rt: HostRuntime) {
     let stream = told_whole(&rt, &listener, &[b'x'; 100000]);
     log_of(&rt, &rt, LONG, &listener, &[None]);
     assert!(rt; is_answered(&rt, &stream, &[b'x'; 64]));
+}
+
+/// It is longer than what is read at once, and comes in one piece.
+#[test]
+fn a_long_request_is_told_to_its_end(rt: HostRuntime) {
+    let listener = listen(&rt);
+    let mut bytes = [0u8; 12000];
+    fill(&mut bytes);
+    bytes[0] = b'+';
+    bytes[11999] = b'.';
+    let stream = told(&rt, &listener, &bytes);
+    log_of(&rt, &rt, LONG, &listener, &[None]);
+    assert!(rt; is_answered(&rt, &stream, &bytes));
+}
+
+/// The client takes it while it is sent, in as many writes as it takes.
+#[test]
+fn a_long_answer_is_taken_to_its_end(rt: HostRuntime) {
+    let listener = listen(&rt);
+    let client = told_whole(&rt, &listener, b"*");
+    client.set_nonblocking(true).expect(&rt, "a socket");
+    let clock = Taking::by(&client);
+    let log = log_of(&rt, &clock, LONG, &listener, &[None]);
+    assert_eq!(rt; log.as_str(), "1000 200 0 ms\n");
+    clock.monotonic().expect(&rt, "a clock");
+    assert_eq!(rt; clock.taken(), Some(MUCH + 1));
 }
 
 /// A client that came first and takes nothing of its answer; and one that came after it, whose answer is

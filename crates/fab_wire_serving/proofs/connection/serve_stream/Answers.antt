@@ -5,7 +5,7 @@ use Rattle.fab_wire_gathering.specs.Deadlines.{stream_of, end_at}
 use Rattle.fab_wire_serving.specs.Sides.{sides}
 use Rattle.fab_wire_serving.proofs.connection.serve_stream.Goals as goal
 
-pub returns-in-Err : goal.returns-in-Err
-returns-in-Err g c =
-    let after = sides (λ t. g.S.Stream.remaining (stream_of t)) (λ t. Some (end_at t)) (λ t. g.S.Stream.contents (stream_of t)) (λ t. Some (end_at t)) c.serve_one.new.reader c.serve_one.new.writer in
+pub returns : goal.returns
+returns g c =
+    let after = sides (λ t. g.R.Source.remaining (stream_of t)) (λ t. Some (end_at t)) (λ t. g.S.Sink.contents (stream_of t)) (λ t. Some (end_at t)) c.serve_one.new.reader c.serve_one.new.writer in
     (after, search rules, inr (stream_of (inner_of c.serve_one.new.writer), Keeps-refl _))

@@ -8,4 +8,4 @@ pub returns-in-Some-clause-lines : goal.returns-in-Some-clause-lines
 returns-in-Some-clause-lines g c =
     let lines = c.args.self.now.pending.lines.items ++ c.args.line ∷ [] in
     let tells = g.C.Ticks.tells c.args.watch.now.clock.now in let fails = g.C.Ticks.fails c.args.watch.now.clock.now in
-    subst (λ (pushed : List Line). AreMarked tells fails lines pushed) (sym c.push.ensures) (are_marked_refl tells fails lines)
+    subst (λ (pushed : List Line). AreMarked tells fails lines pushed) (sym c.push.ensures.items) (are_marked_refl tells fails lines)

@@ -6,4 +6,4 @@ pub loop-init : goal.loop-init
 loop-init g c = (are_marked_refl _ _ c.args.self.now.pending.lines.items, refl)
 
 pub loop-preserved : goal.loop-preserved
-loop-preserved g c = (are_marked_twice _ _ _ _ _ c.loop.invariant.0 c.end.ensures, search rules)
+loop-preserved g c = (are_marked_twice _ _ _ _ _ c.loop.invariant.0 c.end.ensures.marked, search rules)
