@@ -50,10 +50,13 @@ IsPlanFinding text (Ok (finding.Plan f)) = IsPlanFault text f
 IsPlanFinding text (Ok other) = ⊥
 IsPlanFinding text (Err f) = f ≡ fault.Memory
 
--- the bytes list ports, or the record of this number is the first that is faulty, or there are too many
+-- the bytes list ports, or the record of this number is the first that is faulty
+abbrev pub IsListFinding : List ℕ → Result Finding Fault → Type 0
+IsListFinding bytes (Ok finding.Sound) = (rows : List PortRow) × ListsPorts bytes rows
+IsListFinding bytes (Ok (finding.Record line)) = IsFaultAt bytes line
+IsListFinding bytes (Ok other) = ⊥
+IsListFinding bytes (Err f) = f ≡ fault.Memory
+
+-- there are too many bytes; or there are not, and this is found in them
 abbrev pub IsPortsFinding : List ℕ → Result Finding Fault → Type 0
-IsPortsFinding bytes (Ok finding.Sound) = (rows : List PortRow) × ListsPorts bytes rows
-IsPortsFinding bytes (Ok (finding.Record line)) = IsFaultAt bytes line
-IsPortsFinding bytes (Ok finding.TooLarge) = IsTooLarge bytes
-IsPortsFinding bytes (Ok other) = ⊥
-IsPortsFinding bytes (Err f) = f ≡ fault.Memory
+IsPortsFinding bytes came = (IsTooLarge bytes × (came ≡ Ok finding.TooLarge)) ⊎ (¬ IsTooLarge bytes × IsListFinding bytes came)

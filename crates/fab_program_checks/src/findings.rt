@@ -1,5 +1,5 @@
 //! What is found in the bytes of a file.
-ghost use Rattle.fab_program_checks.specs.Findings.{IsFindingOf, IsPlanFinding, IsPolicyFinding, IsPortsFinding, IsTextFinding, IsWarnedOf};
+ghost use Rattle.fab_program_checks.specs.Findings.{IsFindingOf, IsListFinding, IsPlanFinding, IsPolicyFinding, IsPortsFinding, IsTextFinding, IsWarnedOf};
 
 use fab_plans_text::{PlanFault, PlanFaultKind, read_plan};
 use fab_policy_base::{Policy, PolicyFault};
@@ -111,8 +111,16 @@ pub fn find_ports(alloc: Global, bytes: &[u8]) -> Result<Finding, Fault>
     ensures { IsPortsFinding bytes.now result }
 {
     if is_too_large(bytes) {
-        return Ok(Finding::TooLarge);
+        Ok(Finding::TooLarge)
+    } else {
+        find_in_ports(alloc, bytes)
     }
+}
+
+/// What is found in the bytes of a port list that is not too large.
+fn find_in_ports(alloc: Global, bytes: &[u8]) -> Result<Finding, Fault>
+    ensures { IsListFinding bytes.now result }
+{
     match read_ports(alloc, alloc, bytes) {
         Ok(_rows) => Ok(Finding::Sound),
         Err(FileFault::Line(line)) => Ok(Finding::Record(line)),

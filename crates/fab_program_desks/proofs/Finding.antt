@@ -1,40 +1,41 @@
--- How tables are found in a file.
+-- How tables are found and made in a file.
 use Rattle.std.proofs.Common.{◌≡◌, ◌⊎◌, Bool, true, false, IsTrue, Result, Ok, Err, IfOk, IfErr, refl, inl, inr, subst}
-use Rattle.sqlite.specs.Files.{file_state, IsOpened}
-use Rattle.sqlite.specs.Held.{Held}
-use Rattle.sqlite.specs.State.{State, HasCleanDisk}
-use Rattle.sqlite_disk.specs.declared.Disk as disk
-use Rattle.sqlite_store.specs.declared.store.FileStore.{FileStore}
+use Rattle.sqlite.specs.State.{State}
+use Rattle.sqlite.specs.declared.error.Error.{Error}
 use Rattle.fab_program_outside.specs.declared.faults.Fault.{Fault}
-use Rattle.fab_program_desks.specs.Tables.{AreBroughtFrom, AreUnbroughtFrom, IsBrought, IsFound, IsUnbrought, IsUnfound, IsUnopened}
+use Rattle.fab_program_desks.specs.Tables.{AreBroughtFrom, AreFound, AreMade, AreMadeFrom, AreUnbroughtFrom, AreUnfound, AreUnmade, AreUnmadeFrom, IsUnopened}
 
 -- by what a call answers
 pub either : {A B : Type 0} (answer : Bool) → (IsTrue answer → A) → (answer ≡ false → B) → B ⊎ A
 either true changed same = inr (changed refl)
 either false changed same = inl (same refl)
 
--- over a connection of which this holds
-module _ {H T : Type 0} (state_of : H → State) (conn_of : T → H) (Opened : H → Type 0) (before : H) (opened : Opened before) where
-  pub brought_from : (came : Result T Fault) → IfOk came (λ after. HasCleanDisk (state_of (conn_of after)) → HasCleanDisk (state_of before) × IsBrought (state_of before) (state_of (conn_of after)))
-      → IfOk came (λ after. AreBroughtFrom state_of Opened (conn_of after))
-  brought_from (Ok after) done = (before, opened, done)
-  brought_from (Err fault) done = tt
+-- of what came of opening a file this is known
+module _ {H T : Type 0} (state_of : H → State) (conn_of : T → H) (Connects : Result H Error → Type 0) (opened : Result H Fault) (is_opened : IfOk opened (λ conn. Connects (Ok conn))) where
+  connects : (before : H) → opened ≡ Ok before → Connects (Ok before)
+  connects before is = subst (λ o. IfOk o (λ conn. Connects (Ok conn))) is is_opened
 
-  pub unbrought_from : (Other : Fault → Type 0) (came : Result T Fault) → IfErr came (IsUnbrought state_of before) → IfErr came (λ fault. Other fault ⊎ AreUnbroughtFrom state_of Opened fault)
-  unbrought_from Other (Ok after) why = tt
-  unbrought_from Other (Err fault) why = inr (before, opened, why)
+  pub found : (HasFile : Bool → Type 0) (came : Result T Fault) → HasFile true
+      → IfOk came (λ after. AreBroughtFrom state_of (λ before. opened ≡ Ok before) (conn_of after))
+      → IfOk came (λ after. AreFound state_of HasFile Connects (conn_of after))
+  found HasFile (Ok after) there brought = (there, (brought.0, connects brought.0 brought.1, brought.2))
+  found HasFile (Err fault) there brought = tt
 
--- in a file
-module _ {D T : Type 0} (g : disk.Ghosts D) (conn_of : T → Held (FileStore D g)) (opened : Result (Held (FileStore D g)) Fault) where
-  pub found : (came : Result T Fault) → IfOk opened (λ conn. HasCleanDisk (file_state conn) → IsOpened conn)
-      → IfOk came (λ after. AreBroughtFrom file_state (λ before. opened ≡ Ok before) (conn_of after))
-      → IfOk came (λ after. HasCleanDisk (file_state (conn_of after)) → IsFound g (conn_of after))
-  found (Ok after) is_opened brought = λ clean. let both = brought.2 clean in (brought.0, subst (λ o. IfOk o (λ conn. HasCleanDisk (file_state conn) → IsOpened conn)) brought.1 is_opened both.0, both.1)
-  found (Err fault) is_opened brought = tt
+  pub unfound : (HasFile : Bool → Type 0) (came : Result T Fault) → HasFile true → IfErr opened (IsUnopened Connects)
+      → IfErr came (λ fault. (opened ≡ Err fault) ⊎ AreUnbroughtFrom state_of (λ before. opened ≡ Ok before) fault)
+      → IfErr came (AreUnfound state_of HasFile Connects)
+  unfound HasFile (Ok after) there is_unopened why = tt
+  unfound HasFile (Err fault) there is_unopened (inl same) = inr (there, inl (subst (λ o. IfErr o (IsUnopened Connects)) same is_unopened))
+  unfound HasFile (Err fault) there is_unopened (inr why) = inr (there, inr (why.0, connects why.0 why.1, why.2))
 
-  pub unfound : (came : Result T Fault) → IfErr opened IsUnopened
-      → IfErr came (λ fault. (opened ≡ Err fault) ⊎ AreUnbroughtFrom file_state (λ before. opened ≡ Ok before) fault)
-      → IfErr came (IsUnfound g)
-  unfound (Ok after) is_unopened why = tt
-  unfound (Err fault) is_unopened (inl same) = inl (subst (λ o. IfErr o IsUnopened) same is_unopened)
-  unfound (Err fault) is_unopened (inr why) = inr (why.0, why.2)
+  pub made : (came : Result T Fault) → IfOk came (λ after. AreMadeFrom state_of (λ before. opened ≡ Ok before) (conn_of after))
+      → IfOk came (λ after. AreMade state_of Connects (conn_of after))
+  made (Ok after) is = (is.0, connects is.0 is.1, is.2)
+  made (Err fault) is = tt
+
+  pub unmade : (came : Result T Fault) → IfErr opened (IsUnopened Connects)
+      → IfErr came (λ fault. (opened ≡ Err fault) ⊎ AreUnmadeFrom state_of (λ before. opened ≡ Ok before) fault)
+      → IfErr came (AreUnmade state_of Connects)
+  unmade (Ok after) is_unopened why = tt
+  unmade (Err fault) is_unopened (inl same) = inl (subst (λ o. IfErr o (IsUnopened Connects)) same is_unopened)
+  unmade (Err fault) is_unopened (inr why) = inr (why.0, connects why.0 why.1, why.2)

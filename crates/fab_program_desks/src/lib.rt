@@ -3,9 +3,10 @@
 #![tactic(auto)]
 
 mod addresses;
+mod connections;
 mod database;
 mod machine;
 
 pub use addresses::Addresses;
 pub use database::{Databases, ProgramDesk, desk_over, make, tables_again};
-pub use machine::new_tables;
+pub use machine::{FileTables, new_tables};

@@ -1,14 +1,15 @@
 //! What this machine has: SQLite databases, and sockets.
-ghost use Rattle.std.specs.Prelude.{◌≡◌, ◌⊎◌, false, IfOk, IfErr};
-ghost use Rattle.sqlite.specs.Files.{file_state, IsOpened};
+ghost use Rattle.std.specs.Prelude.{◌≡◌, ◌⊎◌, false, IfOk, IfErr, OnOk};
 ghost use Rattle.sqlite.specs.Held.{state};
 ghost use Rattle.sqlite.specs.State.{HasCleanDisk};
 ghost use Rattle.sqlite.specs.Steps.{over_memory};
 ghost use Rattle.fab_store_sql.specs.NewDesk.{IsNewDesk};
 ghost use Rattle.fab_store_schema.specs.Trees.{tables_of};
-ghost use Rattle.fab_program_desks.specs.Tables.{AreBroughtFrom, AreUnbroughtFrom, IsBrought, IsUnbrought, IsUnopened, opened_fault};
+ghost use Rattle.fab_program_outside.specs.declared.faults.Fault.TheVariants as faults;
+ghost use Rattle.fab_program_desks.specs.Tables.{AreBroughtFrom, AreFound, AreMade, AreMadeFrom, AreUnbroughtFrom, AreUnfound, AreUnmade, AreUnmadeFrom, IsBrought, IsMadeIn, IsUnbrought, IsUnmade, IsUnopened, opened_fault};
 
 use crate::addresses::Addresses;
+use crate::connections::Connections;
 use crate::database::Databases;
 use fab_program_loading::of_opening;
 use fab_program_outside::{Fault, Machine};
@@ -17,50 +18,63 @@ use fab_wire_serving::listen_at;
 use sqlite::{Alter, Connection, Error, ErrorCode, File as DatabaseFile, FileStore, MemStore};
 use sqlite_disk::Disk;
 use std::alloc::Global;
-use std::fs::File;
 use std::net::TcpListener;
 
 /// The tables in a file.
-type FileTables = SqlStore<FileStore<DatabaseFile>>;
+pub type FileTables = SqlStore<FileStore<DatabaseFile>>;
 
 /// The tables in memory.
 pub type MemoryTables = SqlStore<MemStore>;
 
+/// Makes the tables of a new desk where there is no table.
+///
+/// # Errors
+/// `Store` where they could not be made: all is as it was then.
+fn make_in<S: Alter + Drop>(tables: &mut SqlStore<S>) -> Result<(), Fault>
+    ensures made { OnOk result (IsMadeIn (state S.Store tables.old.conn) (state S.Store tables.new.conn)) }
+    ensures fault { IfErr result (IsUnmade (state S.Store tables.old.conn) (state S.Store tables.new.conn) tables.old.refusals tables.new.refusals) }
+{
+    match tables.init() {
+        Ok(()) => Ok(()),
+        Err(_) => Err(Fault::Store),
+    }
+}
+
 /// The tables of a new desk over a connection, if there is one.
 ///
 /// # Errors
-/// `Store` where they could not be made: there is none of them then.
+/// Why there is no connection; else `Store` where they could not be made: all is as it was then.
 fn new_over<S: Alter + Drop>(
     alloc: Global,
     opened: Result<Connection<S>, Fault>,
 ) -> Result<SqlStore<S>, Fault>
     requires { IfOk opened (λ conn. conn.in_transaction ≡ false) }
-    ensures made { IfOk result (λ tables. HasCleanDisk (state S.Store tables.conn) → IsNewDesk (tables_of (state S.Store tables.conn).now.trees)) }
-    ensures fault { IfErr result (λ fault. (opened ≡ Err fault) ⊎ (fault ≡ Fault.Store)) }
+    ensures made { IfOk result (λ tables. AreMadeFrom (state S.Store) (λ before. opened ≡ Ok before) tables.conn) }
+    ensures fault { IfErr result (λ fault. (opened ≡ Err fault) ⊎ AreUnmadeFrom (state S.Store) (λ before. opened ≡ Ok before) fault) }
 {
     match opened {
         Ok(conn) => {
             let mut tables = SqlStore::new(conn, alloc);
-            match tables.init() {
+            match make_in(&mut tables) {
                 Ok(()) => Ok(tables),
-                Err(_) => Err(Fault::Store),
+                Err(fault) => Err(fault),
             }
         }
         Err(fault) => Err(fault),
     }
 }
 
-/// A connection to the database in a file.
+/// A connection to the database in the file at a path.
 ///
 /// # Errors
 /// `File` where it cannot be opened; `Store` where it is no database, or another process has it open;
 /// `Memory`.
-fn connected(rt: &HostRuntime, path: &str) -> Result<Connection<FileStore<DatabaseFile>>, Fault>
+fn connected<O: Connections>(outside: &O, path: &str) -> Result<Connection<O::Pages>, Fault>
     ensures outside { IfOk result (λ conn. conn.in_transaction ≡ false) }
-    ensures opened { IfOk result (λ conn. HasCleanDisk (file_state conn) → IsOpened conn) }
-    ensures fault { IfErr result IsUnopened }
+    ensures opened { IfOk result (λ conn. O.connects outside.now path.now (Ok conn)) }
+    ensures fault { IfErr result (IsUnopened (O.connects outside.now path.now)) }
 {
-    match Connection::open(rt, path) {
+    match outside.connect(path) {
         Ok(conn) => Ok(conn),
         Err(error) => Err(fault_of(&error)),
     }
@@ -82,7 +96,8 @@ fn fault_of(error: &Error) -> Fault
 /// # Errors
 /// `Memory`; `Store` where they could not be made.
 pub fn new_tables(alloc: Global) -> Result<MemoryTables, Fault>
-    ensures { IfOk result (λ tables. HasCleanDisk (state over_memory tables.conn) → IsNewDesk (tables_of (state over_memory tables.conn).now.trees)) }
+    ensures made { IfOk result (λ tables. HasCleanDisk (state over_memory tables.conn) → IsNewDesk (tables_of (state over_memory tables.conn).now.trees)) }
+    ensures fault { IfErr result (λ fault. (fault ≡ faults.Memory) ⊎ (fault ≡ faults.Store)) }
 {
     match Connection::open_in_memory(alloc) {
         Ok(conn) => new_over(alloc, Ok(conn)),
@@ -90,19 +105,18 @@ pub fn new_tables(alloc: Global) -> Result<MemoryTables, Fault>
     }
 }
 
-/// The tables, brought to the present schema.
+/// Brings tables to the present schema.
 ///
 /// # Errors
 /// `NewerSchema` where a newer schema stands in the settings; `Damaged` where none stands there that ever
 /// was; `Store` where the store refused, or the tables are not those of the schema that is told; `Memory`.
 /// The tables are as they were then.
-fn brought<S: Alter + Drop>(tables: SqlStore<S>) -> Result<SqlStore<S>, Fault>
-    ensures done { IfOk result (λ after. HasCleanDisk (state S.Store after.conn) → HasCleanDisk (state S.Store tables.conn) × IsBrought (state S.Store tables.conn) (state S.Store after.conn)) }
-    ensures fault { IfErr result (IsUnbrought (state S.Store) tables.conn) }
+fn bring<S: Alter + Drop>(tables: &mut SqlStore<S>) -> Result<(), Fault>
+    ensures done { OnOk result (HasCleanDisk (state S.Store tables.new.conn) → HasCleanDisk (state S.Store tables.old.conn) × IsBrought (state S.Store tables.old.conn) (state S.Store tables.new.conn)) }
+    ensures fault { IfErr result (IsUnbrought (state S.Store tables.old.conn) (state S.Store tables.new.conn) tables.old.refusals tables.new.refusals) }
 {
-    let mut tables = tables;
-    match Store::<Global>::migrate(&mut tables) {
-        Ok(_) => Ok(tables),
+    match Store::<Global>::migrate(tables) {
+        Ok(_) => Ok(()),
         Err(fault) => Err(of_opening(fault)),
     }
 }
@@ -110,7 +124,7 @@ fn brought<S: Alter + Drop>(tables: SqlStore<S>) -> Result<SqlStore<S>, Fault>
 /// The tables over a connection, if there is one, brought to the present schema.
 ///
 /// # Errors
-/// Why there is no connection; else as for `brought`.
+/// Why there is no connection; else as for `bring`.
 fn brought_over<S: Alter + Drop>(
     alloc: Global,
     opened: Result<Connection<S>, Fault>,
@@ -120,35 +134,67 @@ fn brought_over<S: Alter + Drop>(
     ensures fault { IfErr result (λ fault. (opened ≡ Err fault) ⊎ AreUnbroughtFrom (state S.Store) (λ before. opened ≡ Ok before) fault) }
 {
     match opened {
-        Ok(conn) => brought(SqlStore::new(conn, alloc)),
+        Ok(conn) => {
+            let mut tables = SqlStore::new(conn, alloc);
+            match bring(&mut tables) {
+                Ok(()) => Ok(tables),
+                Err(fault) => Err(fault),
+            }
+        }
         Err(fault) => Err(fault),
     }
 }
 
+/// The tables in the file at a path, which has to be there, brought to the present schema.
+///
+/// # Errors
+/// `File` where it is not there, or cannot be opened; else as for `connected` and `bring`.
+fn tables_at<O: Connections>(
+    alloc: Global,
+    outside: &O,
+    path: &str,
+) -> Result<SqlStore<O::Pages>, Fault>
+    ensures found { IfOk result (λ tables. AreFound (state O.Pages.Store) (O.has_file outside.now path.now) (O.connects outside.now path.now) tables.conn) }
+    ensures unfound { IfErr result (AreUnfound (state O.Pages.Store) (O.has_file outside.now path.now) (O.connects outside.now path.now)) }
+{
+    if !outside.is_there(path) {
+        return Err(Fault::File);
+    }
+    brought_over(alloc, connected(outside, path))
+}
+
+/// The tables of a new desk in the file at a path.
+///
+/// # Errors
+/// As for `connected` and `make_in`.
+fn new_tables_at<O: Connections>(
+    alloc: Global,
+    outside: &O,
+    path: &str,
+) -> Result<SqlStore<O::Pages>, Fault>
+    ensures made { IfOk result (λ tables. AreMade (state O.Pages.Store) (O.connects outside.now path.now) tables.conn) }
+    ensures unmade { IfErr result (AreUnmade (state O.Pages.Store) (O.connects outside.now path.now)) }
+{
+    new_over(alloc, connected(outside, path))
+}
+
 impl<'r> Databases for Machine<'r> {
-    ghost use Rattle.std.specs.Prelude.{IfOk, IfErr};
+    ghost use Rattle.std.specs.Prelude.{⊤, IfOk, IfErr};
     ghost use Rattle.sqlite.specs.Files.{file_state};
-    ghost use Rattle.sqlite.specs.State.{HasCleanDisk};
-    ghost use Rattle.fab_store_sql.specs.NewDesk.{IsNewDesk};
-    ghost use Rattle.fab_store_schema.specs.Trees.{tables_of};
-    ghost use Rattle.fab_program_desks.specs.Tables.{IsFound, IsUnfound};
+    ghost use Rattle.fab_program_desks.specs.Tables.{AreFound, AreMade, AreUnfound, AreUnmade, IsConnected};
 
     type Tables = FileTables;
 
-    ghost finds = { λ machine path came. IfOk came (λ tables. HasCleanDisk (file_state tables.conn) → IsFound ⟦<DatabaseFile as Disk>⟧ tables.conn) × IfErr came (IsUnfound ⟦<DatabaseFile as Disk>⟧) };
+    ghost finds = { λ machine path came. IfOk came (λ tables. AreFound file_state (λ there. ⊤) (IsConnected ⟦<DatabaseFile as Disk>⟧) tables.conn) × IfErr came (AreUnfound file_state (λ there. ⊤) (IsConnected ⟦<DatabaseFile as Disk>⟧)) };
 
-    ghost makes = { λ machine path came. IfOk came (λ tables. HasCleanDisk (file_state tables.conn) → IsNewDesk (tables_of (file_state tables.conn).now.trees)) };
+    ghost makes = { λ machine path came. IfOk came (λ tables. AreMade file_state (IsConnected ⟦<DatabaseFile as Disk>⟧) tables.conn) × IfErr came (AreUnmade file_state (IsConnected ⟦<DatabaseFile as Disk>⟧)) };
 
     fn tables_in(&self, path: &str) -> Result<FileTables, Fault> {
-        match File::open(self.rt, path) {
-            Ok(file) => drop(file),
-            Err(_) => return Err(Fault::File),
-        }
-        brought_over(self.rt.alloc(), connected(self.rt, path))
+        tables_at(self.rt.alloc(), self, path)
     }
 
     fn new_tables_in(&self, path: &str) -> Result<FileTables, Fault> {
-        new_over(self.rt.alloc(), connected(self.rt, path))
+        new_tables_at(self.rt.alloc(), self, path)
     }
 }
 

@@ -20,14 +20,13 @@ pub fn of_opening(fault: OpenFault) -> Fault
     }
 }
 
-/// The world that the tables of a store have.
+/// The world that the tables of a store have. Nothing of the store is changed.
 ///
 /// # Errors
 /// `Damaged`, `NewerSchema`, `Store` or `Memory`: why its tables are not those of a desk.
-pub fn world_of<S: Store<Global>>(alloc: Global, store: S) -> Result<World<Global>, Fault>
-    ensures { IsLoaded S.Store store result }
+pub fn world_of<S: Store<Global>>(alloc: Global, store: &mut S) -> Result<World<Global>, Fault>
+    ensures { IsLoaded S.Store store.old store.new result }
 {
-    let mut store = store;
     match store.load(alloc) {
         Ok(world) => Ok(world),
         Err(fault) => Err(of_opening(fault)),

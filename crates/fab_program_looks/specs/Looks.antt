@@ -29,6 +29,10 @@ module _ {W : Type 0} (contents : W → Option (List ℕ)) where
   LooksAt w p asked writer came = (IsNobodys p asked.token.now × IsTurnedAway contents writer came) ⊎ ((id : ℕ) × IsOnlyWith p asked.token.now id × LooksAs w p id asked.look asked.is_json writer came)
 
 module _ {S W : Type 0} (g : store.Ghosts S Global) (contents : W → Option (List ℕ)) where
-  -- the store is read, and then the caller looks at its world
+  -- the store is read, which changes nothing of it, and then the caller looks at its world
+  abbrev pub LooksIn : (before after : S) → PolicyRows → Asked → W → Result (W × End) Fault → Type 0
+  LooksIn before after p asked writer came = Then (IsLoaded g before after) (λ w. LooksAt contents w p asked writer) came
+
+  -- and the store is let go of
   abbrev pub LooksOver : S → PolicyRows → Asked → W → Result (W × End) Fault → Type 0
-  LooksOver s p asked writer came = Then (IsLoaded g s) (λ w. LooksAt contents w p asked writer) came
+  LooksOver s p asked writer came = (after : S) × LooksIn s after p asked writer came

@@ -1,6 +1,6 @@
 //! A look at the world of a store.
 ghost use Rattle.std.specs.Prelude.{IfOk};
-ghost use Rattle.fab_program_looks.specs.Looks.{LooksAs, LooksAt, LooksOver};
+ghost use Rattle.fab_program_looks.specs.Looks.{LooksAs, LooksAt, LooksIn, LooksOver};
 ghost use Rattle.fab_program_outside.specs.Coming.{After};
 ghost use Rattle.fab_world.specs.Soundness.{IsSound};
 
@@ -51,7 +51,7 @@ pub struct Asked<'t> {
 }
 
 /// Looks at the world of a store, if there is one, and prints what the caller is told. The writer is
-/// handed back, and has just that text.
+/// handed back, and has just that text. The store is let go of.
 ///
 /// # Errors
 /// As for the store; `Memory`; `Stream` where the writer failed.
@@ -65,9 +65,25 @@ pub fn look_over<S: Store<Global>, W: Write + Drop>(
     ensures { After store (λ s. LooksOver S.Store W.contents s policy.now asked.now writer) result }
 {
     match store {
-        Ok(store) => look_by(alloc, world_of(alloc, store), policy, asked, writer),
+        Ok(store) => {
+            let mut store = store;
+            look_in(alloc, &mut store, policy, asked, writer)
+        }
         Err(fault) => Err(fault),
     }
+}
+
+/// Looks at the world of a store. Nothing of the store is changed.
+fn look_in<S: Store<Global>, W: Write + Drop>(
+    alloc: Global,
+    store: &mut S,
+    policy: &Policy,
+    asked: &Asked<'_>,
+    writer: W,
+) -> Result<(W, End), Fault>
+    ensures { LooksIn S.Store W.contents store.old store.new policy.now asked.now writer result }
+{
+    look_by(alloc, world_of(alloc, store), policy, asked, writer)
 }
 
 /// Looks at a world, if there is one.

@@ -5,6 +5,8 @@ use Rattle.fab_policy_base.specs.Shapes.{IsMemory}
 use Rattle.fab_policy_base.specs.Tables.{SpellsPolicy}
 use Rattle.fab_policy_base.specs.declared.PolicyFault.{PolicyFault}
 use Rattle.fab_policy_base.specs.declared.PolicyFault.TheVariants as why
+use Rattle.fab_wire_streams.specs.Counting.{failures_of}
+use Rattle.fab_wire_streams.specs.declared.counted.Counted.{Counted}
 use Rattle.fab_program_outside.specs.declared.faults.Fault.{Fault}
 use Rattle.fab_program_outside.specs.declared.faults.Fault.TheVariants.{File, Policy, Memory}
 use Rattle.fab_program_outside.specs.declared.files.Size.{Size}
@@ -28,9 +30,9 @@ IsUsed Measures = (size : Size) × Measures size × ¬ IsEmpty size
 abbrev pub HasFirst : Option (List ℕ) → List ℕ → Type 0
 HasFirst whole bytes = IfSome whole (λ all. bytes ≡ take (2 ^ 20 + 1) all)
 
--- a read failed, or there was no memory
-abbrev pub IsReadFault : Fault → Type 0
-IsReadFault fault = (fault ≡ File) ⊎ (fault ≡ Memory)
+-- a read failed, by how many had failed before and have failed now; or there was no memory
+abbrev pub IsReadFault : (before after : ℕ) → Fault → Type 0
+IsReadFault before after fault = ((before < after) × (fault ≡ File)) ⊎ (fault ≡ Memory)
 
 module _ {F : Type 0} (remaining : F → Option (List ℕ)) (Opens : Option F → Type 0) where
   -- a file was opened that has the bytes
@@ -38,9 +40,9 @@ module _ {F : Type 0} (remaining : F → Option (List ℕ)) (Opens : Option F �
   HasContent bytes = (file : F) × Opens (Some file) × HasFirst (remaining file) bytes
 
 module _ {F : Type 0} (Opens : Option F → Type 0) where
-  -- no file was opened; or one was, and was not read to its end
+  -- no file was opened; or one was, and was not read to its end, as the count of its failed reads tells
   abbrev pub IsUnread : Fault → Type 0
-  IsUnread fault = (Opens None × (fault ≡ File)) ⊎ ((file : F) × Opens (Some file) × IsReadFault fault)
+  IsUnread fault = (Opens None × (fault ≡ File)) ⊎ ((file : F) × Opens (Some file) × (read : Counted F) × IsReadFault 0 (failures_of read) fault)
 
 -- ---- the policy of a file
 

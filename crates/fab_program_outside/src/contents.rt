@@ -1,13 +1,15 @@
 //! What files contain.
-ghost use Rattle.std.specs.Prelude.{◌≡◌, ◌<◌, ◌↔◌, ◌^◌, IsTrue, length, MatchResult};
+ghost use Rattle.std.specs.Prelude.{◌≡◌, ◌<◌, ◌↔◌, ◌^◌, IfOk, IsTrue, length, MatchResult};
+ghost use Rattle.fab_wire_streams.specs.Counting.{inner_of, failures_of};
 ghost use Rattle.fab_program_outside.specs.Contents.{HasContent, HasFirst, IsReadFault, IsUnread, IsPolicyAt, IsPolicyFrom, IsPolicyOf, fault_of_policy};
 
 use crate::faults::Fault;
 use crate::files::Files;
 use fab_policy_base::{Policy, PolicyFault};
+use fab_wire_streams::counted::Counted;
 use std::alloc::Global;
 use std::io::{ErrorKind, Read};
-use std::str;
+use std::{io, str};
 
 /// The greatest length of a policy's file, and of a port list's, in bytes.
 const MOST_FILE: u64 = 1_048_576;
@@ -20,7 +22,10 @@ pub fn bytes_of<F: Files>(alloc: Global, files: &F, path: &str) -> Result<Vec<u8
     ensures { MatchResult result (λ bytes. HasContent F.File.remaining (F.opens files.now path.now) bytes.items) (IsUnread (F.opens files.now path.now)) }
 {
     match files.open(path) {
-        Some(file) => read_all(alloc, file),
+        Some(file) => {
+            let mut file = Counted::new(file);
+            read_all(alloc, &mut file)
+        }
         None => Err(Fault::File),
     }
 }
@@ -29,14 +34,40 @@ pub fn bytes_of<F: Files>(alloc: Global, files: &F, path: &str) -> Result<Vec<u8
 ///
 /// # Errors
 /// `File` where a read fails; `Memory`.
-fn read_all<R: Read + Drop>(alloc: Global, reader: R) -> Result<Vec<u8>, Fault>
-    ensures { MatchResult result (λ bytes. HasFirst (R.remaining reader) bytes.items) IsReadFault }
+fn read_all<R: Read>(alloc: Global, reader: &mut Counted<R>) -> Result<Vec<u8>, Fault>
+    ensures { MatchResult result (λ bytes. HasFirst (R.remaining (inner_of reader.old)) bytes.items) (IsReadFault (failures_of reader.old) (failures_of reader.new)) }
+{
+    let before = reader.failures();
+    match first_bytes(alloc, reader) {
+        Ok(bytes) => Ok(bytes),
+        Err(error) if error.kind() == ErrorKind::OutOfMemory => Err(Fault::Memory),
+        Err(_) => Err(unread(before, reader.failures())),
+    }
+}
+
+/// What a reader gives, up to one byte more than a file may have. A read that is interrupted is tried
+/// again.
+///
+/// # Errors
+/// That of a read that fails, or of want of memory.
+fn first_bytes<R: Read>(alloc: Global, reader: &mut Counted<R>) -> io::Result<Vec<u8>>
+    ensures { IfOk result (λ bytes. HasFirst (R.remaining (inner_of reader.old)) bytes.items) }
 {
     let mut bytes = Vec::new(alloc);
     match reader.take(MOST_FILE + 1).read_to_end(&mut bytes) {
         Ok(_) => Ok(bytes),
-        Err(error) if error.kind() == ErrorKind::OutOfMemory => Err(Fault::Memory),
-        Err(_) => Err(Fault::File),
+        Err(error) => Err(error),
+    }
+}
+
+/// Why a reader was not read to its end, by how many of its reads had failed before and have failed now.
+fn unread(before: u64, after: u64) -> Fault
+    ensures { IsReadFault before after result }
+{
+    if before < after {
+        Fault::File
+    } else {
+        Fault::Memory
     }
 }
 

@@ -25,11 +25,18 @@ abbrev pub IsToldAt : {Y : Type 0} → (Result Y Fault → Type 0) → Result Y 
 IsToldAt Tells came = (came ≡ Err fault.Memory) ⊎ Tells came
 
 module _ {S Y : Type 0} (g : store.Ghosts S Global) where
-  -- the store is read; then there is a moment; and then it is told at its world
+  -- the store is read, which changes nothing of it; then there is a moment; and then it is told at its world
+  abbrev pub ComesToldIn : (before after : S) → Result ℕ Fault → (WorldRows → ℕ → Result Y Fault → Type 0) → Result Y Fault → Type 0
+  ComesToldIn before after moment Tells came = Then (IsLoaded g before after) (λ w. After moment (λ m. IsToldAt (Tells w m))) came
+
+  -- and the store is let go of
   abbrev pub ComesTold : S → Result ℕ Fault → (WorldRows → ℕ → Result Y Fault → Type 0) → Result Y Fault → Type 0
-  ComesTold s moment Tells came = Then (IsLoaded g s) (λ w. After moment (λ m. IsToldAt (Tells w m))) came
+  ComesTold s moment Tells came = (after : S) × ComesToldIn s after moment Tells came
 
 module _ {S W : Type 0} (g : store.Ghosts S Global) (contents : W → Option (List ℕ)) where
   -- what is asked for is told so
+  abbrev pub TriesIn : (before after : S) → PolicyRows → Asked → W → Result (W × End) Fault → Type 0
+  TriesIn before after p asked writer came = ComesToldIn g before after asked.moment (λ w m. TriesAs contents w p asked.token.now m asked.trial asked.is_json writer) came
+
   abbrev pub TriesOver : S → PolicyRows → Asked → W → Result (W × End) Fault → Type 0
   TriesOver s p asked writer came = ComesTold g s asked.moment (λ w m. TriesAs contents w p asked.token.now m asked.trial asked.is_json writer) came

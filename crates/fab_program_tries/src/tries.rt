@@ -1,7 +1,7 @@
 //! What an import or a plan would do, over a store.
 ghost use Rattle.std.specs.Prelude.{IfOk};
 ghost use Rattle.fab_program_outside.specs.Coming.{After};
-ghost use Rattle.fab_program_tries.specs.Tries.{IsToldAt, TriesAs, TriesOver};
+ghost use Rattle.fab_program_tries.specs.Tries.{IsToldAt, TriesAs, TriesIn, TriesOver};
 ghost use Rattle.fab_world.specs.Soundness.{IsSound};
 ghost use Rattle.fab_world.specs.Worlds.{records_of};
 
@@ -49,7 +49,7 @@ pub struct Asked<'t> {
 }
 
 /// Tries at the world of a store, if there is one, and prints what the caller is told. The writer is
-/// handed back, and has just that text.
+/// handed back, and has just that text. The store is let go of.
 ///
 /// # Errors
 /// As for the store and the moment, in this order; `Memory`; `Stream` where the writer failed.
@@ -63,9 +63,25 @@ pub fn try_over<S: Store<Global>, W: Write + Drop>(
     ensures { After store (λ s. TriesOver S.Store W.contents s policy.now asked.now writer) result }
 {
     match store {
-        Ok(store) => try_by(alloc, world_of(alloc, store), policy, asked, writer),
+        Ok(store) => {
+            let mut store = store;
+            try_in(alloc, &mut store, policy, asked, writer)
+        }
         Err(fault) => Err(fault),
     }
+}
+
+/// Tries at the world of a store. Nothing of the store is changed.
+fn try_in<S: Store<Global>, W: Write + Drop>(
+    alloc: Global,
+    store: &mut S,
+    policy: &Policy,
+    asked: &Asked<'_>,
+    writer: W,
+) -> Result<(W, End), Fault>
+    ensures { TriesIn S.Store W.contents store.old store.new policy.now asked.now writer result }
+{
+    try_by(alloc, world_of(alloc, store), policy, asked, writer)
 }
 
 /// Tries at a world, if there is one.

@@ -1,5 +1,5 @@
 use Rattle.fab_program_desks.proofs.Finding.{either}
-use Rattle.fab_program_desks.proofs.machine.brought.Goals as goal
+use Rattle.fab_program_desks.proofs.machine.bring.Goals as goal
 
 pub returns-in-Ok-clause-done : goal.returns-in-Ok-clause-done
 returns-in-Ok-clause-done g c clean = (
@@ -12,10 +12,10 @@ returns-in-Ok-clause-done g c clean = (
 
 pub returns-in-Err-clause-fault : goal.returns-in-Err-clause-fault
 returns-in-Err-clause-fault g c = record {
-  after = c.migrate.new.self.conn;
   why = c.in-Err.fault;
+  is = c.of_opening.ensures;
+  counted = c.in-Err.ensures.counted;
   same = λ clean. c.in-Err.ensures.failed clean;
   holds = λ clean known. c.in-Err.ensures.fault clean known;
   stop = λ clean. c.migrate.ensures.stop clean;
-  is = c.of_opening.ensures;
 }

@@ -1,7 +1,0 @@
-use Rattle.std.proofs.Common.{◌+◌, ◌^◌}
-use Rattle.fab_program_outside.proofs.ReadLemmas.{first_of}
-use Rattle.fab_program_outside.proofs.contents.read_all.Goals as goal
-
-pub returns-in-Ok : goal.returns-in-Ok
-returns-in-Ok g c =
-    first_of (g.R.Read.remaining c.args.reader) (2 ^ 20 + 1) _ _ c.new-bytes.ensures.items (rw (c.take.ensures.limit, c.take.ensures.inner) at c.in-Ok.ensures.bytes)
