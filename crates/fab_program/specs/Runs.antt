@@ -1,5 +1,5 @@
 -- What the words of the command line come to.
-use Rattle.std.specs.Prelude.{ℕ, ◌≡◌, List, Option, None, Result, Ok, Err}
+use Rattle.std.specs.Prelude.{ℕ, ◌≡◌, ◌⊎◌, List, Option, None, Result, Ok, Err}
 use Rattle.std.specs.declared.alloc.Global.{Global}
 use Rattle.fab_desk_base.specs.declared.command.Query.TheVariants as query
 use Rattle.fab_files.specs.declared.forms.Form.TheVariants as form
@@ -14,6 +14,7 @@ use Rattle.fab_wire_serving.specs.declared.server.Server as server
 use Rattle.fab_wire.specs.declared.outcome.Outcome.{Outcome}
 use Rattle.fab_store.specs.declared.OpenFault.{OpenFault}
 use Rattle.fab_store.specs.declared.Store as store
+use Rattle.fab_program_options.specs.Asking.{Asks, IsReason}
 use Rattle.fab_program_options.specs.declared.reading.WordsFault.{WordsFault}
 use Rattle.fab_program_options.specs.declared.reading.WordsFault.TheVariants as wrong
 use Rattle.fab_program_words.specs.declared.words.Words.{Words}
@@ -24,7 +25,7 @@ use Rattle.fab_program_explains.specs.Explains.{ExplainComes, now_in}
 use Rattle.fab_program_commands.specs.Commands.{DryRunComes, ImportComes, ShowComes}
 use Rattle.fab_program_desks.specs.Databases.{IsMade}
 use Rattle.fab_program_desks.specs.Desks.{ProgramDesk}
-use Rattle.fab_program.specs.Exits.{end_of_making, end_only}
+use Rattle.fab_program.specs.Exits.{end_of_making, end_only, status_of, words_status}
 use Rattle.fab_program.specs.Looks.{WhyComes, WhoComes, NamesComes}
 use Rattle.fab_program_serving.specs.Once.{ComesOnce}
 use Rattle.fab_program_serving.specs.Servings.{ComesServing}
@@ -42,6 +43,21 @@ abbrev pub IsToldOfWords : {E : Type 0} → (E → List ℕ → E → Type 0) �
 IsToldOfWords took cut old (wrong.Refused error) new = Unit {0}
 IsToldOfWords took cut old wrong.BadText new = IsTold took cut old words_line new
 IsToldOfWords took cut old wrong.Memory new = IsTold took cut old (line_of fault.Memory) new
+
+-- what a subcommand comes to, and how it ends
+module _ {E : Type 0} (took : E → List ℕ → E → Type 0) (cut : E → List ℕ → E → Type 0) (Ends : Words → Result End Fault → Type 0) where
+  -- the words ask for something; that is carried out, a fault has its line on standard error, and the status is that of the end
+  abbrev pub IsCarriedOut : List (List ℕ) → E → ℕ → E → Type 0
+  IsCarriedOut line old status new = (asked : Words) × Asks line asked
+      × ((ended : Result End Fault) × Ends asked ended × IsToldOf took cut old ended new × (status ≡ status_of ended))
+
+  -- the words ask for nothing, and why is told
+  abbrev pub IsTurnedAway : List (List ℕ) → E → ℕ → E → Type 0
+  IsTurnedAway line old status new = (why : WordsFault) × IsReason line why × IsToldOfWords took cut old why new × (status ≡ words_status why)
+
+  -- what the program does for the words of a command line, from one standard error to the next
+  abbrev pub RunsTo : List (List ℕ) → E → ℕ → E → Type 0
+  RunsTo line old status new = IsCarriedOut line old status new ⊎ IsTurnedAway line old status new
 
 -- a command came to something, and ended so
 abbrev pub EndsLike : {W : Type 0} → (Result (W × End) Fault → Type 0) → Result End Fault → Type 0

@@ -11,7 +11,7 @@ ghost use Rattle.fab_program_words.specs.declared.words.Words.{Words};
 ghost use Rattle.fab_program.specs.Exits.{IsExitStatus, end_of_making, end_only, status_of, words_status};
 ghost use Rattle.fab_wire_serving.specs.Turns.{Gives};
 ghost use Rattle.fab_program_serving.specs.Once.{ComesOnce};
-ghost use Rattle.fab_program.specs.Runs.{Comes, EndsAt, IsToldOf, IsToldOfWords};
+ghost use Rattle.fab_program.specs.Runs.{Comes, EndsAt, IsToldOf, IsToldOfWords, RunsTo};
 
 use crate::looks::{names, who, why};
 use crate::tries::{diff, try_import};
@@ -86,6 +86,7 @@ pub fn run_over<
     ensures status { IsExitStatus result }
     ensures asked { result < 2 → (w : Words) × Asks (map string_bytes words.now) w }
     ensures wrong { result ≡ 2 → (w : Words) → ¬ Asks (map string_bytes words.now) w }
+    ensures done { (after : N) × RunsTo (Wrote E.contents) (WroteSome E.contents) (λ asked ended. Comes O.Files O.File.remaining O.Databases O.Addresses O.Modes O.Tables.Store (λ made. IfOk made (λ tables. HasCleanDisk (state over_memory tables.conn) → IsNewDesk (tables_of (state over_memory tables.conn).now.trees))) ⟦<SqlStore<MemStore> as Store<Global>>⟧ R.remaining W.contents (λ told. N.step now told after) ⟦<Front<O::Tables> as Server>⟧ (λ front. front.desk) (Gives N.step) outside.now asked reader writer ended) (map string_bytes words.now) errors.old result errors.new }
 {
     match read_words(rt.alloc(), words) {
         Ok(asked) => {

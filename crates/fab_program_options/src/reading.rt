@@ -41,7 +41,9 @@ use std::alloc::Global;
 pub enum WordsFault {
     /// They are wrong, or ask for help: `clap` says what.
     Refused(Error),
-    /// The value of an option has not its text form, or `once` has a database without a policy.
+    /// The value of an option has not its text form, or options do not go together: `once` has a
+    /// database without a policy; `who` not just one of a volume and a port; `check` not just one file;
+    /// `list` a state of something else than plans; `explain` the rules and a command, or neither.
     BadText,
     /// There was no memory.
     Memory,
@@ -50,9 +52,10 @@ pub enum WordsFault {
 /// Reads the words of a command line, of which the first is the program's name.
 ///
 /// # Errors
-/// `Refused` where `clap` finds a fault in the words, or they ask for help; `BadText` where a
-/// token, a name, a fabric, a count or a moment is not of its text form, or `once` has a database
-/// without a policy; `Memory` where there is no memory.
+/// `Refused` where `clap` finds a fault in the words, or they ask for help; `BadText` where the value
+/// of an option is not of its text form (a token, a name, a world-wide name, a fabric, a number, a
+/// kind, a state, an action, a list), or options do not go together; `Memory` where there is no
+/// memory.
 pub fn read_words<'a>(alloc: Global, words: &'a [String]) -> Result<Words<'a>, WordsFault>
     ensures ok { IfOk result (Asks (map string_bytes words.entry.now)) }
     ensures err { IfErr result (IsReason (map string_bytes words.entry.now)) }
@@ -84,12 +87,8 @@ fn fault_of(error: Error) -> WordsFault
 fn words_in<'a>(matches: &ArgMatches<'a>) -> Option<Words<'a>>
     ensures { IsFound (subcommand_rows_of matches.now) result }
 {
-    let Some(found) = matches.subcommand() else {
-        return None;
-    };
-    let Some(subcommand) = Subcommand::from_name(found.0) else {
-        return None;
-    };
+    let found = matches.subcommand()?;
+    let subcommand = Subcommand::from_name(found.0)?;
     words_of(subcommand, found.1)
 }
 
@@ -98,22 +97,10 @@ fn words_of<'a>(subcommand: Subcommand, given: &ArgMatches<'a>) -> Option<Words<
     ensures { IsRead subcommand (rows_of (found_of given.now)) result }
 {
     match subcommand {
-        Subcommand::Init => match init_in(given) {
-            Some(asked) => Some(Words::Init(asked)),
-            None => None,
-        },
-        Subcommand::Serve => match serve_in(given) {
-            Some(asked) => Some(Words::Serve(asked)),
-            None => None,
-        },
-        Subcommand::Once => match once_in(given) {
-            Some(asked) => Some(Words::Once(asked)),
-            None => None,
-        },
-        Subcommand::Import => match import_in(given) {
-            Some(asked) => Some(Words::Import(asked)),
-            None => None,
-        },
+        Subcommand::Init => init_in(given),
+        Subcommand::Serve => serve_in(given),
+        Subcommand::Once => once_in(given),
+        Subcommand::Import => import_in(given),
         Subcommand::Paths => match paths_in(given) {
             Some(asked) => Some(Words::Paths(asked)),
             None => None,
@@ -122,105 +109,15 @@ fn words_of<'a>(subcommand: Subcommand, given: &ArgMatches<'a>) -> Option<Words<
             Some(asked) => Some(Words::Report(asked)),
             None => None,
         },
-        Subcommand::Export => export_words(given),
-        Subcommand::DryRun => dry_run_words(given),
-        Subcommand::Why => why_words(given),
-        Subcommand::Who => who_words(given),
-        Subcommand::Names => names_words(given),
-        Subcommand::Check => check_words(given),
-        Subcommand::Explain => explain_words(given),
-        Subcommand::TryImport => try_import_words(given),
-        Subcommand::Diff => diff_words(given),
-    }
-}
-
-/// What the matches of `export` ask for.
-fn export_words<'a>(given: &ArgMatches<'a>) -> Option<Words<'a>>
-    ensures { IsRead Subcommand.Export (rows_of (found_of given.now)) result }
-{
-    match export_in(given) {
-        Some(asked) => Some(Words::Export(asked)),
-        None => None,
-    }
-}
-
-/// What the matches of `dryrun` ask for.
-fn dry_run_words<'a>(given: &ArgMatches<'a>) -> Option<Words<'a>>
-    ensures { IsRead Subcommand.DryRun (rows_of (found_of given.now)) result }
-{
-    match dry_run_in(given) {
-        Some(asked) => Some(Words::DryRun(asked)),
-        None => None,
-    }
-}
-
-/// What the matches of `why` ask for.
-fn why_words<'a>(given: &ArgMatches<'a>) -> Option<Words<'a>>
-    ensures { IsRead Subcommand.Why (rows_of (found_of given.now)) result }
-{
-    match why_in(given) {
-        Some(asked) => Some(Words::Why(asked)),
-        None => None,
-    }
-}
-
-/// What the matches of `who` ask for.
-fn who_words<'a>(given: &ArgMatches<'a>) -> Option<Words<'a>>
-    ensures { IsRead Subcommand.Who (rows_of (found_of given.now)) result }
-{
-    match who_in(given) {
-        Some(asked) => Some(Words::Who(asked)),
-        None => None,
-    }
-}
-
-/// What the matches of `list` ask for.
-fn names_words<'a>(given: &ArgMatches<'a>) -> Option<Words<'a>>
-    ensures { IsRead Subcommand.Names (rows_of (found_of given.now)) result }
-{
-    match names_in(given) {
-        Some(asked) => Some(Words::Names(asked)),
-        None => None,
-    }
-}
-
-/// What the matches of `check` ask for.
-fn check_words<'a>(given: &ArgMatches<'a>) -> Option<Words<'a>>
-    ensures { IsRead Subcommand.Check (rows_of (found_of given.now)) result }
-{
-    match check_in(given) {
-        Some(asked) => Some(Words::Check(asked)),
-        None => None,
-    }
-}
-
-/// What the matches of `explain` ask for.
-fn explain_words<'a>(given: &ArgMatches<'a>) -> Option<Words<'a>>
-    ensures { IsRead Subcommand.Explain (rows_of (found_of given.now)) result }
-{
-    match explain_in(given) {
-        Some(asked) => Some(Words::Explain(asked)),
-        None => None,
-    }
-}
-
-/// What the matches of `tryimport` ask for.
-fn try_import_words<'a>(given: &ArgMatches<'a>) -> Option<Words<'a>>
-    ensures { IsRead Subcommand.TryImport (rows_of (found_of given.now)) result }
-{
-    match try_import_in(given) {
-        Some(asked) => Some(Words::TryImport(asked)),
-        None => None,
-    }
-}
-
-/// What the matches of `diff` ask for.
-fn diff_words<'a>(given: &ArgMatches<'a>) -> Option<Words<'a>>
-    ensures { IsRead Subcommand.Diff (rows_of (found_of given.now)) result }
-{
-    match diff_in(given) {
-        Some(asked) => Some(Words::Diff(asked)),
-        None => None,
+        Subcommand::Export => export_in(given),
+        Subcommand::DryRun => dry_run_in(given),
+        Subcommand::Why => why_in(given),
+        Subcommand::Who => who_in(given),
+        Subcommand::Names => names_in(given),
+        Subcommand::Check => check_in(given),
+        Subcommand::Explain => explain_in(given),
+        Subcommand::TryImport => try_import_in(given),
+        Subcommand::Diff => diff_in(given),
     }
 }
 
@@ -229,50 +126,34 @@ fn access_in<'a>(given: &ArgMatches<'a>) -> Option<Access<'a>>
     ensures { MatchOption result ((w : Access) → ¬ IsAccess (rows_of (found_of given.now)) w)
         (IsAccess (rows_of (found_of given.now))) }
 {
-    let Some(db) = text_in(given, OptionKind::Db) else {
-        return None;
-    };
-    let Some(policy) = text_in(given, OptionKind::Policy) else {
-        return None;
-    };
-    let Some(token) = token_in(given, OptionKind::Token) else {
-        return None;
-    };
+    let db = text_in(given, OptionKind::Db)?;
+    let policy = text_in(given, OptionKind::Policy)?;
+    let token = token_in(given, OptionKind::Token)?;
     Some(Access { db, policy, token })
 }
 
-fn init_in<'a>(given: &ArgMatches<'a>) -> Option<Init<'a>>
-    ensures { MatchOption result ((w : Init) → ¬ IsInit (rows_of (found_of given.now)) w)
-        (IsInit (rows_of (found_of given.now))) }
+/// What the matches of `init` ask for.
+fn init_in<'a>(given: &ArgMatches<'a>) -> Option<Words<'a>>
+    ensures { IsRead Subcommand.Init (rows_of (found_of given.now)) result }
 {
-    let Some(db) = text_in(given, OptionKind::Db) else {
-        return None;
-    };
-    Some(Init { db })
+    let db = text_in(given, OptionKind::Db)?;
+    Some(Words::Init(Init { db }))
 }
 
-fn serve_in<'a>(given: &ArgMatches<'a>) -> Option<Serve<'a>>
-    ensures { MatchOption result ((w : Serve) → ¬ IsServe (rows_of (found_of given.now)) w)
-        (IsServe (rows_of (found_of given.now))) }
+/// What the matches of `serve` ask for.
+fn serve_in<'a>(given: &ArgMatches<'a>) -> Option<Words<'a>>
+    ensures { IsRead Subcommand.Serve (rows_of (found_of given.now)) result }
 {
-    let Some(db) = text_in(given, OptionKind::Db) else {
-        return None;
-    };
-    let Some(policy) = text_in(given, OptionKind::Policy) else {
-        return None;
-    };
-    let Some(listen) = text_in(given, OptionKind::Listen) else {
-        return None;
-    };
-    let Some(count) = number_in(given, OptionKind::Count) else {
-        return None;
-    };
-    Some(Serve {
+    let db = text_in(given, OptionKind::Db)?;
+    let policy = text_in(given, OptionKind::Policy)?;
+    let listen = text_in(given, OptionKind::Listen)?;
+    let count = number_in(given, OptionKind::Count)?;
+    Some(Words::Serve(Serve {
         db,
         policy,
         listen,
         count,
-    })
+    }))
 }
 
 /// The desk that answers one request, or none for a database without a policy.
@@ -300,104 +181,72 @@ fn in_memory(policy: Option<&str>) -> Over<'_>
     }
 }
 
-fn once_in<'a>(given: &ArgMatches<'a>) -> Option<Once<'a>>
-    ensures { MatchOption result ((w : Once) → ¬ IsOnce (rows_of (found_of given.now)) w)
-        (IsOnce (rows_of (found_of given.now))) }
+/// What the matches of `once` ask for.
+fn once_in<'a>(given: &ArgMatches<'a>) -> Option<Words<'a>>
+    ensures { IsRead Subcommand.Once (rows_of (found_of given.now)) result }
 {
-    let Some(over) = over_in(given) else {
-        return None;
-    };
-    let Some(now) = number_in(given, OptionKind::Now) else {
-        return None;
-    };
-    Some(Once { over, now })
+    let over = over_in(given)?;
+    let now = number_in(given, OptionKind::Now)?;
+    Some(Words::Once(Once { over, now }))
 }
 
-fn import_in<'a>(given: &ArgMatches<'a>) -> Option<Import<'a>>
-    ensures { MatchOption result ((w : Import) → ¬ IsImport (rows_of (found_of given.now)) w)
-        (IsImport (rows_of (found_of given.now))) }
+/// What the matches of `import` ask for.
+fn import_in<'a>(given: &ArgMatches<'a>) -> Option<Words<'a>>
+    ensures { IsRead Subcommand.Import (rows_of (found_of given.now)) result }
 {
-    let Some(access) = access_in(given) else {
-        return None;
-    };
-    let Some(fabric) = fabric_in(given, OptionKind::Fabric) else {
-        return None;
-    };
-    let Some(file) = text_in(given, OptionKind::File) else {
-        return None;
-    };
-    let Some(now) = number_in(given, OptionKind::Now) else {
-        return None;
-    };
-    Some(Import {
+    let access = access_in(given)?;
+    let fabric = fabric_in(given, OptionKind::Fabric)?;
+    let file = text_in(given, OptionKind::File)?;
+    let now = number_in(given, OptionKind::Now)?;
+    Some(Words::Import(Import {
         access,
         fabric,
         file,
         now,
-    })
+    }))
 }
 
 fn paths_in<'a>(given: &ArgMatches<'a>) -> Option<Paths<'a>>
     ensures { MatchOption result ((w : Paths) → ¬ IsPaths (rows_of (found_of given.now)) w)
         (IsPaths (rows_of (found_of given.now))) }
 {
-    let Some(access) = access_in(given) else {
-        return None;
-    };
-    let Some(host) = name_in(given, OptionKind::Host) else {
-        return None;
-    };
+    let access = access_in(given)?;
+    let host = name_in(given, OptionKind::Host)?;
     Some(Paths { access, host })
 }
 
-fn export_in<'a>(given: &ArgMatches<'a>) -> Option<Export<'a>>
-    ensures { MatchOption result ((w : Export) → ¬ IsExport (rows_of (found_of given.now)) w)
-        (IsExport (rows_of (found_of given.now))) }
+/// What the matches of `export` ask for.
+fn export_in<'a>(given: &ArgMatches<'a>) -> Option<Words<'a>>
+    ensures { IsRead Subcommand.Export (rows_of (found_of given.now)) result }
 {
-    let Some(access) = access_in(given) else {
-        return None;
-    };
-    let Some(fabric) = fabric_in(given, OptionKind::Fabric) else {
-        return None;
-    };
-    Some(Export { access, fabric })
+    let access = access_in(given)?;
+    let fabric = fabric_in(given, OptionKind::Fabric)?;
+    Some(Words::Export(Export { access, fabric }))
 }
 
-fn dry_run_in<'a>(given: &ArgMatches<'a>) -> Option<DryRun<'a>>
-    ensures { MatchOption result ((w : DryRun) → ¬ IsDryRun (rows_of (found_of given.now)) w)
-        (IsDryRun (rows_of (found_of given.now))) }
+/// What the matches of `dryrun` ask for.
+fn dry_run_in<'a>(given: &ArgMatches<'a>) -> Option<Words<'a>>
+    ensures { IsRead Subcommand.DryRun (rows_of (found_of given.now)) result }
 {
-    let Some(access) = access_in(given) else {
-        return None;
-    };
-    let Some(plan) = name_in(given, OptionKind::Plan) else {
-        return None;
-    };
-    let Some(now) = number_in(given, OptionKind::Now) else {
-        return None;
-    };
-    Some(DryRun { access, plan, now })
+    let access = access_in(given)?;
+    let plan = name_in(given, OptionKind::Plan)?;
+    let now = number_in(given, OptionKind::Now)?;
+    Some(Words::DryRun(DryRun { access, plan, now }))
 }
 
-fn why_in<'a>(given: &ArgMatches<'a>) -> Option<Why<'a>>
-    ensures { MatchOption result ((w : Why) → ¬ IsWhy (rows_of (found_of given.now)) w)
-        (IsWhy (rows_of (found_of given.now))) }
+/// What the matches of `why` ask for.
+fn why_in<'a>(given: &ArgMatches<'a>) -> Option<Words<'a>>
+    ensures { IsRead Subcommand.Why (rows_of (found_of given.now)) result }
 {
-    let Some(access) = access_in(given) else {
-        return None;
-    };
-    let Some(host) = name_in(given, OptionKind::Host) else {
-        return None;
-    };
-    let Some(volume) = name_in(given, OptionKind::Volume) else {
-        return None;
-    };
-    Some(Why {
+    let access = access_in(given)?;
+    let host = name_in(given, OptionKind::Host)?;
+    let volume = name_in(given, OptionKind::Volume)?;
+    Some(Words::Why(Why {
         access,
         host,
         volume,
         is_json: is_given(given, OptionKind::Json),
-    })
+    }))
 }
 
 /// The volume or the port, or none where it is not one of them.
@@ -420,59 +269,48 @@ fn who_of_in(given: &ArgMatches<'_>) -> Option<WhoOf>
     }
 }
 
-fn who_in<'a>(given: &ArgMatches<'a>) -> Option<Who<'a>>
-    ensures { MatchOption result ((w : Who) → ¬ IsWho (rows_of (found_of given.now)) w)
-        (IsWho (rows_of (found_of given.now))) }
+/// What the matches of `who` ask for.
+fn who_in<'a>(given: &ArgMatches<'a>) -> Option<Words<'a>>
+    ensures { IsRead Subcommand.Who (rows_of (found_of given.now)) result }
 {
-    let Some(access) = access_in(given) else {
-        return None;
-    };
-    let Some(of) = who_of_in(given) else {
-        return None;
-    };
-    Some(Who {
+    let access = access_in(given)?;
+    let of = who_of_in(given)?;
+    Some(Words::Who(Who {
         access,
         of,
         is_json: is_given(given, OptionKind::Json),
-    })
+    }))
 }
 
-fn names_in<'a>(given: &ArgMatches<'a>) -> Option<Names<'a>>
-    ensures { MatchOption result ((w : Names) → ¬ IsNames (rows_of (found_of given.now)) w)
-        (IsNames (rows_of (found_of given.now))) }
+/// What the matches of `list` ask for.
+fn names_in<'a>(given: &ArgMatches<'a>) -> Option<Words<'a>>
+    ensures { IsRead Subcommand.Names (rows_of (found_of given.now)) result }
 {
-    let Some(access) = access_in(given) else {
-        return None;
-    };
-    let Some(kind) = kind_in(given, OptionKind::Kind) else {
-        return None;
-    };
-    let Some(state) = state_in(given, OptionKind::State) else {
-        return None;
-    };
+    let access = access_in(given)?;
+    let kind = kind_in(given, OptionKind::Kind)?;
+    let state = state_in(given, OptionKind::State)?;
     if state.is_some() && kind != ListKind::Plans {
         return None;
     }
-    Some(Names {
+    Some(Words::Names(Names {
         access,
         kind,
         state,
         is_json: is_given(given, OptionKind::Json),
-    })
+    }))
 }
 
-/// The one file that is to be checked, or none where it is not one.
-fn check_in<'a>(given: &ArgMatches<'a>) -> Option<Check<'a>>
-    ensures { MatchOption result ((w : Check) → ¬ IsCheck (rows_of (found_of given.now)) w)
-        (IsCheck (rows_of (found_of given.now))) }
+/// What the matches of `check` ask for: the one file that is to be checked, or none where it is not one.
+fn check_in<'a>(given: &ArgMatches<'a>) -> Option<Words<'a>>
+    ensures { IsRead Subcommand.Check (rows_of (found_of given.now)) result }
 {
     let policy = text_in(given, OptionKind::Policy);
     let plan = text_in(given, OptionKind::PlanFile);
     let ports = text_in(given, OptionKind::Ports);
     match (policy, plan, ports) {
-        (Some(path), None, None) => Some(Check::Policy { path }),
-        (None, Some(path), None) => Some(Check::Plan { path }),
-        (None, None, Some(path)) => Some(Check::Ports { path }),
+        (Some(path), None, None) => Some(Words::Check(Check::Policy { path })),
+        (None, Some(path), None) => Some(Words::Check(Check::Plan { path })),
+        (None, None, Some(path)) => Some(Words::Check(Check::Ports { path })),
         _ => None,
     }
 }
@@ -482,30 +320,14 @@ fn deed_in<'a>(given: &ArgMatches<'a>) -> Option<Deed<'a>>
     ensures { MatchOption result ((w : Deed) → ¬ IsDeed (rows_of (found_of given.now)) w)
         (IsDeed (rows_of (found_of given.now))) }
 {
-    let Some(caller) = name_in(given, OptionKind::Caller) else {
-        return None;
-    };
-    let Some(action) = action_in(given, OptionKind::Action) else {
-        return None;
-    };
-    let Some(fabrics) = fabrics_in(given, OptionKind::Fabrics) else {
-        return None;
-    };
-    let Some(tenants) = list_in(given, OptionKind::Tenants, Part::Name) else {
-        return None;
-    };
-    let Some(author) = maybe_name_in(given, OptionKind::Author) else {
-        return None;
-    };
-    let Some(approved) = list_in(given, OptionKind::Approved, Part::Approval) else {
-        return None;
-    };
-    let Some(revision) = number_in(given, OptionKind::Revision) else {
-        return None;
-    };
-    let Some(now) = number_in(given, OptionKind::Now) else {
-        return None;
-    };
+    let caller = name_in(given, OptionKind::Caller)?;
+    let action = action_in(given, OptionKind::Action)?;
+    let fabrics = fabrics_in(given, OptionKind::Fabrics)?;
+    let tenants = list_in(given, OptionKind::Tenants, Part::Name)?;
+    let author = maybe_name_in(given, OptionKind::Author)?;
+    let approved = list_in(given, OptionKind::Approved, Part::Approval)?;
+    let revision = number_in(given, OptionKind::Revision)?;
+    let now = number_in(given, OptionKind::Now)?;
     Some(Deed {
         caller,
         action,
@@ -537,57 +359,43 @@ fn explain_of_in<'a>(given: &ArgMatches<'a>) -> Option<ExplainOf<'a>>
     }
 }
 
-fn explain_in<'a>(given: &ArgMatches<'a>) -> Option<Explain<'a>>
-    ensures { MatchOption result ((w : Explain) → ¬ IsExplain (rows_of (found_of given.now)) w)
-        (IsExplain (rows_of (found_of given.now))) }
+/// What the matches of `explain` ask for.
+fn explain_in<'a>(given: &ArgMatches<'a>) -> Option<Words<'a>>
+    ensures { IsRead Subcommand.Explain (rows_of (found_of given.now)) result }
 {
-    let Some(policy) = text_in(given, OptionKind::Policy) else {
-        return None;
-    };
+    let policy = text_in(given, OptionKind::Policy)?;
     let Some(of) = explain_of_in(given) else {
         return None;
     };
-    Some(Explain { policy, of })
+    Some(Words::Explain(Explain { policy, of }))
 }
 
-fn try_import_in<'a>(given: &ArgMatches<'a>) -> Option<TryImport<'a>>
-    ensures { MatchOption result ((w : TryImport) → ¬ IsTryImport (rows_of (found_of given.now)) w)
-        (IsTryImport (rows_of (found_of given.now))) }
+/// What the matches of `tryimport` ask for.
+fn try_import_in<'a>(given: &ArgMatches<'a>) -> Option<Words<'a>>
+    ensures { IsRead Subcommand.TryImport (rows_of (found_of given.now)) result }
 {
-    let Some(access) = access_in(given) else {
-        return None;
-    };
-    let Some(fabric) = fabric_in(given, OptionKind::Fabric) else {
-        return None;
-    };
-    let Some(file) = text_in(given, OptionKind::File) else {
-        return None;
-    };
-    let Some(most_lost) = number_in(given, OptionKind::MostLost) else {
-        return None;
-    };
-    Some(TryImport {
+    let access = access_in(given)?;
+    let fabric = fabric_in(given, OptionKind::Fabric)?;
+    let file = text_in(given, OptionKind::File)?;
+    let most_lost = number_in(given, OptionKind::MostLost)?;
+    Some(Words::TryImport(TryImport {
         access,
         fabric,
         file,
         most_lost,
         is_json: is_given(given, OptionKind::Json),
-    })
+    }))
 }
 
-fn diff_in<'a>(given: &ArgMatches<'a>) -> Option<Diff<'a>>
-    ensures { MatchOption result ((w : Diff) → ¬ IsDiff (rows_of (found_of given.now)) w)
-        (IsDiff (rows_of (found_of given.now))) }
+/// What the matches of `diff` ask for.
+fn diff_in<'a>(given: &ArgMatches<'a>) -> Option<Words<'a>>
+    ensures { IsRead Subcommand.Diff (rows_of (found_of given.now)) result }
 {
-    let Some(access) = access_in(given) else {
-        return None;
-    };
-    let Some(plan) = name_in(given, OptionKind::Plan) else {
-        return None;
-    };
-    Some(Diff {
+    let access = access_in(given)?;
+    let plan = name_in(given, OptionKind::Plan)?;
+    Some(Words::Diff(Diff {
         access,
         plan,
         is_json: is_given(given, OptionKind::Json),
-    })
+    }))
 }

@@ -153,6 +153,31 @@ const PATHS_AND_REPORT: &[Run<'static>] = &[
     },
 ];
 
+/// Who reaches its volume; a plan that is not there; and a file and a policy that no desk is asked about.
+const LOOKED: &[Run<'static>] = &[
+    Run {
+        words: "sandesk who --db round.db --policy round.toml --token t-ada --volume v1 --json",
+        output: "[{\"a\":1,\"b\":0,\"groups\":[\"g1\"],\"host\":\"db1\",\"tenant\":\"blue\",\"units\":[0]}]\n",
+        ..QUIET
+    },
+    Run {
+        words: "sandesk diff --db round.db --policy round.toml --token t-ada --plan p9",
+        output: "{\"code\":9,\"error\":\"not-found\"}\n",
+        status: 1,
+        ..QUIET
+    },
+    Run {
+        words: "sandesk check --ports round.csv",
+        output: "round.csv: sound\n",
+        ..QUIET
+    },
+    Run {
+        words: "sandesk explain --policy round.toml --caller eve --action approve",
+        output: "rule 2 `signers` holds\nallowed\n",
+        ..QUIET
+    },
+];
+
 #[test]
 fn file_round(rt: HostRuntime) {
     put(&rt, &rt, "round.toml", TRIAL_POLICY.as_bytes());
@@ -161,6 +186,7 @@ fn file_round(rt: HostRuntime) {
     are_answered(&rt, &rt, WORLD, 1);
     are_answered(&rt, &rt, FIRST_PLAN, 0);
     are_run(&rt, &rt, PATHS_AND_REPORT);
+    are_run(&rt, &rt, LOOKED);
 }
 
 /// What is done, what the desk refuses, words that are wrong, and what fails.
