@@ -55,32 +55,25 @@ fn serve<S: Store<Global>>(
     tables
 }
 
-/// What is done with tables after they were looked at.
-#[derive(Clone, Copy)]
-pub enum Then {
-    Nothing,
-    /// A desk over them answers the rest of the turns.
-    Serve,
-}
-
 /// What is done with tables.
 #[derive(Clone, Copy)]
 pub enum Work {
     /// They are made, and a desk over them answers the turns.
     Play,
-    /// They are looked at, after so many turns were answered: they stand after these or one more.
-    Look(Option<usize>, Then),
+    /// They are looked at, after so many turns were answered: they stand after these or one more. Then a desk
+    /// over them answers the rest.
+    Look(Option<usize>),
 }
 
 /// Whether the tables are there. New ones are made, and so are others that were not made before.
 fn are_made<S: Alter + Drop>(tables: &mut SqlStore<S>, work: Work) -> bool {
     match work {
         Work::Play => tables.init().is_ok(),
-        Work::Look(None, _) => {
+        Work::Look(None) => {
             let _are_new = tables.init();
             true
         }
-        Work::Look(Some(_), _) => true,
+        Work::Look(Some(_)) => true,
     }
 }
 
@@ -98,21 +91,16 @@ fn play_made<S: Store<Global>>(
     (Some(count), tables)
 }
 
-/// After how many turns the tables stand, after so many were answered, with the tables after what is
-/// done then.
+/// After how many turns the tables stand, after so many were answered, with the tables after the others.
 fn look<S: Store<Global>>(
     rt: &(impl Abort + AllocGlobal),
     tables: S,
     turns: &[Turn],
     count: Option<usize>,
-    then: Then,
 ) -> (Option<usize>, S) {
     let mut tables = tables;
     let stand = found_in(rt, &mut tables, turns, count);
-    match then {
-        Then::Nothing => (Some(stand), tables),
-        Then::Serve => (Some(stand), serve(rt, tables, turns, stand)),
-    }
+    (Some(stand), serve(rt, tables, turns, stand))
 }
 
 /// Does the work with the tables: how many turns were answered, or after how many the tables stand, with
@@ -126,7 +114,7 @@ fn work_with<S: Store<Global>>(
 ) -> (Option<usize>, S) {
     match work {
         Work::Play => play_made(rt, tables, is_made, turns),
-        Work::Look(count, then) => look(rt, tables, turns, count, then),
+        Work::Look(count) => look(rt, tables, turns, count),
     }
 }
 

@@ -108,21 +108,6 @@ const SIGNED_AGAIN: &[Turn] = &[
     ("t-bob", 0, Ask::Approve("q1"), "approved q1 by 1 at 7"),
 ];
 
-fn turns_on_fabric_b(list: List) -> &'static [Turn] {
-    match list {
-        List::Staged => STAGED,
-        List::Signed => SIGNED,
-        List::SignedAgain => SIGNED_AGAIN,
-        List::Shut => SHUT,
-        List::Freezing => FREEZING,
-        List::Thawed => THAWED,
-        List::Late => LATE,
-        List::Row11 => NO_APPROVAL,
-        List::Row12 => APPROVALS,
-        _ => REFUSED_PLAN,
-    }
-}
-
 /// The turns.
 pub fn turns_of(list: List) -> &'static [Turn] {
     match list {
@@ -134,12 +119,21 @@ pub fn turns_of(list: List) -> &'static [Turn] {
         List::Row7 => ZONES_OVERLAP,
         List::Row8 => DEFAULT_ZONE,
         List::Row9 => PLACE_AND_NODE,
+        List::Staged => STAGED,
+        List::Signed => SIGNED,
+        List::Shut => SHUT,
+        List::Freezing => FREEZING,
+        List::Thawed => THAWED,
+        List::Late => LATE,
+        List::Row11 => NO_APPROVAL,
+        List::Row12 => APPROVALS,
+        List::Row13 => REFUSED_PLAN,
         List::Row14 => UNIT_CLASH,
         List::Unmapped => UNMAPPED,
         List::Row15 => VOLUME_GONE,
         List::Undone => UNDONE,
         List::Addressed => ADDRESSED,
-        _ => turns_on_fabric_b(list),
+        List::SignedAgain => SIGNED_AGAIN,
     }
 }
 

@@ -5,7 +5,8 @@ use fab_store_schema::{create_text, delete_text, insert_text, paths_text, select
 use std::collections::BTreeSet;
 use std::process::Abort;
 
-/// How many plans of statements a connection keeps, by their texts.
+/// How many plans of statements a connection keeps, by their texts. SQLite's crate does not hand the number
+/// out: it is written here once more, and does not follow where that crate takes another.
 const KEPT_PLANS: usize = 64;
 
 const TABLES: &[Table] = &[

@@ -1,8 +1,8 @@
-//! A stop at each call of a disk: what is left is opened again, and has the rows after the requests that
-//! were answered, or after them and the one in progress.
+//! A stop at each call of a disk: what is left is opened again, has the rows after the requests that were
+//! answered, or after them and the one in progress, and a desk over it answers the rest.
 
 use crate::disks::{Failing, fused, have_served, new_files, stop};
-use crate::files::{Then, Work, run};
+use crate::files::{Work, run};
 use crate::lists::{List, all_turns};
 use fab_test_machine::Turn;
 use sqlite::Files;
@@ -12,28 +12,26 @@ use std::process::Abort;
 /// More calls than a run makes.
 pub const MOST: u64 = 1000;
 
-/// Whether a run over the new files meets no stop. What it leaves is opened again, and what is to be
-/// done then is done.
+/// Whether a run over the new files meets no stop. What it leaves is opened again, and serves on.
 fn is_whole<D: Crash + Drop>(
     rt: &(impl Abort + AllocGlobal),
     files: Files<D>,
     turns: &[Turn],
-    then: Then,
 ) -> bool {
     let (count, mut files) = run(rt, files, turns, Work::Play);
     let served = have_served(&mut files);
     stop(&mut files);
-    let (found, _files) = run(rt, files, turns, Work::Look(count, then));
+    let (found, _files) = run(rt, files, turns, Work::Look(count));
     assert!(rt; found.is_some());
     served
 }
 
 /// Stops a row at each call of the disk that fails, until a run meets no stop.
-fn stop_row(rt: &(impl Abort + AllocGlobal), row: &[List], failing: Failing, then: Then) {
+fn stop_row(rt: &(impl Abort + AllocGlobal), row: &[List], failing: Failing) {
     let turns = all_turns(rt, row, &[]);
     for calls in 0..MOST {
         let files = fused(new_files(rt.alloc()), failing, calls);
-        if is_whole(rt, files, turns.as_slice(), then) {
+        if is_whole(rt, files, turns.as_slice()) {
             return;
         }
     }
@@ -61,15 +59,8 @@ const STOPS: &[(&[List], Failing)] = &[
 ];
 
 #[test]
-fn stop_at_each_call(rt: HostRuntime) {
-    for &(row, failing) in STOPS {
-        stop_row(&rt, row, failing, Then::Nothing);
-    }
-}
-
-#[test]
 fn stopped_then_served(rt: HostRuntime) {
     for &(row, failing) in STOPS {
-        stop_row(&rt, row, failing, Then::Serve);
+        stop_row(&rt, row, failing);
     }
 }
