@@ -20,7 +20,7 @@ use Rattle.fab_wire.specs.declared.outcome.Outcome.{Outcome}
 use Rattle.fab_store.specs.declared.OpenFault.{OpenFault}
 use Rattle.fab_store.specs.declared.Store as store
 use Rattle.fab_program_words.specs.declared.words.Serve.{Serve}
-use Rattle.fab_program_desks.specs.Databases.{IsDeskOver}
+use Rattle.fab_program_desks.specs.Databases.{IsAgain, IsDeskOver}
 use Rattle.fab_program_desks.specs.Desks.{ProgramDesk}
 use Rattle.fab_program_desks.specs.declared.addresses.Addresses as addresses
 use Rattle.fab_program_desks.specs.declared.database.Databases as databases
@@ -66,8 +66,8 @@ module _ {D S W : Type 0} (w : server.Ghosts D S OpenFault Outcome) (contents : 
 module _ {O F T D W : Type 0} (f : files.Ghosts O F) (known : F → Option (List ℕ)) (d : databases.Ghosts O T) (a : addresses.Ghosts O) (t : store.Ghosts T Global)
     (w : server.Ghosts D T OpenFault Outcome) (desk_of : D → ProgramDesk T) (contents : W → Option (List ℕ)) (gives : Option ℕ → Type 0) where
   -- the policy is read; then the tables are opened, and a desk over them; then the address is listened at, and connections
-  -- are served in turn. Whatever comes of opening the store of a halted desk anew is allowed.
+  -- are served in turn. The store of a halted desk is opened anew at the same path.
   abbrev pub ComesServing : O → Serve → W → Result End Fault → Type 0
   ComesServing outside asked log came =
       Then (IsPolicyAt known (f.opens outside asked.policy.now)) (λ p.
-      Then (d.finds outside asked.db.now) (λ s. IsServedOver w contents (λ again. ⊤) gives asked.count desk_of (a.listens outside asked.listen.now) t s p log)) came
+      Then (d.finds outside asked.db.now) (λ s. IsServedOver w contents (IsAgain (d.finds outside asked.db.now)) gives asked.count desk_of (a.listens outside asked.listen.now) t s p log)) came

@@ -8,7 +8,7 @@ use fab_wire_base::routes::Routes;
 use fab_wire_base::whole::lacks;
 use fab_wire_gathering::bounds::Bounded;
 use fab_wire_log::Shown;
-use fab_wire_serving::Server;
+use fab_wire_serving::{Forgets, Server};
 use fab_wire_streams::counted::Counted;
 use std::alloc::Global;
 use std::io::{Read, Write};
@@ -31,7 +31,6 @@ impl<S: Store<Global>> Server for Front<S> {
 
     type Outcome = Outcome;
 
-    ghost use Rattle.fab_program_serving.specs.FrontLaws.{forgets_desk};
     ghost use Rattle.fab_program_serving.specs.Fronts.{is_halted_desk, IsWholeDesk, LacksDesk, ServesDesk, ReleasesDesk, ReopensDesk, RefusesDesk};
     ghost use Rattle.fab_wire_log.specs.Shown.{shown_text};
     ghost use Rattle.fab_wire.specs.Telling.{outcome_text};
@@ -39,8 +38,6 @@ impl<S: Store<Global>> Server for Front<S> {
     ghost is_halted = { λ f. is_halted_desk f.desk };
 
     ghost serves = { λ f moment before after outcome g. ServesDesk S.Store f.desk moment before after outcome g.desk };
-
-    ghost forgets = { λ old moment input sent until after outcome new served. forgets_desk S.Store old.desk moment input sent until after outcome new.desk served };
 
     ghost shows = { outcome_text };
 
@@ -97,4 +94,10 @@ impl<S: Store<Global>> Server for Front<S> {
             Outcome::Empty => Shown::Word("empty"),
         }
     }
+}
+
+impl<S: Store<Global>> Forgets for Front<S> {
+    ghost use Rattle.fab_program_serving.specs.FrontLaws.{forgets_desk};
+
+    ghost forgets = { λ old moment input sent until after outcome new served. forgets_desk S.Store old.desk moment input sent until after outcome new.desk served };
 }

@@ -1,7 +1,8 @@
 //! Connections served over a database.
-ghost use Rattle.std.specs.Prelude.{◌≡◌, ⊤};
+ghost use Rattle.std.specs.Prelude.{◌≡◌};
 ghost use Rattle.fab_program_outside.specs.Coming.{After};
 ghost use Rattle.fab_wire_serving.specs.Turns.{Gives};
+ghost use Rattle.fab_program_desks.specs.Databases.{IsAgain};
 ghost use Rattle.fab_program_serving.specs.Servings.{AreServed, ComesServing, IsServedAt, IsServedBy, IsServedOver, served};
 
 use crate::front::Front;
@@ -36,9 +37,13 @@ pub fn serve<O: Files + Databases + Addresses, N: FnMut() -> Option<u64>, W: Wri
     let db = asked.db;
     match policy_of(rt.alloc(), outside, asked.policy) {
         Ok(policy) => {
-            let mut again = || tables_again(outside, db);
+            let again = ||
+                ensures { IsAgain (O.finds outside.entry.now db.entry.now) result }
+            {
+                tables_again(outside, db)
+            };
             let store = outside.tables_in(db);
-            serve_over(rt, outside, asked, store, policy, now, log, &mut again)
+            serve_over(rt, outside, asked, store, policy, now, log, &again)
         }
         Err(fault) => Err(fault),
     }
@@ -50,7 +55,7 @@ fn serve_over<
     S: Store<Global>,
     N: FnMut() -> Option<u64>,
     W: Write + Drop,
-    F: FnMut() -> Result<S, OpenFault>,
+    F: Fn() -> Result<S, OpenFault>,
 >(
     rt: &HostRuntime,
     outside: &O,
@@ -59,11 +64,11 @@ fn serve_over<
     policy: Policy,
     now: &mut N,
     log: W,
-    again: &mut F,
+    again: &F,
 ) -> Result<End, Fault>
     requires now { (state : N) → N.pre state }
-    requires again { (state : F) → F.pre state }
-    ensures { After store (λ s. IsServedOver ⟦<Front<S> as Server>⟧ W.contents (λ again. ⊤) (Gives N.step) asked.now.count (λ front. front.desk) (O.listens outside.now asked.now.listen.now) S.Store s policy log) result }
+    requires again { F.pre again.now }
+    ensures { After store (λ s. IsServedOver ⟦<Front<S> as Server>⟧ W.contents (F.post again.now) (Gives N.step) asked.now.count (λ front. front.desk) (O.listens outside.now asked.now.listen.now) S.Store s policy log) result }
 {
     match store {
         Ok(store) => {
@@ -80,7 +85,7 @@ fn serve_by<
     S: Store<Global>,
     N: FnMut() -> Option<u64>,
     W: Write + Drop,
-    F: FnMut() -> Result<S, OpenFault>,
+    F: Fn() -> Result<S, OpenFault>,
 >(
     rt: &HostRuntime,
     outside: &O,
@@ -88,11 +93,11 @@ fn serve_by<
     desk: Result<ProgramDesk<S>, Fault>,
     now: &mut N,
     log: W,
-    again: &mut F,
+    again: &F,
 ) -> Result<End, Fault>
     requires now { (state : N) → N.pre state }
-    requires again { (state : F) → F.pre state }
-    ensures { After desk (λ d. IsServedBy ⟦<Front<S> as Server>⟧ W.contents (Gives F.step) (Gives N.step) asked.now.count (λ front. front.desk) (O.listens outside.now asked.now.listen.now) d log) result }
+    requires again { F.pre again.now }
+    ensures { After desk (λ d. IsServedBy ⟦<Front<S> as Server>⟧ W.contents (F.post again.now) (Gives N.step) asked.now.count (λ front. front.desk) (O.listens outside.now asked.now.listen.now) d log) result }
 {
     match desk {
         Ok(desk) => match Routes::new(rt.alloc()) {
@@ -116,7 +121,7 @@ fn serve_at<
     S: Store<Global>,
     N: FnMut() -> Option<u64>,
     W: Write + Drop,
-    F: FnMut() -> Result<S, OpenFault>,
+    F: Fn() -> Result<S, OpenFault>,
 >(
     rt: &HostRuntime,
     outside: &O,
@@ -124,11 +129,11 @@ fn serve_at<
     front: &mut Front<S>,
     now: &mut N,
     log: W,
-    again: &mut F,
+    again: &F,
 ) -> Result<End, Fault>
     requires now { (state : N) → N.pre state }
-    requires again { (state : F) → F.pre state }
-    ensures { IsServedAt (O.listens outside.now asked.now.listen.now) (AreServed ⟦<Front<S> as Server>⟧ W.contents (Gives F.step) (Gives N.step) asked.now.count front.old log) result }
+    requires again { F.pre again.now }
+    ensures { IsServedAt (O.listens outside.now asked.now.listen.now) (AreServed ⟦<Front<S> as Server>⟧ W.contents (F.post again.now) (Gives N.step) asked.now.count front.old log) result }
 {
     match outside.listen(asked.listen) {
         Some(listener) => {

@@ -4,7 +4,6 @@ use Rattle.std.specs.Time.{instant_nanos}
 use Rattle.std.specs.declared.time.Instant.{Instant}
 use Rattle.fab_wire_serving.specs.Coming.{ComesSo, CameSo}
 use Rattle.fab_wire_serving.specs.Sides.{Side, Sides, begun_sides}
-use Rattle.fab_wire_serving.specs.declared.server.Server as server
 use Rattle.fab_wire_serving.specs.declared.connection.Came.{Came}
 use Rattle.fab_wire_serving.specs.declared.connection.Came.TheVariants.{Served, Unsent}
 
@@ -21,10 +20,13 @@ came_as P Q step (Served outcome) h = (h.0, step outcome h.0 h.1)
 came_as P Q step Unsent h = (h.0, (h.1.0, step h.0 h.1.0 h.1.1))
 
 -- what came of a connection whose bytes may be known, where they are not
-pub forgotten : {S Store Fault Outcome : Type 0} (g : server.Ghosts S Store Fault Outcome) (old : S) (moment : ℕ) (input : Option (List ℕ)) (until : ℕ) (new : S) (what : Came Outcome)
-    → CameSo (λ outcome after. g.serves old moment (begun_sides input None until) after outcome new) what
-    → CameSo (λ outcome after. g.serves old moment (begun_sides None None until) after outcome new) what
-forgotten g old moment None until new what h = h
-forgotten g old moment (Some bytes) until new what h =
-    came_as (λ outcome after. g.serves old moment (begun_sides (Some bytes) None until) after outcome new) (λ outcome after. g.serves old moment (begun_sides None None until) after outcome new)
-    (λ outcome after served. g.forgets old moment bytes None until after outcome new served) what h
+pub forgotten : {S Outcome : Type 0} (serves : S → ℕ → Sides → Sides → Outcome → S → Type 0)
+    (forgets : (old : S) (moment : ℕ) (input : List ℕ) (sent : Option (List ℕ)) (until : ℕ) (after : Sides) (outcome : Outcome) (new : S)
+        → serves old moment (begun_sides (Some input) sent until) after outcome new → serves old moment (begun_sides None sent until) after outcome new)
+    (old : S) (moment : ℕ) (input : Option (List ℕ)) (until : ℕ) (new : S) (what : Came Outcome)
+    → CameSo (λ outcome after. serves old moment (begun_sides input None until) after outcome new) what
+    → CameSo (λ outcome after. serves old moment (begun_sides None None until) after outcome new) what
+forgotten serves forgets old moment None until new what h = h
+forgotten serves forgets old moment (Some bytes) until new what h =
+    came_as (λ outcome after. serves old moment (begun_sides (Some bytes) None until) after outcome new) (λ outcome after. serves old moment (begun_sides None None until) after outcome new)
+    (λ outcome after served. forgets old moment bytes None until after outcome new served) what h

@@ -64,19 +64,19 @@ fn serve_next<
     D: Server,
     L: Listens,
     N: FnMut() -> Option<u64>,
-    O: FnMut() -> Result<D::Store, D::Fault>,
+    O: Fn() -> Result<D::Store, D::Fault>,
 >(
     watch: &mut Watch<'_, C, W>,
     server: &mut D,
     listener: &L,
     now: &mut N,
-    again: &mut O,
+    again: &O,
 ) -> Result<(), ServeFault>
     requires now { (state : N) → N.pre state }
-    requires again { (state : O) → O.pre state }
+    requires again { O.pre again.now }
     ensures clock { watch.new.clock.now ≡ watch.old.clock.now }
     ensures most { watch.new.most ≡ watch.old.most }
-    ensures turn { OnOk result ((moment : ℕ) × IsTurn D.Server (Gives O.step) (Gives N.step)
+    ensures turn { OnOk result ((moment : ℕ) × IsTurn D.Server (O.post again.now) (Gives N.step)
         (C.tells watch.old.clock.now) (C.fails watch.old.clock.now) W.contents (as_nanos watch.old.most)
         server.old watch.old.log moment server.new watch.new.log) }
     ensures fault { IfErr result (IsStopped (L.fails listener.now) (Gives N.step None ⊎ C.fails watch.old.clock.now)) }
@@ -110,18 +110,18 @@ pub(crate) fn serve_alone<
     D: Server,
     L: Listens,
     N: FnMut() -> Option<u64>,
-    O: FnMut() -> Result<D::Store, D::Fault>,
+    O: Fn() -> Result<D::Store, D::Fault>,
 >(
     watch: &mut Watch<'_, C, W>,
     server: &mut D,
     listener: &L,
     now: &mut N,
     count: Option<u64>,
-    again: &mut O,
+    again: &O,
 ) -> Result<(), ServeFault>
     requires now { (state : N) → N.pre state }
-    requires again { (state : O) → O.pre state }
-    ensures turns { (moments : List ℕ) × AreTurns D.Server (Gives O.step) (Gives N.step)
+    requires again { O.pre again.now }
+    ensures turns { (moments : List ℕ) × AreTurns D.Server (O.post again.now) (Gives N.step)
         (C.tells watch.old.clock.now) (C.fails watch.old.clock.now) W.contents (as_nanos watch.old.most)
         server.old watch.old.log moments server.new watch.new.log
         × OnOk result (length moments ≡ most_turns count) × OnErr result (length moments < most_turns count) }

@@ -17,5 +17,5 @@ pub mod server;
 pub mod serving;
 
 pub use listener::{Listens, listen_at};
-pub use server::Server;
+pub use server::{Forgets, Server};
 pub use serving::{ServeFault, serve_on};

@@ -28,10 +28,6 @@ pub trait Server {
     // it, and what came of the connection.
     ghost serves: { Self → ℕ → Sides → Sides → Self.Outcome → Self → Type 0 };
 
-    // What it does where the bytes of a connection are known, it does where they are not.
-    ghost forgets: { (old : Self) → (moment : ℕ) → (input : List ℕ) → (sent : Option (List ℕ)) → (until : ℕ) → (after : Sides) → (outcome : Self.Outcome) → (new : Self)
-        → serves old moment (begun_sides (Some input) sent until) after outcome new → serves old moment (begun_sides None sent until) after outcome new };
-
     // The text of what came of a connection.
     ghost shows: { Self.Outcome → List ℕ };
 
@@ -92,4 +88,11 @@ pub trait Server {
     /// What the log shows of what came of a connection.
     fn shown(outcome: &Self::Outcome) -> Shown
         ensures { shown_text result ≡ shows outcome.now };
+}
+
+/// What serves a connection whose bytes are known as one whose bytes are not.
+pub trait Forgets: Server {
+    // What it does where the bytes of a connection are known, it does where they are not.
+    ghost forgets: { (old : Self) → (moment : ℕ) → (input : List ℕ) → (sent : Option (List ℕ)) → (until : ℕ) → (after : Sides) → (outcome : Self.Outcome) → (new : Self)
+        → Self.Server.serves old moment (begun_sides (Some input) sent until) after outcome new → Self.Server.serves old moment (begun_sides None sent until) after outcome new };
 }

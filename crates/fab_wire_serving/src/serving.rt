@@ -19,7 +19,7 @@ ghost use Rattle.fab_wire_serving.specs.declared.connection.Came.{Came};
 use crate::alone::{begun, serve_alone};
 use crate::connection::{Came, serve_stream};
 use crate::room::{Room, Turn};
-use crate::{Listens, Server};
+use crate::{Forgets, Listens, Server};
 use fab_wire_gathering::clock::Ticks;
 use fab_wire_gathering::deadline::Deadline;
 use fab_wire_gathering::exchange::{Answer, Request};
@@ -45,12 +45,12 @@ pub enum ServeFault {
 
 /// Opens a halted server anew, over a store that `again` opens, once the store that it halted on is
 /// dropped. Where none is opened, or the server is refused over it, it stays halted.
-pub(crate) fn restore<D: Server, O: FnMut() -> Result<D::Store, D::Fault>>(
+pub(crate) fn restore<D: Server, O: Fn() -> Result<D::Store, D::Fault>>(
     server: &mut D,
-    again: &mut O,
+    again: &O,
 )
-    requires { (state : O) → O.pre state }
-    ensures { IsRestored D.Server (Gives O.step) server.old server.new }
+    requires { O.pre again.now }
+    ensures { IsRestored D.Server (O.post again.now) server.old server.new }
 {
     if !server.halted() {
         return;
@@ -90,24 +90,24 @@ fn serve_guest<C: Ticks, D: Server>(
 fn serve_turn<
     C: Ticks,
     W: Write,
-    D: Server,
+    D: Forgets,
     N: FnMut() -> Option<u64>,
-    O: FnMut() -> Result<D::Store, D::Fault>,
+    O: Fn() -> Result<D::Store, D::Fault>,
 >(
     watch: &mut Watch<'_, C, W>,
     server: &mut D,
     room: &mut Room,
     now: &mut N,
-    again: &mut O,
+    again: &O,
     turn: Turn,
 ) -> Result<(), ServeFault>
     requires now { (state : N) → N.pre state }
-    requires again { (state : O) → O.pre state }
+    requires again { O.pre again.now }
     requires start { C.tells watch.old.clock.now (instant_nanos turn.start) }
     ensures clock { watch.new.clock.now ≡ watch.old.clock.now }
     ensures most { watch.new.most ≡ watch.old.most }
     ensures starts { room.new.starts ≡ room.old.starts }
-    ensures turn { OnOk result (IsTurnTaken D.Server (Gives O.step) (Gives N.step)
+    ensures turn { OnOk result (IsTurnTaken D.Server (O.post again.now) (Gives N.step)
         (C.tells watch.old.clock.now) (C.fails watch.old.clock.now) W.contents (as_nanos watch.old.most)
         server.old watch.old.log room.old.pending.lines.items server.new watch.new.log room.new.pending.lines.items) }
     ensures fault { IfErr result (IsStopped ⊥ (Gives N.step None)) }
@@ -143,25 +143,25 @@ fn serve_turn<
 fn serve_next<
     C: Ticks,
     W: Write,
-    D: Server,
+    D: Forgets,
     L: Listens,
     N: FnMut() -> Option<u64>,
-    O: FnMut() -> Result<D::Store, D::Fault>,
+    O: Fn() -> Result<D::Store, D::Fault>,
 >(
     watch: &mut Watch<'_, C, W>,
     server: &mut D,
     listener: &L,
     room: &mut Room,
     now: &mut N,
-    again: &mut O,
+    again: &O,
 ) -> Result<(), ServeFault>
     requires now { (state : N) → N.pre state }
-    requires again { (state : O) → O.pre state }
+    requires again { O.pre again.now }
     requires told { AreTold (C.tells watch.old.clock.now) room.old.starts.items }
     ensures clock { watch.new.clock.now ≡ watch.old.clock.now }
     ensures most { watch.new.most ≡ watch.old.most }
     ensures told { AreTold (C.tells watch.old.clock.now) room.new.starts.items }
-    ensures turn { OnOk result (IsTurnTaken D.Server (Gives O.step) (Gives N.step)
+    ensures turn { OnOk result (IsTurnTaken D.Server (O.post again.now) (Gives N.step)
         (C.tells watch.old.clock.now) (C.fails watch.old.clock.now) W.contents (as_nanos watch.old.most)
         server.old watch.old.log room.old.pending.lines.items server.new watch.new.log room.new.pending.lines.items) }
     ensures fault { IfErr result (IsStopped (L.fails listener.now) (Gives N.step None ⊎ C.fails watch.old.clock.now)) }
@@ -180,10 +180,10 @@ fn serve_next<
 fn serve_turns<
     C: Ticks,
     W: Write,
-    D: Server,
+    D: Forgets,
     L: Listens,
     N: FnMut() -> Option<u64>,
-    O: FnMut() -> Result<D::Store, D::Fault>,
+    O: Fn() -> Result<D::Store, D::Fault>,
 >(
     watch: &mut Watch<'_, C, W>,
     server: &mut D,
@@ -191,15 +191,15 @@ fn serve_turns<
     room: &mut Room,
     now: &mut N,
     most: u64,
-    again: &mut O,
+    again: &O,
 ) -> Result<(), ServeFault>
     requires now { (state : N) → N.pre state }
-    requires again { (state : O) → O.pre state }
+    requires again { O.pre again.now }
     requires told { AreTold (C.tells watch.old.clock.now) room.old.starts.items }
     requires none { room.old.pending.lines.items ≡ [] }
     ensures clock { watch.new.clock.now ≡ watch.old.clock.now }
     ensures most { watch.new.most ≡ watch.old.most }
-    ensures turns { (count : ℕ) × ArePlayed D.Server (Gives O.step) (Gives N.step)
+    ensures turns { (count : ℕ) × ArePlayed D.Server (O.post again.now) (Gives N.step)
         (C.tells watch.old.clock.now) (C.fails watch.old.clock.now) W.contents (as_nanos watch.old.most)
         server.old watch.old.log count server.new watch.new.log room.new.pending.lines.items
         × OnOk result (count ≡ most) × OnErr result (count < most) }
@@ -218,10 +218,10 @@ fn serve_turns<
 fn serve_room<
     C: Ticks,
     W: Write,
-    D: Server,
+    D: Forgets,
     L: Listens,
     N: FnMut() -> Option<u64>,
-    O: FnMut() -> Result<D::Store, D::Fault>,
+    O: Fn() -> Result<D::Store, D::Fault>,
 >(
     watch: &mut Watch<'_, C, W>,
     server: &mut D,
@@ -229,13 +229,13 @@ fn serve_room<
     room: &mut Room,
     now: &mut N,
     most: u64,
-    again: &mut O,
+    again: &O,
 ) -> Result<(), ServeFault>
     requires now { (state : N) → N.pre state }
-    requires again { (state : O) → O.pre state }
+    requires again { O.pre again.now }
     requires told { AreTold (C.tells watch.old.clock.now) room.old.starts.items }
     requires none { room.old.pending.lines.items ≡ [] }
-    ensures turns { (moments : List ℕ) × AreTurns D.Server (Gives O.step) (Gives N.step)
+    ensures turns { (moments : List ℕ) × AreTurns D.Server (O.post again.now) (Gives N.step)
         (C.tells watch.old.clock.now) (C.fails watch.old.clock.now) W.contents (as_nanos watch.old.most)
         server.old watch.old.log moments server.new watch.new.log
         × OnOk result (length moments ≡ most) × OnErr result (length moments < most) }
@@ -301,21 +301,21 @@ fn room_for<C: Ticks, W: Write, L: Listens>(
 pub fn serve_on<
     C: Ticks,
     W: Write,
-    D: Server,
+    D: Forgets,
     L: Listens,
     N: FnMut() -> Option<u64>,
-    O: FnMut() -> Result<D::Store, D::Fault>,
+    O: Fn() -> Result<D::Store, D::Fault>,
 >(
     watch: &mut Watch<'_, C, W>,
     server: &mut D,
     listener: &L,
     now: &mut N,
     count: Option<u64>,
-    again: &mut O,
+    again: &O,
 ) -> Result<(), ServeFault>
     requires now { (state : N) → N.pre state }
-    requires again { (state : O) → O.pre state }
-    ensures turns { (moments : List ℕ) × AreTurns D.Server (Gives O.step) (Gives N.step)
+    requires again { O.pre again.now }
+    ensures turns { (moments : List ℕ) × AreTurns D.Server (O.post again.now) (Gives N.step)
         (C.tells watch.old.clock.now) (C.fails watch.old.clock.now) W.contents (as_nanos watch.old.most)
         server.old watch.old.log moments server.new watch.new.log
         × OnOk result (length moments ≡ most_turns count) × OnErr result (length moments < most_turns count) }

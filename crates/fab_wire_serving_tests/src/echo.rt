@@ -5,7 +5,7 @@ ghost use Rattle.fab_wire_log.specs.Shown.{shown_text};
 
 use fab_wire_gathering::bounds::Bounded;
 use fab_wire_log::Shown;
-use fab_wire_serving::Server;
+use fab_wire_serving::{Forgets, Server};
 use fab_wire_streams::counted::Counted;
 use std::cell::Cell;
 use std::io;
@@ -140,8 +140,6 @@ impl<'h> Server for Echo<'h> {
 
     ghost serves = { λ before moment sides sides' outcome after. ⊤ };
 
-    ghost forgets = { λ before moment input sent until sides outcome after served. served };
-
     ghost shows = { shown_text };
 
     ghost is_whole = { λ echo bytes. ⊤ };
@@ -205,4 +203,8 @@ impl<'h> Server for Echo<'h> {
     {
         *outcome
     }
+}
+
+impl<'h> Forgets for Echo<'h> {
+    ghost forgets = { λ before moment input sent until sides outcome after served. served };
 }

@@ -119,7 +119,7 @@ fn log_while<'h, C: Clock>(
     let mut watch = Watch::new(rt.alloc(), clock, log, polled_if(rt, is_told));
     watch.most = Duration::from_millis(most_milliseconds);
     let mut moment = 999u64;
-    let mut opened = stores.iter();
+    let opened = Cell::new(0usize);
     let mut echo = Echo::over(Held::take(held, true).ok());
     serve_on(
         &mut watch,
@@ -130,9 +130,11 @@ fn log_while<'h, C: Clock>(
             Some(moment)
         },
         Some(stores.len() as u64),
-        &mut move || {
+        &|| {
             clock.monotonic().map_err(|_| ())?;
-            match opened.next() {
+            let place = opened.get();
+            opened.set(place.saturating_add(1));
+            match stores.get(place) {
                 Some(Some(opens)) => Held::take(held, *opens),
                 _ => Err(()),
             }
@@ -210,7 +212,7 @@ fn end_of<C: Clock, L: Listens>(
         listener,
         &mut || moment,
         count,
-        &mut || Err(()),
+        &|| Err(()),
     );
     match ended {
         Ok(()) => "done",
@@ -333,7 +335,7 @@ fn turns_are_in_the_order_in_which_requests_are_whole(rt: HostRuntime) {
             Some(moment)
         },
         Some(2),
-        &mut || Err(()),
+        &|| Err(()),
     )
     .expect(&rt, "connections");
     let came = taken(&rt, watch.log.into_inner());
@@ -366,7 +368,7 @@ fn leaves(
         &listener,
         &mut || Some(7),
         Some(2),
-        &mut || Err(()),
+        &|| Err(()),
     )
     .expect(rt, "connections");
     let counted = watch.log.failures();
@@ -471,7 +473,7 @@ fn answers_that_nobody_takes_are_bounded(rt: HostRuntime) {
             Some(moment)
         },
         Some(3),
-        &mut || Err(()),
+        &|| Err(()),
     )
     .expect(&rt, "connections");
     let log = taken(&rt, watch.log.into_inner());
@@ -541,7 +543,7 @@ fn silent_clients_make_way_for_a_newcomer(rt: HostRuntime) {
         &crowd,
         &mut || Some(1000),
         Some(CROWD),
-        &mut || Err(()),
+        &|| Err(()),
     )
     .expect(&rt, "connections");
     let log = taken(&rt, watch.log.into_inner());

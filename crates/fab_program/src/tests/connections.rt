@@ -94,8 +94,8 @@ fn serve<S: Store<Global>>(
         Some(moment)
     };
     let count = Some(ASKED.len() as u64);
-    let mut again = || Err(OpenFault::Store);
-    let served = serve_on(&mut watch, front, listener, &mut now, count, &mut again);
+    let again = || Err(OpenFault::Store);
+    let served = serve_on(&mut watch, front, listener, &mut now, count, &again);
     assert!(rt; served.is_ok());
 }
 

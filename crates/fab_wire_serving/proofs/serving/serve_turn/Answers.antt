@@ -17,7 +17,7 @@ returns-clause-turn g c =
     let read = rw c.make_room.ensures.clock at c.begun.ensures in
     let began = told_at tells fails c.args.turn.start c.begun.result c.requires.start read in
     let end = rw c.make_room.ensures.most at c.after-limit.ensures.end in
-    let untold = forgotten g.D.Server restored moment (gathered_of c.args.turn.guest) _ c.serve_guest-answer.new.server served.0 served.1 in
+    let untold = forgotten g.D.Server.serves g.met.D.Forgets.forgets restored moment (gathered_of c.args.turn.guest) _ c.serve_guest-answer.new.server served.0 served.1 in
     let in_time = subst (λ (e : ℕ). CameSo (λ outcome after. g.D.Server.serves restored moment (begun_sides None None e) after outcome c.serve_guest-answer.new.server) served.0) end untold in
     let marked = rw (c.make_room.ensures.clock, c.put_off.ensures.pending) at c.end_turn.ensures.lines in (
       c.make_room.new.watch.log,
