@@ -75,10 +75,16 @@ def ways(crate):
     return 1 + sum(ways(it) for it in lines[crate][0] if it in lines)
 
 
+def is_program(crate):
+    return f"crates/{crate}/src/main.rt" in places
+
+
 def check_ways():
+    """What only a program stands on may have more: it is one library, and the last one."""
     for crate, (_, is_static) in lines.items():
-        is_program = f"crates/{crate}/src/main.rt" in places
-        if not is_static and not is_program and ways(crate) > MOST_WAYS:
+        users = [it for it, (below, _) in lines.items() if crate in below]
+        is_last = users and all(is_program(it) for it in users)
+        if not is_static and not is_program(crate) and not is_last and ways(crate) > MOST_WAYS:
             faults.append(f"crates.txt: {ways(crate)} ways lead down from {crate}: name less there, and have a crate of its line hand it on by 'pub use'")
 
 

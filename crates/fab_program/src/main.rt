@@ -1,13 +1,10 @@
-//! `sandesk`: a change desk for SAN zoning and volume mapping, over HTTP: what each subcommand does, by
-//! the program's words, clock and streams, and the exit status.
+//! `sandesk`: a change desk for SAN zoning and volume mapping, over HTTP. It is started here, with the words,
+//! the clock and the standard streams of the machine.
 #![tactic(auto)]
 
-mod looks;
-mod running;
 mod starting;
 #[cfg(test)]
 mod tests;
-mod tries;
 
 use starting::start;
 use std::process::ExitCode;

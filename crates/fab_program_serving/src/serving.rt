@@ -39,9 +39,7 @@ pub fn serve<O: Files + Databases + Addresses, N: FnMut() -> Option<u64>, W: Wri
         Ok(policy) => {
             let again = ||
                 ensures { IsAgain (O.finds outside.entry.now db.entry.now) result }
-            {
-                tables_again(outside, db)
-            };
+            { tables_again(outside, db) };
             let store = outside.tables_in(db);
             serve_over(rt, outside, asked, store, policy, now, log, &again)
         }

@@ -22,7 +22,7 @@ came_as P Q step Unsent h = (h.0, (h.1.0, step h.0 h.1.0 h.1.1))
 -- what came of a connection whose bytes may be known, where they are not
 pub forgotten : {S Outcome : Type 0} (serves : S → ℕ → Sides → Sides → Outcome → S → Type 0)
     (forgets : (old : S) (moment : ℕ) (input : List ℕ) (sent : Option (List ℕ)) (until : ℕ) (after : Sides) (outcome : Outcome) (new : S)
-        → serves old moment (begun_sides (Some input) sent until) after outcome new → serves old moment (begun_sides None sent until) after outcome new)
+    → serves old moment (begun_sides (Some input) sent until) after outcome new → serves old moment (begun_sides None sent until) after outcome new)
     (old : S) (moment : ℕ) (input : Option (List ℕ)) (until : ℕ) (new : S) (what : Came Outcome)
     → CameSo (λ outcome after. serves old moment (begun_sides input None until) after outcome new) what
     → CameSo (λ outcome after. serves old moment (begun_sides None None until) after outcome new) what

@@ -45,10 +45,7 @@ pub enum ServeFault {
 
 /// Opens a halted server anew, over a store that `again` opens, once the store that it halted on is
 /// dropped. Where none is opened, or the server is refused over it, it stays halted.
-pub(crate) fn restore<D: Server, O: Fn() -> Result<D::Store, D::Fault>>(
-    server: &mut D,
-    again: &O,
-)
+pub(crate) fn restore<D: Server, O: Fn() -> Result<D::Store, D::Fault>>(server: &mut D, again: &O)
     requires { O.pre again.now }
     ensures { IsRestored D.Server (O.post again.now) server.old server.new }
 {

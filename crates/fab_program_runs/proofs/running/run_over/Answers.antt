@@ -1,5 +1,5 @@
 use Rattle.std.proofs.Common.{inl}
-use Rattle.fab_program.proofs.running.run_over.Goals as goal
+use Rattle.fab_program_runs.proofs.running.run_over.Goals as goal
 
 pub returns-in-Ok-clause-done : goal.returns-in-Ok-clause-done
 returns-in-Ok-clause-done g c = (

@@ -1,7 +1,7 @@
 //! The looks of one caller at a database: `why`, `who` and `list`.
 ghost use Rattle.std.specs.Prelude.{◌≡◌};
-ghost use Rattle.fab_program.specs.Looks as looks;
-ghost use Rattle.fab_program.specs.Looks.{ComesLooking, WhyComes, WhoComes, NamesComes};
+ghost use Rattle.fab_program_runs.specs.Looks as looks;
+ghost use Rattle.fab_program_runs.specs.Looks.{ComesLooking, WhyComes, WhoComes, NamesComes};
 ghost use Rattle.fab_program_looks.specs.Looks.{LooksOver};
 ghost use Rattle.fab_program_outside.specs.Coming.{Then};
 

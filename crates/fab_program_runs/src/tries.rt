@@ -1,5 +1,5 @@
 //! What an import or the activation of a plan would do at a database: `tryimport` and `diff`.
-ghost use Rattle.fab_program.specs.Tries.{ComesTrying, DiffComes, TryImportComes, TryImportComesIn};
+ghost use Rattle.fab_program_runs.specs.Tries.{ComesTrying, DiffComes, TryImportComes, TryImportComesIn};
 ghost use Rattle.fab_program_outside.specs.Coming.{Then};
 ghost use Rattle.fab_program_tries.specs.Telling.{TellsImport};
 ghost use Rattle.fab_program_tries.specs.Tries.{ComesTold};

@@ -25,11 +25,11 @@ use Rattle.fab_program_explains.specs.Explains.{ExplainComes, now_in}
 use Rattle.fab_program_commands.specs.Commands.{DryRunComes, ImportComes, ShowComes}
 use Rattle.fab_program_desks.specs.Databases.{IsMade}
 use Rattle.fab_program_desks.specs.Desks.{ProgramDesk}
-use Rattle.fab_program.specs.Exits.{end_of_making, end_only, status_of, words_status}
-use Rattle.fab_program.specs.Looks.{WhyComes, WhoComes, NamesComes}
+use Rattle.fab_program_runs.specs.Exits.{end_of_making, end_only, status_of, words_status}
+use Rattle.fab_program_runs.specs.Looks.{WhyComes, WhoComes, NamesComes}
 use Rattle.fab_program_serving.specs.Once.{ComesOnce}
 use Rattle.fab_program_serving.specs.Servings.{ComesServing}
-use Rattle.fab_program.specs.Tries.{DiffComes, TryImportComes}
+use Rattle.fab_program_runs.specs.Tries.{DiffComes, TryImportComes}
 use Rattle.fab_program_desks.specs.declared.addresses.Addresses as addresses
 use Rattle.fab_program_desks.specs.declared.database.Databases as databases
 

@@ -8,10 +8,10 @@ ghost use Rattle.fab_store_schema.specs.Trees.{tables_of};
 ghost use Rattle.fab_wire_streams.specs.Sinks.{Wrote, WroteSome};
 ghost use Rattle.fab_program_options.specs.Asking.{Asks};
 ghost use Rattle.fab_program_words.specs.declared.words.Words.{Words};
-ghost use Rattle.fab_program.specs.Exits.{IsExitStatus, end_of_making, end_only, status_of, words_status};
+ghost use Rattle.fab_program_runs.specs.Exits.{IsExitStatus, end_of_making, end_only, status_of, words_status};
 ghost use Rattle.fab_wire_serving.specs.Turns.{Gives};
 ghost use Rattle.fab_program_serving.specs.Once.{ComesOnce};
-ghost use Rattle.fab_program.specs.Runs.{Comes, EndsAt, IsToldOf, IsToldOfWords, RunsTo};
+ghost use Rattle.fab_program_runs.specs.Runs.{Comes, EndsAt, IsToldOf, IsToldOfWords, RunsTo};
 
 use crate::looks::{names, who, why};
 use crate::tries::{diff, try_import};

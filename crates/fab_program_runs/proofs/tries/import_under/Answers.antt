@@ -2,7 +2,7 @@ use Rattle.std.proofs.Common.{ℕ, List, Ok, Err, refl, subst}
 use Rattle.fab_program_outside.specs.Coming.{Then}
 use Rattle.fab_program_tries.specs.Telling.{TellsImport}
 use Rattle.fab_program_tries.specs.Tries.{ComesTold}
-use Rattle.fab_program.proofs.tries.import_under.Goals as goal
+use Rattle.fab_program_runs.proofs.tries.import_under.Goals as goal
 
 pub returns-in-Ok : goal.returns-in-Ok
 returns-in-Ok g c =
