@@ -38,6 +38,23 @@ abbrev pub warning_if : Bool → Warning → Option Warning
 warning_if true w = Some w
 warning_if false w = None
 
+-- the place of an action among all
+abbrev pub number_of : Action → ℕ
+number_of Import = 0
+number_of Inventory = 1
+number_of Stage = 2
+number_of Withdraw = 3
+number_of Approve = 4
+number_of DryRun = 5
+number_of Activate = 6
+number_of Rollback = 7
+
+abbrev pub is_action : Action → Action → Bool
+is_action one other = nat_eq (number_of one) (number_of other)
+
+abbrev pub has_action : Action → RuleRow → Bool
+has_action a r = list_any (λ one. is_action one a) r.actions
+
 -- it is about a fabric, and no command of its actions names one
 abbrev pub fabric_flaw_in : Option Fabric → ℕ → RuleRow → Option Warning
 fabric_flaw_in None n r = None
@@ -70,6 +87,14 @@ plan_flaw_in (Some q) n r = warning_if (not (list_any is_of_plan r.actions)) (wa
 abbrev pub plan_flaw : ℕ → RuleRow → Option Warning
 plan_flaw n r = plan_flaw_in r.approvals n r
 
+-- it asks for approvals of a command before which a plan has none
+abbrev pub early_flaw_in : Option Quorum → ℕ → RuleRow → Action → Option Warning
+early_flaw_in None n r a = None
+early_flaw_in (Some q) n r a = warning_if (has_action a r) (warning.Early n r.name a)
+
+abbrev pub early_flaw : ℕ → RuleRow → Action → Option Warning
+early_flaw n r a = early_flaw_in r.approvals n r a
+
 -- fewer callers have the role of its approvers than it asks for
 abbrev pub quorum_flaw : List CallerRow → ℕ → List ℕ → Quorum → Option Warning
 quorum_flaw cs n name q = warning_if (nat_lt (count_by (has_role q.approver) cs) q.count) (warning.Approvals n name q.count (count_by (has_role q.approver) cs))
@@ -81,28 +106,12 @@ approvals_flaw_in cs (Some q) n name = quorum_flaw cs n name q
 abbrev pub approvals_flaw : PolicyRows → ℕ → RuleRow → Option Warning
 approvals_flaw p n r = approvals_flaw_in p.callers r.approvals n r.name
 
--- each reason that there may be for which no command meets the rule of this number
+-- each reason that there may be for which no command meets the rule of this number, or none of an action of it
 abbrev pub flaws_of : PolicyRows → ℕ → RuleRow → List (Option Warning)
-flaws_of p n r = fabric_flaw n r ∷ role_flaw p n r ∷ window_flaw p n r ∷ plan_flaw n r ∷ approvals_flaw p n r ∷ []
+flaws_of p n r =
+    fabric_flaw n r ∷ role_flaw p n r ∷ window_flaw p n r ∷ plan_flaw n r ∷ early_flaw n r Stage ∷ early_flaw n r Approve ∷ approvals_flaw p n r ∷ []
 
 -- ---- actions that no rule is about
-
--- the place of an action among all
-abbrev pub number_of : Action → ℕ
-number_of Import = 0
-number_of Inventory = 1
-number_of Stage = 2
-number_of Withdraw = 3
-number_of Approve = 4
-number_of DryRun = 5
-number_of Activate = 6
-number_of Rollback = 7
-
-abbrev pub is_action : Action → Action → Bool
-is_action one other = nat_eq (number_of one) (number_of other)
-
-abbrev pub has_action : Action → RuleRow → Bool
-has_action a r = list_any (λ one. is_action one a) r.actions
 
 abbrev pub unruled : List RuleRow → Action → Option Warning
 unruled rules a = warning_if (not (list_any (has_action a) rules)) (warning.Unruled a)

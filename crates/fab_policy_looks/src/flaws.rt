@@ -90,6 +90,36 @@ fn some_opens(windows: &[Window], name: &Name) -> bool
     windows.iter().any(|window| opens_as(window, name))
 }
 
+/// The place of an action among all.
+fn number_of(action: Action) -> usize
+    ensures { result ≡ flaws.number_of action }
+{
+    match action {
+        Action::Import => 0,
+        Action::Inventory => 1,
+        Action::Stage => 2,
+        Action::Withdraw => 3,
+        Action::Approve => 4,
+        Action::DryRun => 5,
+        Action::Activate => 6,
+        Action::Rollback => 7,
+    }
+}
+
+/// Whether two actions are the same.
+fn is_action(one: Action, other: Action) -> bool
+    ensures { result ≡ flaws.is_action one other }
+{
+    number_of(one) == number_of(other)
+}
+
+/// Whether the rule is about the action.
+fn has_action(rule: &Rule, action: Action) -> bool
+    ensures { result ≡ flaws.has_action action rule.now }
+{
+    rule.actions.iter().any(|one| is_action(*one, action))
+}
+
 /// That the rule is about a fabric that no command of its actions names.
 pub fn fabric_flaw(number: usize, rule: &Rule) -> Option<Warning>
     ensures { result ≡ flaws.fabric_flaw number rule.now }
@@ -150,6 +180,24 @@ pub fn plan_flaw(number: usize, rule: &Rule) -> Option<Warning>
     }
 }
 
+/// That the rule asks for approvals of commands of the action, before which a plan has none.
+pub fn early_flaw(number: usize, rule: &Rule, action: Action) -> Option<Warning>
+    ensures { result ≡ flaws.early_flaw number rule.now action }
+{
+    let name = rule.name;
+    match rule.approvals {
+        Some(_) => warning_if(
+            has_action(rule, action),
+            Warning::Early {
+                number,
+                name,
+                action,
+            },
+        ),
+        None => None,
+    }
+}
+
 /// That fewer callers may approve than the quorum of a rule asks for.
 fn quorum_flaw(callers: &[Caller], number: usize, name: Name, quorum: &Quorum) -> Option<Warning>
     ensures { result ≡ flaws.quorum_flaw callers.now number name quorum.now }
@@ -175,36 +223,6 @@ pub fn approvals_flaw(policy: &Policy, number: usize, rule: &Rule) -> Option<War
         Some(quorum) => quorum_flaw(policy.callers(), number, rule.name, quorum),
         None => None,
     }
-}
-
-/// The place of an action among all.
-fn number_of(action: Action) -> usize
-    ensures { result ≡ flaws.number_of action }
-{
-    match action {
-        Action::Import => 0,
-        Action::Inventory => 1,
-        Action::Stage => 2,
-        Action::Withdraw => 3,
-        Action::Approve => 4,
-        Action::DryRun => 5,
-        Action::Activate => 6,
-        Action::Rollback => 7,
-    }
-}
-
-/// Whether two actions are the same.
-fn is_action(one: Action, other: Action) -> bool
-    ensures { result ≡ flaws.is_action one other }
-{
-    number_of(one) == number_of(other)
-}
-
-/// Whether the rule is about the action.
-fn has_action(rule: &Rule, action: Action) -> bool
-    ensures { result ≡ flaws.has_action action rule.now }
-{
-    rule.actions.iter().any(|one| is_action(*one, action))
 }
 
 /// Whether some rule is about the action.

@@ -1,15 +1,17 @@
 //! What is no fault of a policy, and is worth a look.
-ghost use Rattle.std.specs.Prelude.{◌≡◌, OnOk, IfOk};
+ghost use Rattle.std.specs.Prelude.{◌≡◌, ◌++◌, ◌∷◌, [], OnOk, IfOk};
 ghost use Rattle.fab_policy_looks.specs.Flaws as flaws;
-ghost use Rattle.fab_policy_looks.specs.Warnings.{added, warnings_of, with_actions, with_each, with_rules};
+ghost use Rattle.fab_policy_looks.specs.Warnings.{of_actions, of_rules, there, warnings_of};
 
-use crate::flaws::{approvals_flaw, fabric_flaw, plan_flaw, role_flaw, unruled, window_flaw};
+use crate::flaws::{
+    approvals_flaw, early_flaw, fabric_flaw, plan_flaw, role_flaw, unruled, window_flaw,
+};
 use fab_names::Name;
 use fab_policy_base::{Action, Policy, Rule};
 use std::alloc::{AllocError, Global};
 
-/// What is worth a look in a policy. But for the last, it is a reason for which no command meets a rule,
-/// with the number of the rule, counted from 1, and its name.
+/// What is worth a look in a policy. But for the last, it is a reason for which no command meets a rule, or
+/// none of one of its actions, with the number of the rule, counted from 1, and its name.
 #[derive(Clone, Copy)]
 pub enum Warning {
     /// The rule is about a fabric, and no command of its actions names one, so that it is about none.
@@ -33,6 +35,13 @@ pub enum Warning {
     Plan {
         number: usize,
         name: Name,
+    },
+    /// The rule asks for approvals of commands of the action, before which a plan has none: nobody may stage
+    /// a plan, or give the first approval.
+    Early {
+        number: usize,
+        name: Name,
+        action: Action,
     },
     /// The rule asks for approvals of so many callers, and there are `there` who may give one.
     Approvals {
@@ -59,7 +68,7 @@ const ACTIONS: [Action; 8] = [
 
 /// Adds a warning, if there is one.
 fn add(warnings: &mut Vec<Warning>, warning: Option<Warning>) -> Result<(), AllocError>
-    ensures { OnOk result (warnings.new.items ≡ added warnings.old.items warning) }
+    ensures { OnOk result (warnings.new.items ≡ warnings.old.items ++ there (warning ∷ [])) }
 {
     if let Some(warning) = warning {
         warnings.push(warning)?;
@@ -69,7 +78,7 @@ fn add(warnings: &mut Vec<Warning>, warning: Option<Warning>) -> Result<(), Allo
 
 /// Adds those of the warnings that there are.
 fn add_each(warnings: &mut Vec<Warning>, more: &[Option<Warning>]) -> Result<(), AllocError>
-    ensures { OnOk result (warnings.new.items ≡ with_each warnings.old.items more.now) }
+    ensures { OnOk result (warnings.new.items ≡ warnings.old.items ++ there more.now) }
 {
     for warning in more {
         add(warnings, *warning)?;
@@ -84,13 +93,15 @@ fn add_rule(
     number: usize,
     rule: &Rule,
 ) -> Result<(), AllocError>
-    ensures { OnOk result (warnings.new.items ≡ with_each warnings.old.items (flaws.flaws_of policy.now number rule.now)) }
+    ensures { OnOk result (warnings.new.items ≡ warnings.old.items ++ there (flaws.flaws_of policy.now number rule.now)) }
 {
     let flaws = [
         fabric_flaw(number, rule),
         role_flaw(policy, number, rule),
         window_flaw(policy, number, rule),
         plan_flaw(number, rule),
+        early_flaw(number, rule, Action::Stage),
+        early_flaw(number, rule, Action::Approve),
         approvals_flaw(policy, number, rule),
     ];
     add_each(warnings, &flaws)?;
@@ -99,7 +110,7 @@ fn add_rule(
 
 /// Adds the warnings of all rules.
 fn add_rules(warnings: &mut Vec<Warning>, policy: &Policy) -> Result<(), AllocError>
-    ensures { OnOk result (warnings.new.items ≡ with_rules policy.now warnings.old.items 1 policy.now.rules) }
+    ensures { OnOk result (warnings.new.items ≡ warnings.old.items ++ of_rules policy.now 1 policy.now.rules) }
 {
     for (place, rule) in policy.rules().iter().enumerate() {
         add_rule(warnings, policy, place + 1, rule)?;
@@ -109,7 +120,7 @@ fn add_rules(warnings: &mut Vec<Warning>, policy: &Policy) -> Result<(), AllocEr
 
 /// Adds the warning of an action, if no rule is about it.
 fn add_action(warnings: &mut Vec<Warning>, rules: &[Rule], action: Action) -> Result<(), AllocError>
-    ensures { OnOk result (warnings.new.items ≡ added warnings.old.items (flaws.unruled rules.now action)) }
+    ensures { OnOk result (warnings.new.items ≡ warnings.old.items ++ there (flaws.unruled rules.now action ∷ [])) }
 {
     add(warnings, unruled(rules, action))?;
     Ok(())
@@ -121,7 +132,7 @@ fn add_actions(
     rules: &[Rule],
     actions: &[Action],
 ) -> Result<(), AllocError>
-    ensures { OnOk result (warnings.new.items ≡ with_actions rules.now warnings.old.items actions.now) }
+    ensures { OnOk result (warnings.new.items ≡ warnings.old.items ++ of_actions rules.now actions.now) }
 {
     for action in actions {
         add_action(warnings, rules, *action)?;

@@ -16,9 +16,9 @@ warnings_in other = []
 unfoldable pub rule_words : ℕ → List ℕ → List ℕ → List ℕ
 rule_words number name said = codes "rule " ++ (decimal number ++ (codes " `" ++ (name ++ (codes "` " ++ said))))
 
--- and that with a name at its end
+-- and that with a word at its end
 unfoldable pub naming_words : List ℕ → List ℕ → List ℕ
-naming_words name said = name ++ said
+naming_words word said = word ++ said
 
 -- fewer callers may approve than are asked for
 unfoldable pub more_words : ℕ → ℕ → List ℕ
@@ -33,6 +33,7 @@ warning_words (warning.Fabric n name) = rule_words n name (codes "is about a fab
 warning_words (warning.Role n name role) = rule_words n name (codes "asks for role `") ++ naming_words role (codes "`, which no caller has")
 warning_words (warning.Window n name window) = rule_words n name (codes "asks for window `") ++ naming_words window (codes "`, which is never open")
 warning_words (warning.Plan n name) = rule_words n name (codes "asks for approvals, and no command of its actions is about a plan")
+warning_words (warning.Early n name action) = rule_words n name (codes "asks for approvals of `") ++ naming_words (action_word action) (codes "`, before which a plan has none")
 warning_words (warning.Approvals n name asked there) = rule_words n name (codes "asks for more approvals than callers may give: ") ++ more_words asked there
 warning_words (warning.Unruled action) = unruled_words (action_word action)
 

@@ -45,11 +45,11 @@ fn put_rule<S: Sink>(
     put_all(sink, &texts)
 }
 
-/// Puts a name, and what is said behind it.
-fn put_naming<S: Sink>(sink: &mut S, name: &Name, said: &str) -> Result<(), WriteFailed>
-    ensures { Takes S.took S.cut sink.old (naming_words name.now said.now) sink.new result }
+/// Puts a word, and what is said behind it.
+fn put_naming<S: Sink>(sink: &mut S, word: &[u8], said: &str) -> Result<(), WriteFailed>
+    ensures { Takes S.took S.cut sink.old (naming_words word.now said.now) sink.new result }
 {
-    let texts = [name.as_bytes(), said.as_bytes()];
+    let texts = [word, said.as_bytes()];
     put_all(sink, &texts)
 }
 
@@ -78,13 +78,13 @@ fn put_unruled<S: Sink>(sink: &mut S, action: Action) -> Result<(), WriteFailed>
     put_all(sink, &texts)
 }
 
-/// Puts a rule, what is said of it, a name, and what is said behind it.
+/// Puts a rule, what is said of it, a word, and what is said behind it.
 fn put_rule_of<S: Sink>(
     sink: &mut S,
     number: usize,
     name: &Name,
     said: &str,
-    of: &Name,
+    of: &[u8],
     behind: &str,
 ) -> Result<(), WriteFailed>
     ensures { Takes S.took S.cut sink.old (rule_words number name.now said.now ++ naming_words of.now behind.now) sink.new result }
@@ -112,6 +112,54 @@ fn put_quorum<S: Sink>(
     put_more(sink, asked, there)
 }
 
+/// Puts that a rule asks for a role that no caller has.
+fn put_role<S: Sink>(
+    sink: &mut S,
+    number: usize,
+    name: &Name,
+    role: &Name,
+) -> Result<(), WriteFailed>
+    ensures { Takes S.took S.cut sink.old (warning_words (warnings.Role number name.now role.now)) sink.new result }
+{
+    let behind = "`, which no caller has";
+    put_rule_of(
+        sink,
+        number,
+        name,
+        "asks for role `",
+        role.as_bytes(),
+        behind,
+    )
+}
+
+/// Puts that a rule asks for a window that is never open.
+fn put_window<S: Sink>(
+    sink: &mut S,
+    number: usize,
+    name: &Name,
+    window: &Name,
+) -> Result<(), WriteFailed>
+    ensures { Takes S.took S.cut sink.old (warning_words (warnings.Window number name.now window.now)) sink.new result }
+{
+    let word = window.as_bytes();
+    let behind = "`, which is never open";
+    put_rule_of(sink, number, name, "asks for window `", word, behind)
+}
+
+/// Puts that a rule asks for approvals of an action before which a plan has none.
+fn put_early<S: Sink>(
+    sink: &mut S,
+    number: usize,
+    name: &Name,
+    action: Action,
+) -> Result<(), WriteFailed>
+    ensures { Takes S.took S.cut sink.old (warning_words (warnings.Early number name.now action)) sink.new result }
+{
+    let behind = "`, before which a plan has none";
+    let word = action.word().as_bytes();
+    put_rule_of(sink, number, name, "asks for approvals of `", word, behind)
+}
+
 /// Puts the words of what is worth a look.
 fn put_words<S: Sink>(sink: &mut S, warning: &Warning) -> Result<(), WriteFailed>
     ensures { Takes S.took S.cut sink.old (warning_words warning.now) sink.new result }
@@ -121,22 +169,21 @@ fn put_words<S: Sink>(sink: &mut S, warning: &Warning) -> Result<(), WriteFailed
             let said = "is about a fabric, and no command of its actions names one";
             put_rule(sink, *number, name, said)
         }
-        Warning::Role { number, name, role } => {
-            let behind = "`, which no caller has";
-            put_rule_of(sink, *number, name, "asks for role `", role, behind)
-        }
+        Warning::Role { number, name, role } => put_role(sink, *number, name, role),
         Warning::Window {
             number,
             name,
             window,
-        } => {
-            let behind = "`, which is never open";
-            put_rule_of(sink, *number, name, "asks for window `", window, behind)
-        }
+        } => put_window(sink, *number, name, window),
         Warning::Plan { number, name } => {
             let said = "asks for approvals, and no command of its actions is about a plan";
             put_rule(sink, *number, name, said)
         }
+        Warning::Early {
+            number,
+            name,
+            action,
+        } => put_early(sink, *number, name, *action),
         Warning::Approvals {
             number,
             name,
