@@ -430,6 +430,17 @@ says 'a window that never opens' 1 'rule 1 `quiet` fails
   approvals 0 of 1: not met
 denied: rule 1 `quiet`, need window
 ' '' explain --policy "$work/small.toml" --caller ada --action stage --now 0
+chmod 600 "$work/small.toml"
+checks 'a rule that nobody can meet' 0 'sound
+warning: rule 1 `quiet` asks for window `never`, which is never open
+warning: rule 1 `quiet` asks for approvals of `stage`, before which a plan has none
+warning: no rule is about `import`: nobody may do it
+warning: no rule is about `inventory`: nobody may do it
+warning: no rule is about `withdraw`: nobody may do it
+warning: no rule is about `approve`: nobody may do it
+warning: no rule is about `dryrun`: nobody may do it
+warning: no rule is about `activate`: nobody may do it
+warning: no rule is about `rollback`: nobody may do it' policy "$work/small.toml"
 says 'no rule is about it' 1 'denied: rule 0 `no-rule`, need rule
 ' '' explain --policy "$work/small.toml" --caller ada --action rollback --now 0
 says 'the rules or a command' 2 '' $'sandesk: words\n' explain --policy "$policy" --rules --caller ada --action stage
