@@ -1,5 +1,5 @@
 -- What a task comes to at a desk.
-use Rattle.std.specs.Prelude.{ℕ, ◌≡◌, ◌<◌, ◌^◌, ◌⊎◌, List, length, Option, Result}
+use Rattle.std.specs.Prelude.{ℕ, ◌≡◌, ◌<◌, ◌≤◌, ◌^◌, ◌⊎◌, List, length, Option, Result}
 use Rattle.std.specs.declared.alloc.Global.{Global}
 use Rattle.fab_wire_answers.specs.declared.answers.Answer.{Answer}
 use Rattle.fab_wire_answers.specs.declared.answers.Answer.TheVariants as answer
@@ -37,22 +37,24 @@ abbrev pub IsImportOf : Fabric → List ℕ → Command Global → Type 0
 IsImportOf fabric bytes (command.Import at rows) = (at ≡ fabric) × ListsPorts bytes rows.items
 IsImportOf fabric bytes other = ⊥
 
--- why bytes are not imported though somebody has the token: there are more than a port list may have,
--- the record of this number is faulty, or there was no memory
+-- why bytes are not imported though somebody has the token: there are more than a port list may have; or
+-- else the record of this number is faulty, or there was no memory
 abbrev pub IsTurnedBack : List ℕ → Answer Global → Type 0
 IsTurnedBack bytes a = ((2 ^ 20 < length bytes) × (a ≡ answer.Refused no.TooLarge))
-    ⊎ (((line : ℕ) × IsFaultAt bytes line × (a ≡ answer.Refused (no.BadBody line)))
-    ⊎ (a ≡ answer.Replied (reply.Refused refusal.Memory)))
+    ⊎ ((length bytes ≤ 2 ^ 20) × (((line : ℕ) × IsFaultAt bytes line × (a ≡ answer.Refused (no.BadBody line)))
+    ⊎ (a ≡ answer.Replied (reply.Refused refusal.Memory))))
 
 module _ {S : Type 0} (g : store.Ghosts S Global) where
   -- the desk handles the command, just once, and its reply is the answer
   abbrev pub Replies : ProgramDesk S → List ℕ → ℕ → Command Global → Answer Global → ProgramDesk S → Type 0
   Replies d token moment c a e = (r : Reply Global) × Handles g d (record { token = token; moment = moment; command = c }) r e × (a ≡ answer.Replied r)
 
-  -- the bytes of a port list are imported at the fabric; or they are turned back, and the desk is as it was
+  -- the bytes of a port list, of which there are not too many, are imported at the fabric; or they are
+  -- turned back, and the desk is as it was
   abbrev pub ImportsKnown : ProgramDesk S → List ℕ → ℕ → Fabric → List ℕ → Answer Global → ProgramDesk S → Type 0
   ImportsKnown d token moment fabric bytes a e =
-      (IsTurnedBack bytes a × (e ≡ d)) ⊎ ((c : Command Global) × IsImportOf fabric bytes c × Replies d token moment c a e)
+      (IsTurnedBack bytes a × (e ≡ d))
+      ⊎ ((length bytes ≤ 2 ^ 20) × ((c : Command Global) × IsImportOf fabric bytes c × Replies d token moment c a e))
 
   -- nobody has the token, and the desk is as it was; or somebody has it, and the bytes are imported
   abbrev pub ImportsAt : ProgramDesk S → List ℕ → ℕ → Fabric → List ℕ → Answer Global → ProgramDesk S → Type 0

@@ -99,6 +99,14 @@ module _ {H : Type 0} (state_of : H → State) (Opened : H → Type 0) where
   abbrev pub AreUnmadeFrom : Fault → Type 0
   AreUnmadeFrom told = (before : H) × Opened before × ((after : H) × (refused : ℕ) × IsUnmade (state_of before) (state_of after) 0 refused told)
 
+-- ---- in memory
+
+-- what came of making the tables of a new desk in memory: there they are; or there was no memory for them, or
+-- the store refused
+abbrev pub AreNewTables : {H T : Type 0} → (H → State) → Result T Fault → (T → H) → Type 0
+AreNewTables state_of (Ok tables) conn_of = HasCleanDisk (state_of (conn_of tables)) → IsNewDesk (tables_of (state_of (conn_of tables)).now.trees)
+AreNewTables state_of (Err told) conn_of = (told ≡ fault.Memory) ⊎ (told ≡ fault.Store)
+
 -- ---- in a file
 
 module _ {H : Type 0} (state_of : H → State) (HasFile : Bool → Type 0) (Connects : Result H Error → Type 0) where

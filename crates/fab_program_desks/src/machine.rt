@@ -3,10 +3,7 @@ ghost use Rattle.std.specs.Prelude.{◌≡◌, ◌⊎◌, false, IfOk, IfErr, On
 ghost use Rattle.sqlite.specs.Held.{state};
 ghost use Rattle.sqlite.specs.State.{HasCleanDisk};
 ghost use Rattle.sqlite.specs.Steps.{over_memory};
-ghost use Rattle.fab_store_sql.specs.NewDesk.{IsNewDesk};
-ghost use Rattle.fab_store_schema.specs.Trees.{tables_of};
-ghost use Rattle.fab_program_outside.specs.declared.faults.Fault.TheVariants as faults;
-ghost use Rattle.fab_program_desks.specs.Tables.{AreBroughtFrom, AreFound, AreMade, AreMadeFrom, AreUnbroughtFrom, AreUnfound, AreUnmade, AreUnmadeFrom, IsBrought, IsMadeIn, IsUnbrought, IsUnmade, IsUnopened, opened_fault};
+ghost use Rattle.fab_program_desks.specs.Tables.{AreBroughtFrom, AreFound, AreMade, AreMadeFrom, AreNewTables, AreUnbroughtFrom, AreUnfound, AreUnmade, AreUnmadeFrom, IsBrought, IsMadeIn, IsUnbrought, IsUnmade, IsUnopened, opened_fault};
 
 use crate::addresses::Addresses;
 use crate::connections::Connections;
@@ -96,8 +93,7 @@ fn fault_of(error: &Error) -> Fault
 /// # Errors
 /// `Memory`; `Store` where they could not be made.
 pub fn new_tables(alloc: Global) -> Result<MemoryTables, Fault>
-    ensures made { IfOk result (λ tables. HasCleanDisk (state over_memory tables.conn) → IsNewDesk (tables_of (state over_memory tables.conn).now.trees)) }
-    ensures fault { IfErr result (λ fault. (fault ≡ faults.Memory) ⊎ (fault ≡ faults.Store)) }
+    ensures { AreNewTables (state over_memory) result (λ tables. tables.conn) }
 {
     match Connection::open_in_memory(alloc) {
         Ok(conn) => new_over(alloc, Ok(conn)),

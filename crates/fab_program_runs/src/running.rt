@@ -1,10 +1,8 @@
 //! What the words of the command line ask for, and the exit status.
-ghost use Rattle.std.specs.Prelude.{◌≡◌, ◌<◌, IfOk, map, string_bytes};
+ghost use Rattle.std.specs.Prelude.{◌≡◌, ◌<◌, map, string_bytes};
 ghost use Rattle.sqlite.specs.Held.{state};
-ghost use Rattle.sqlite.specs.State.{HasCleanDisk};
 ghost use Rattle.sqlite.specs.Steps.{over_memory};
-ghost use Rattle.fab_store_sql.specs.NewDesk.{IsNewDesk};
-ghost use Rattle.fab_store_schema.specs.Trees.{tables_of};
+ghost use Rattle.fab_program_desks.specs.Tables.{AreNewTables};
 ghost use Rattle.fab_wire_streams.specs.Sinks.{Wrote, WroteSome};
 ghost use Rattle.fab_program_options.specs.Asking.{Asks};
 ghost use Rattle.fab_program_words.specs.declared.words.Words.{Words};
@@ -110,7 +108,7 @@ pub fn run_over<
     ensures status { IsExitStatus result }
     ensures asked { result < 2 → (w : Words) × Asks (map string_bytes words.now) w }
     ensures wrong { result ≡ 2 → (w : Words) → ¬ Asks (map string_bytes words.now) w }
-    ensures done { (after : N) × RunsTo (Wrote E.contents) (WroteSome E.contents) (λ asked ended. Comes O.Files O.File.remaining O.Databases O.Addresses O.Modes O.Tables.Store (λ made. IfOk made (λ tables. HasCleanDisk (state over_memory tables.conn) → IsNewDesk (tables_of (state over_memory tables.conn).now.trees))) ⟦<SqlStore<MemStore> as Store<Global>>⟧ R.remaining W.contents (λ told. N.step now told after) ⟦<Front<O::Tables> as Server>⟧ (λ front. front.desk) (Gives N.step) outside.now asked reader writer ended) (map string_bytes words.now) errors.old result errors.new }
+    ensures done { (after : N) × RunsTo (Wrote E.contents) (WroteSome E.contents) (λ asked ended. Comes O.Files O.File.remaining O.Databases O.Addresses O.Modes O.Tables.Store (λ made. AreNewTables (state over_memory) made (λ tables. tables.conn)) ⟦<SqlStore<MemStore> as Store<Global>>⟧ R.remaining W.contents (λ told. N.step now told after) ⟦<Front<O::Tables> as Server>⟧ (λ front. front.desk) (Gives N.step) outside.now asked reader writer ended) (map string_bytes words.now) errors.old result errors.new }
 {
     match read_words(rt.alloc(), words) {
         Ok(asked) => {
@@ -138,7 +136,7 @@ fn carry_out<
     writer: W,
 ) -> Result<End, Fault>
     requires { (state : N) → N.pre state }
-    ensures { Comes O.Files O.File.remaining O.Databases O.Addresses O.Modes O.Tables.Store (λ made. IfOk made (λ tables. HasCleanDisk (state over_memory tables.conn) → IsNewDesk (tables_of (state over_memory tables.conn).now.trees))) ⟦<SqlStore<MemStore> as Store<Global>>⟧ R.remaining W.contents (λ told. N.step now.old told now.new) ⟦<Front<O::Tables> as Server>⟧ (λ front. front.desk) (Gives N.step) outside.now asked.now reader writer result }
+    ensures { Comes O.Files O.File.remaining O.Databases O.Addresses O.Modes O.Tables.Store (λ made. AreNewTables (state over_memory) made (λ tables. tables.conn)) ⟦<SqlStore<MemStore> as Store<Global>>⟧ R.remaining W.contents (λ told. N.step now.old told now.new) ⟦<Front<O::Tables> as Server>⟧ (λ front. front.desk) (Gives N.step) outside.now asked.now reader writer result }
 {
     let alloc = rt.alloc();
     match asked {
@@ -185,7 +183,7 @@ fn once_at<O: Files + Databases, N: FnMut() -> Option<u64>, R: Read + Drop, W: W
     writer: W,
 ) -> Result<End, Fault>
     requires { (state : N) → N.pre state }
-    ensures { EndsAt asked.entry.now.now (λ told. N.step now.old told now.new) (λ moment. ComesOnce O.Files O.File.remaining O.Databases O.Tables.Store (λ made. IfOk made (λ tables. HasCleanDisk (state over_memory tables.conn) → IsNewDesk (tables_of (state over_memory tables.conn).now.trees))) ⟦<SqlStore<MemStore> as Store<Global>>⟧ R.remaining W.contents outside.now asked.entry.now.over moment reader writer) result }
+    ensures { EndsAt asked.entry.now.now (λ told. N.step now.old told now.new) (λ moment. ComesOnce O.Files O.File.remaining O.Databases O.Tables.Store (λ made. AreNewTables (state over_memory) made (λ tables. tables.conn)) ⟦<SqlStore<MemStore> as Store<Global>>⟧ R.remaining W.contents outside.now asked.entry.now.over moment reader writer) result }
 {
     let moment = moment_of(asked.now, now);
     without_writer(once(alloc, outside, asked, moment, reader, writer))

@@ -1,10 +1,8 @@
 //! One request from standard input, answered on standard output.
-ghost use Rattle.std.specs.Prelude.{◌≡◌, IfOk};
+ghost use Rattle.std.specs.Prelude.{◌≡◌};
 ghost use Rattle.sqlite.specs.Held.{state};
-ghost use Rattle.sqlite.specs.State.{HasCleanDisk};
 ghost use Rattle.sqlite.specs.Steps.{over_memory};
-ghost use Rattle.fab_store_sql.specs.NewDesk.{IsNewDesk};
-ghost use Rattle.fab_store_schema.specs.Trees.{tables_of};
+ghost use Rattle.fab_program_desks.specs.Tables.{AreNewTables};
 ghost use Rattle.fab_program_outside.specs.Coming.{After, Then};
 ghost use Rattle.fab_program_serving.specs.Once.{ComesOnce, IsServedAt, IsServedOver, ServesIt, ended};
 
@@ -33,7 +31,7 @@ pub fn once<O: Files + Databases, R: Read + Drop, W: Write + Drop>(
     reader: R,
     writer: W,
 ) -> Result<(W, End), Fault>
-    ensures { ComesOnce O.Files O.File.remaining O.Databases O.Tables.Store (λ made. IfOk made (λ tables. HasCleanDisk (state over_memory tables.conn) → IsNewDesk (tables_of (state over_memory tables.conn).now.trees))) ⟦<SqlStore<MemStore> as Store<Global>>⟧ R.remaining W.contents outside.now asked.entry.now.over moment reader writer result }
+    ensures { ComesOnce O.Files O.File.remaining O.Databases O.Tables.Store (λ made. AreNewTables (state over_memory) made (λ tables. tables.conn)) ⟦<SqlStore<MemStore> as Store<Global>>⟧ R.remaining W.contents outside.now asked.entry.now.over moment reader writer result }
 {
     match &asked.over {
         Over::Trial => {
@@ -59,7 +57,7 @@ fn once_in_memory<R: Read + Drop, W: Write + Drop>(
     reader: R,
     writer: W,
 ) -> Result<(W, End), Fault>
-    ensures { After policy (λ p. Then (λ made. IfOk made (λ tables. HasCleanDisk (state over_memory tables.conn) → IsNewDesk (tables_of (state over_memory tables.conn).now.trees))) (λ s. IsServedOver ⟦<SqlStore<MemStore> as Store<Global>>⟧ R.remaining W.contents s p moment reader writer)) result }
+    ensures { After policy (λ p. Then (λ made. AreNewTables (state over_memory) made (λ tables. tables.conn)) (λ s. IsServedOver ⟦<SqlStore<MemStore> as Store<Global>>⟧ R.remaining W.contents s p moment reader writer)) result }
 {
     match policy {
         Ok(policy) => once_over(alloc, new_tables(alloc), policy, moment, reader, writer),

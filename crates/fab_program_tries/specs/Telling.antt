@@ -1,5 +1,5 @@
 -- What a caller is told of an import or of a plan, and what is printed of it.
-use Rattle.std.specs.Prelude.{ℕ, ◌<◌, ◌^◌, ◌⊎◌, List, length, Bool, true, false, Option, Result}
+use Rattle.std.specs.Prelude.{ℕ, ◌<◌, ◌≤◌, ◌^◌, ◌⊎◌, List, length, Bool, true, false, Option, Result}
 use Rattle.std.specs.declared.vec.Vec.{Vec}
 use Rattle.std.specs.declared.alloc.Global.{Global}
 use Rattle.fab_desk_base.specs.Answers.{IsNobodys}
@@ -60,14 +60,14 @@ module _ {W : Type 0} (contents : W → Option (List ℕ)) (w : WorldRows) (p : 
       ((t : TriedImport Global) × IsTriedImport p w token moment f rows t × Prints contents writer (import_output json t most) (end_of_import t most) came)
       ⊎ ((q : DeskFault) × IsTurnedDown {A = Global} p w (request_of token moment (command.Import f rows)) q × Prints contents writer (json_line (refused_with q)) Refused came)
 
-  -- there are more bytes than a port list may have, the record of this number is faulty, or there was no
-  -- memory; or the bytes list records, and it is told what their import would do
+  -- there are more bytes than a port list may have; or else the record of this number is faulty, there was no
+  -- memory, or the bytes list records, and it is told what their import would do
   abbrev pub TellsBytes : Fabric → List ℕ → Option ℕ → Bool → W → Result (W × End) Fault → Type 0
   TellsBytes f bytes most json writer came =
       ((2 ^ 20 < length bytes) × Prints contents writer (json_line (unread_with no.TooLarge)) Refused came)
-      ⊎ (((line : ℕ) × IsFaultAt bytes line × Prints contents writer (json_line (unread_with (no.BadBody line))) Refused came)
+      ⊎ ((length bytes ≤ 2 ^ 20) × (((line : ℕ) × IsFaultAt bytes line × Prints contents writer (json_line (unread_with (no.BadBody line))) Refused came)
       ⊎ (Prints contents writer (json_line (refused_with refusal.Memory)) Refused came
-      ⊎ ((rows : Vec PortRow Global) × ListsPorts bytes rows.items × TellsRows f rows most json writer came)))
+      ⊎ ((rows : Vec PortRow Global) × ListsPorts bytes rows.items × TellsRows f rows most json writer came))))
 
   -- nobody has the token; or somebody has it, and it is told of the bytes
   abbrev pub TellsImport : Fabric → List ℕ → Option ℕ → Bool → W → Result (W × End) Fault → Type 0

@@ -1,5 +1,5 @@
 -- Lines of turns that are not in the log yet.
-use Rattle.std.specs.Prelude.{ℕ, ◌≡◌, ◌<◌, ◌≤◌, ◌-◌, ◌⊎◌, Bool, true, false, List, [], ◌∷◌, ◌++◌, length, Option, Some, IfSome, IsSome, codes}
+use Rattle.std.specs.Prelude.{ℕ, ◌≡◌, ◌<◌, ◌≤◌, ◌-◌, ◌⊎◌, Bool, true, false, List, [], ◌∷◌, ◌++◌, length, Option, Some, None, IfSome, IsSome, codes}
 use Rattle.std.specs.Time.{instant_nanos}
 use Rattle.fab_wire_streams.specs.declared.counted.Counted.{Counted}
 use Rattle.fab_wire_log.specs.Lines.{line_text, Notes, Lasted}
@@ -45,6 +45,11 @@ module _ (tells : ℕ → Type 0) (fails : Type 0) where
   AreMarked [] (y ∷ ys) = ⊥
   AreMarked (x ∷ xs) [] = ⊥
   AreMarked (x ∷ xs) (y ∷ ys) = IsMarked x y × AreMarked xs ys
+
+-- the first of the lines is of a turn that has not ended, if there is one
+abbrev pub FirstWaits : List Line → Type 0
+FirstWaits [] = Unit {0}
+FirstWaits (line ∷ lines) = line.milliseconds ≡ None
 
 -- the log has these lines behind what it had
 abbrev pub AreNoted : {W : Type 0} → (W → Option (List ℕ)) → Counted W → List Line → Counted W → Type 0

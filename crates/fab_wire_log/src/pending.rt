@@ -2,10 +2,10 @@
 //!
 //! Answers are sent side by side, and end in any order. The log has its lines in the order of the turns.
 
-ghost use Rattle.std.specs.Prelude.{◌≡◌, ◌<◌, ◌+◌, ◌-◌, ◌^◌, ◌⊎◌, ◌++◌, ◌∷◌, [], false, length, min, codes, IfOk, IsSome};
+ghost use Rattle.std.specs.Prelude.{◌≡◌, ◌<◌, ◌+◌, ◌-◌, ◌^◌, ◌⊎◌, ◌++◌, ◌∷◌, [], true, false, length, min, codes, IfOk, IsSome};
 ghost use Rattle.std.specs.VecDeque.{deque_len, deque_capacity};
 ghost use Rattle.fab_wire_log.specs.Shown.{shown_text};
-ghost use Rattle.fab_wire_log.specs.Pending.{Advances, AreMarked, IsMarked, ShowsEnd, IsEnded, HasEnded};
+ghost use Rattle.fab_wire_log.specs.Pending.{Advances, AreMarked, FirstWaits, IsMarked, ShowsEnd, IsEnded, HasEnded};
 
 use crate::Watch;
 use crate::shown::Shown;
@@ -136,7 +136,10 @@ impl Pending {
     }
 
     /// Whether it is known how the turn of the first line ended.
-    fn is_first_ended(&self) -> bool {
+    fn is_first_ended(&self) -> bool
+        ensures some { result ≡ true → 0 < length self.now.lines.items }
+        ensures waits { result ≡ false → FirstWaits self.now.lines.items }
+    {
         match self.lines.front() {
             Some(line) => line.milliseconds.is_some(),
             None => false,
@@ -160,17 +163,16 @@ impl Pending {
         watch.write_line(line.moment, line.shown, line.milliseconds.unwrap_or(0));
     }
 
-    /// Writes those lines to the log that are known, and behind no other.
+    /// Writes those lines to the log that are known, and behind no other. Then the first one that is left
+    /// waits for the end of its turn.
     pub fn note<C: Ticks, W: Write>(&mut self, watch: &mut Watch<'_, C, W>)
         ensures clock { watch.new.clock.now ≡ watch.old.clock.now }
         ensures most { watch.new.most ≡ watch.old.most }
         ensures lines { Advances (C.tells watch.old.clock.now) (C.fails watch.old.clock.now) W.contents
             watch.old.log self.old.lines.items watch.new.log self.new.lines.items }
+        ensures first { FirstWaits self.new.lines.items }
     {
-        for _ in 0..self.lines.len() {
-            if !self.is_first_ended() {
-                return;
-            }
+        while self.is_first_ended() {
             self.note_first(watch);
         }
     }

@@ -45,6 +45,7 @@ impl<'c, C: Ticks, W: Write> Watch<'c, C, W> {
         ensures most { as_nanos result.most ≡ 27 * 1_000_000_000 }
         ensures log { inner_of result.log ≡ log }
         ensures failures { failures_of result.log ≡ 0 }
+        ensures poll { result.poll ≡ poll }
     {
         Watch {
             alloc,

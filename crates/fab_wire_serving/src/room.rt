@@ -4,7 +4,7 @@ ghost use Rattle.std.specs.Prelude.{◌≡◌, ◌<◌, ◌++◌, ◌∷◌, [],
 ghost use Rattle.std.specs.Time.{instant_nanos};
 ghost use Rattle.std.specs.VecDeque.{deque_len, deque_capacity};
 ghost use Rattle.fab_wire_log.specs.Numbers.{first_of};
-ghost use Rattle.fab_wire_log.specs.Pending.{Advances, AreMarked, HasEnded};
+ghost use Rattle.fab_wire_log.specs.Pending.{Advances, AreMarked, FirstWaits, HasEnded};
 ghost use Rattle.fab_wire_serving.specs.Starts.{AreTold};
 ghost use Rattle.fab_wire_serving.specs.Stops.{IsStopped};
 
@@ -281,6 +281,7 @@ impl Room {
         ensures lines { Advances (C.tells watch.old.clock.now) (C.fails watch.old.clock.now) W.contents
             watch.old.log self.old.pending.lines.items watch.new.log self.new.pending.lines.items }
         ensures now { IfSome result (λ now. C.tells watch.old.clock.now (instant_nanos now)) }
+        ensures first { IfSome result (λ now. FirstWaits self.new.pending.lines.items) }
         ensures none { IfNone result (C.fails watch.old.clock.now) }
     {
         let now = reading(watch.clock)?;

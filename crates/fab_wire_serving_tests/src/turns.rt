@@ -15,6 +15,13 @@ fn listen(rt: &(impl Abort + Net<Listener = TcpListener, Stream = TcpStream>)) -
     listen_at(rt, "127.0.0.1:0").expect(rt, "a listener")
 }
 
+/// Nobody from elsewhere reaches what listens at an address of this machine alone.
+#[test]
+fn listening_is_at_the_address_that_is_told(rt: HostRuntime) {
+    let address = listen(&rt).local_addr().expect(&rt, "an address");
+    assert!(&rt; address.ip().is_loopback());
+}
+
 /// A connection over which these bytes were sent.
 fn told(
     rt: &(impl Abort + Net<Stream = TcpStream>),

@@ -101,8 +101,18 @@ fn fill(host: &HostRuntime, rt: &(impl Abort + AllocGlobal), file: &Filled) {
     put(host, rt, file.0, bytes.as_slice());
 }
 
+/// An import into a database that is not there, which makes none.
+const UNMADE: Run<'static> = Run {
+    words: "sandesk import --db none.db --policy most.toml --token t-ada --fabric A --file most.csv",
+    errors: "sandesk: file\n",
+    status: 3,
+    ..QUIET
+};
+
 /// What is made of these files.
 const SIZES: &[Run<'static>] = &[
+    UNMADE,
+    UNMADE,
     Run {
         words: "sandesk init --db size.db",
         ..QUIET
@@ -115,6 +125,12 @@ const SIZES: &[Run<'static>] = &[
     },
     Run {
         words: "sandesk import --db size.db --policy most.toml --token t-ada --fabric A --file more.csv",
+        output: "{\"code\":6,\"error\":\"too-large\"}\n",
+        status: 1,
+        ..QUIET
+    },
+    Run {
+        words: "sandesk tryimport --db size.db --policy most.toml --token t-ada --fabric A --file more.csv",
         output: "{\"code\":6,\"error\":\"too-large\"}\n",
         status: 1,
         ..QUIET

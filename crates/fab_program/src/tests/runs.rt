@@ -189,12 +189,22 @@ fn file_round(rt: HostRuntime) {
     are_run(&rt, &rt, LOOKED);
 }
 
+/// A dry run over a database that is not there, which makes none.
+const NOT_THERE: Run<'static> = Run {
+    words: "sandesk dryrun --db none.db --policy status.toml --token t-ada --plan p9",
+    errors: "sandesk: file\n",
+    status: 3,
+    ..QUIET
+};
+
 /// What is done, what the desk refuses, words that are wrong, and what fails.
 const STATUSES: &[Run<'static>] = &[
     Run {
         words: "sandesk init --db status.db",
         ..QUIET
     },
+    NOT_THERE,
+    NOT_THERE,
     Run {
         words: "sandesk dryrun --db status.db --policy status.toml --token t-ada --plan p9",
         output: "{\"code\":9,\"error\":\"not-found\"}\n",

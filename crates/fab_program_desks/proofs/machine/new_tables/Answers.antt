@@ -1,5 +1,7 @@
-use Rattle.std.proofs.lemmas.Result.{IfOk-weaker}
+use Rattle.sqlite.specs.Held.{state}
+use Rattle.sqlite.specs.Steps.{over_memory}
+use Rattle.fab_program_desks.proofs.Finding.{made_new}
 use Rattle.fab_program_desks.proofs.machine.new_tables.Goals as goal
 
-pub returns-in-Ok-clause-made : goal.returns-in-Ok-clause-made
-returns-in-Ok-clause-made c = IfOk-weaker c.new_over.result _ _ (λ tables h clean. (h.2.tables clean).1) c.new_over.ensures.made
+pub returns-in-Ok : goal.returns-in-Ok
+returns-in-Ok c = made_new (state over_memory) (λ tables. tables.conn) c.in-Ok.conn c.new_over.result c.new_over.ensures.made c.new_over.ensures.fault
