@@ -121,7 +121,8 @@ pub fn run_over<
 }
 
 /// Does what the words ask for: `import`, `dryrun`, `once` and `explain` at the moment that they give, or
-/// else the clock's, `tryimport` and `diff` at the clock's, and the others with no moment.
+/// else the clock's, `tryimport` and `diff` at the clock's, `serve` with one for each turn, and the others
+/// with no moment.
 fn carry_out<
     O: Files + Databases + Addresses + Modes,
     N: FnMut() -> Option<u64>,

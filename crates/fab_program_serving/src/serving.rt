@@ -19,8 +19,8 @@ use mio::Poll;
 use std::alloc::Global;
 use std::io::Write;
 
-/// Serves connections: as many as are asked for, or until accepting one fails. Each has its line in
-/// the log.
+/// Serves connections: as many as are asked for, or until accepting one fails, or the clock does. Each has
+/// its line in the log. The tables of a desk that is halted are opened anew at the same path.
 ///
 /// # Errors
 /// As for the policy, the database, the listener and the clock, in this order.

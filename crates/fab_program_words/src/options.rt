@@ -157,7 +157,7 @@ impl OptionKind {
             OptionKind::Token => "The token of the caller, as the policy lists it",
             OptionKind::Fabric => "The fabric, A or B",
             OptionKind::File | OptionKind::Ports => {
-                "The ports of a fabric: CSV lines port_name,node_name,domain,port"
+                "The ports of a fabric: CSV lines port_name,node_name,domain,port[,address]"
             }
             OptionKind::Host => "The name of the host",
             OptionKind::Plan => "The name of the plan",

@@ -64,7 +64,7 @@ pub struct Serve<'a> {
     pub policy: &'a str,
     /// The address and the port, as they were given.
     pub listen: &'a str,
-    /// How many connections; without it, until accepting one fails.
+    /// How many connections; without it, until accepting one fails, or the clock does.
     pub count: Option<u64>,
 }
 
