@@ -1,9 +1,9 @@
-//! What the words of a command line ask for. They have no `Debug`: among them are tokens.
+//! What the words of a command line ask for.
 
 use fab_names::{Fabric, Name, Wwn};
 
 /// What the words ask for.
-#[derive(Clone, Copy)]
+#[derive(Clone, Copy, Debug)]
 pub enum Words<'a> {
     /// `init`: makes a database.
     Init(Init<'a>),
@@ -38,7 +38,7 @@ pub enum Words<'a> {
 }
 
 /// A caller at a database.
-#[derive(Clone, Copy)]
+#[derive(Clone, Copy, Debug)]
 pub struct Access<'a> {
     /// The database's file.
     pub db: &'a str,
@@ -49,14 +49,14 @@ pub struct Access<'a> {
 }
 
 /// A database to be made.
-#[derive(Clone, Copy)]
+#[derive(Clone, Copy, Debug)]
 pub struct Init<'a> {
     /// The database's file.
     pub db: &'a str,
 }
 
 /// Connections to be served.
-#[derive(Clone, Copy)]
+#[derive(Clone, Copy, Debug)]
 pub struct Serve<'a> {
     /// The database's file.
     pub db: &'a str,
@@ -69,7 +69,7 @@ pub struct Serve<'a> {
 }
 
 /// The desk that answers one request.
-#[derive(Clone, Copy)]
+#[derive(Clone, Copy, Debug)]
 pub enum Over<'a> {
     /// A new desk in memory, under the sample policy.
     Trial,
@@ -80,7 +80,7 @@ pub enum Over<'a> {
 }
 
 /// A request to be answered.
-#[derive(Clone, Copy)]
+#[derive(Clone, Copy, Debug)]
 pub struct Once<'a> {
     /// The desk that answers it.
     pub over: Over<'a>,
@@ -89,7 +89,7 @@ pub struct Once<'a> {
 }
 
 /// A port list to be imported.
-#[derive(Clone, Copy)]
+#[derive(Clone, Copy, Debug)]
 pub struct Import<'a> {
     pub access: Access<'a>,
     pub fabric: Fabric,
@@ -100,21 +100,21 @@ pub struct Import<'a> {
 }
 
 /// A host whose paths are asked for.
-#[derive(Clone, Copy)]
+#[derive(Clone, Copy, Debug)]
 pub struct Paths<'a> {
     pub access: Access<'a>,
     pub host: Name,
 }
 
 /// A fabric whose active set is asked for.
-#[derive(Clone, Copy)]
+#[derive(Clone, Copy, Debug)]
 pub struct Export<'a> {
     pub access: Access<'a>,
     pub fabric: Fabric,
 }
 
 /// A plan to be tried.
-#[derive(Clone, Copy)]
+#[derive(Clone, Copy, Debug)]
 pub struct DryRun<'a> {
     pub access: Access<'a>,
     pub plan: Name,
@@ -123,7 +123,7 @@ pub struct DryRun<'a> {
 }
 
 /// A host and a volume, of which it is asked why the one reaches the other or does not.
-#[derive(Clone, Copy)]
+#[derive(Clone, Copy, Debug)]
 pub struct Why<'a> {
     pub access: Access<'a>,
     pub host: Name,
@@ -133,7 +133,7 @@ pub struct Why<'a> {
 }
 
 /// Of what it is asked who is there.
-#[derive(Clone, Copy)]
+#[derive(Clone, Copy, Debug)]
 pub enum WhoOf {
     /// Who reaches this volume.
     Volume { volume: Name },
@@ -142,7 +142,7 @@ pub enum WhoOf {
 }
 
 /// A volume or a port, of which it is asked who is there.
-#[derive(Clone, Copy)]
+#[derive(Clone, Copy, Debug)]
 pub struct Who<'a> {
     pub access: Access<'a>,
     pub of: WhoOf,
@@ -151,7 +151,7 @@ pub struct Who<'a> {
 }
 
 /// What a list is of.
-#[derive(Clone, Copy, PartialEq, Eq)]
+#[derive(Clone, Copy, Debug, PartialEq, Eq)]
 pub enum ListKind {
     Hosts,
     Arrays,
@@ -166,7 +166,7 @@ pub enum ListKind {
 }
 
 /// In which state plans are that are listed.
-#[derive(Clone, Copy)]
+#[derive(Clone, Copy, Debug)]
 pub enum ListState {
     Staged,
     Active,
@@ -175,7 +175,7 @@ pub enum ListState {
 }
 
 /// A kind of which a list is asked for.
-#[derive(Clone, Copy)]
+#[derive(Clone, Copy, Debug)]
 pub struct Names<'a> {
     pub access: Access<'a>,
     pub kind: ListKind,
@@ -186,7 +186,7 @@ pub struct Names<'a> {
 }
 
 /// A file of which it is asked what is wrong with it.
-#[derive(Clone, Copy)]
+#[derive(Clone, Copy, Debug)]
 pub enum Check<'a> {
     /// The file of a policy.
     Policy { path: &'a str },
@@ -197,7 +197,7 @@ pub enum Check<'a> {
 }
 
 /// What a command does, as a policy names it.
-#[derive(Clone, Copy)]
+#[derive(Clone, Copy, Debug)]
 pub enum ActionWord {
     Import,
     Inventory,
@@ -210,7 +210,7 @@ pub enum ActionWord {
 }
 
 /// The fabrics that a command names.
-#[derive(Clone, Copy)]
+#[derive(Clone, Copy, Debug)]
 pub enum NamedFabrics {
     A,
     B,
@@ -218,7 +218,7 @@ pub enum NamedFabrics {
 }
 
 /// A command of which it is asked what a policy says.
-#[derive(Clone, Copy)]
+#[derive(Clone, Copy, Debug)]
 pub struct Deed<'a> {
     /// Who sends it.
     pub caller: Name,
@@ -239,7 +239,7 @@ pub struct Deed<'a> {
 }
 
 /// What is asked of a policy.
-#[derive(Clone, Copy)]
+#[derive(Clone, Copy, Debug)]
 pub enum ExplainOf<'a> {
     /// What it is, without its tokens.
     Rules,
@@ -248,7 +248,7 @@ pub enum ExplainOf<'a> {
 }
 
 /// A policy of which something is asked.
-#[derive(Clone, Copy)]
+#[derive(Clone, Copy, Debug)]
 pub struct Explain<'a> {
     /// The policy's file.
     pub policy: &'a str,
@@ -256,7 +256,7 @@ pub struct Explain<'a> {
 }
 
 /// A port list of which it is asked what its import would gain and lose.
-#[derive(Clone, Copy)]
+#[derive(Clone, Copy, Debug)]
 pub struct TryImport<'a> {
     pub access: Access<'a>,
     pub fabric: Fabric,
@@ -269,7 +269,7 @@ pub struct TryImport<'a> {
 }
 
 /// A plan of which it is asked what activating it would change.
-#[derive(Clone, Copy)]
+#[derive(Clone, Copy, Debug)]
 pub struct Diff<'a> {
     pub access: Access<'a>,
     pub plan: Name,
