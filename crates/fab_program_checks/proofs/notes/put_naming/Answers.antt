@@ -4,4 +4,4 @@ use Rattle.fab_program_checks.proofs.notes.put_naming.Goals as goal
 
 pub returns : goal.returns
 unfolding naming_words
-returns g c = rw (c.as_bytes.ensures.text, c.as_bytes-2.ensures.value, append-nil c.args.said.now) at c.put_all.ensures
+returns g c = rw (c.as_bytes.ensures.value, append-nil c.args.said.now) at c.put_all.ensures
