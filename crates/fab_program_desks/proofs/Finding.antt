@@ -1,5 +1,5 @@
 -- How tables are found and made in a file.
-use Rattle.std.proofs.Common.{◌≡◌, ◌⊎◌, Bool, true, false, IsTrue, Result, Ok, Err, IfOk, IfErr, refl, inl, inr, subst}
+use Rattle.std.proofs.Common.{◌≡◌, ◌⊎◌, Bool, true, false, IsTrue, Result, Ok, Err, IfOk, IfErr, refl, inl, inr, subst, sym, ◌∙◌}
 use Rattle.sqlite.specs.State.{State}
 use Rattle.sqlite.specs.declared.error.Error.{Error}
 use Rattle.fab_program_outside.specs.declared.faults.Fault.{Fault}
@@ -10,14 +10,14 @@ pub either : {A B : Type 0} (answer : Bool) → (IsTrue answer → A) → (answe
 either true changed same = inr (changed refl)
 either false changed same = inl (same refl)
 
--- what came of making tables over a connection in memory
-pub made_new : {H T : Type 0} (state_of : H → State) (conn_of : T → H) (conn : H) (came : Result T Fault)
-    → IfOk came (λ tables. AreMadeFrom state_of (λ before. Ok conn ≡ Ok before) (conn_of tables))
-    → IfErr came (λ told. (Ok conn ≡ Err told) ⊎ AreUnmadeFrom state_of (λ before. Ok conn ≡ Ok before) told)
+-- what came of making tables over a connection in memory, which was opened
+pub made_new : {H T : Type 0} (state_of : H → State) (conn_of : T → H) (opened : Result H Fault) (conn : H) (came : Result T Fault) → opened ≡ Ok conn
+    → IfOk came (λ tables. AreMadeFrom state_of (λ before. opened ≡ Ok before) (conn_of tables))
+    → IfErr came (λ told. (opened ≡ Err told) ⊎ AreUnmadeFrom state_of (λ before. opened ≡ Ok before) told)
     → AreNewTables state_of came conn_of
-made_new state_of conn_of conn (Ok tables) made none = λ clean. (made.2.tables clean).1
-made_new state_of conn_of conn (Err told) none (inl other) = absurd cc
-made_new state_of conn_of conn (Err told) none (inr why) = inr why.2.2.is
+made_new state_of conn_of opened conn (Ok tables) is made none = λ clean. (made.2.tables clean).1
+made_new state_of conn_of opened conn (Err told) is none (inl other) = absurd (let e = sym is ∙ other in cc)
+made_new state_of conn_of opened conn (Err told) is none (inr why) = inr why.2.2.is
 
 -- of what came of opening a file this is known
 module _ {H T : Type 0} (state_of : H → State) (conn_of : T → H) (Connects : Result H Error → Type 0) (opened : Result H Fault) (is_opened : IfOk opened (λ conn. Connects (Ok conn))) where
