@@ -1,8 +1,7 @@
 -- Serving over a desk, where more is allowed of how its store is opened anew.
 use Rattle.std.proofs.Common.{ℕ, List, [], ◌∷◌, Option, Some, None, Result, Ok, Err, inl, inr}
-use Rattle.std.specs.declared.alloc.Global.{Global}
+use Rattle.std.specs.Bool.{⊤}
 use Rattle.std.specs.declared.net.TcpListener.{TcpListener}
-use Rattle.fab_policy_base.specs.Policies.{PolicyRows}
 use Rattle.fab_files.specs.declared.printing.End.{End}
 use Rattle.fab_program_outside.specs.Coming.{After}
 use Rattle.fab_program_outside.specs.declared.faults.Fault.{Fault}
@@ -12,9 +11,8 @@ use Rattle.fab_wire_serving.specs.declared.server.Server as server
 use Rattle.fab_wire_serving.specs.declared.serving.ServeFault.{ServeFault}
 use Rattle.fab_wire.specs.declared.outcome.Outcome.{Outcome}
 use Rattle.fab_store.specs.declared.OpenFault.{OpenFault}
-use Rattle.fab_store.specs.declared.Store as store
 use Rattle.fab_program_desks.specs.Desks.{ProgramDesk}
-use Rattle.fab_program_serving.specs.Servings.{AreServed, EndsFrom, IsServedBy, IsServedOver, connection_time}
+use Rattle.fab_program_serving.specs.Servings.{AreServed, EndsFrom, IsServedBy, connection_time}
 
 module _ {D S W : Type 0} (w : server.Ghosts D S OpenFault Outcome) (contents : W → Option (List ℕ)) (opens finds : Result S OpenFault → Type 0) (is_found : (again : Result S OpenFault) → opens again → finds again) (gives : Option ℕ → Type 0) (count : Option ℕ) where
   reopened : (s t : D) → IsReopened w opens s t → IsReopened w finds s t
@@ -45,16 +43,6 @@ module _ {D S W : Type 0} (w : server.Ghosts D S OpenFault Outcome) (contents : 
     by_desk d log came (inl e) = inl e
     by_desk d log came (inr h) = inr (h.0, h.1, (h.2.0, h.2.1, ends h.0 log h.2.0 came h.2.2))
 
-    after_desk : (first : Result (ProgramDesk S) Fault) (log : W) (came : Result End Fault) → After first (λ d. IsServedBy w contents opens gives count desk_of Listens d log) came → After first (λ d. IsServedBy w contents finds gives count desk_of Listens d log) came
+    pub after_desk : (first : Result (ProgramDesk S) Fault) (log : W) (came : Result End Fault) → After first (λ d. IsServedBy w contents opens gives count desk_of Listens d log) came → After first (λ d. IsServedBy w contents finds gives count desk_of Listens d log) came
     after_desk (Ok d) log came h = by_desk d log came h
     after_desk (Err fault) log came h = h
-
-    over : (g : store.Ghosts S Global) (s : S) (p : PolicyRows) (log : W) (came : Result End Fault) → IsServedOver w contents opens gives count desk_of Listens g s p log came → IsServedOver w contents finds gives count desk_of Listens g s p log came
-    over g s p log came h = (h.0, h.1, after_desk h.0 log came h.2)
-
-    -- serving comes to as much where more is allowed of that
-    pub served_over : (g : store.Ghosts S Global) (p : PolicyRows) (log : W) (first : Result S Fault) (came : Result End Fault)
-        → After first (λ s. IsServedOver w contents opens gives count desk_of Listens g s p log) came
-        → After first (λ s. IsServedOver w contents finds gives count desk_of Listens g s p log) came
-    served_over g p log (Ok s) came h = over g s p log came h
-    served_over g p log (Err fault) came h = h

@@ -99,5 +99,5 @@ impl<S: Store<Global>> Server for Front<S> {
 impl<S: Store<Global>> Forgets for Front<S> {
     ghost use Rattle.fab_program_serving.specs.FrontLaws.{forgets_desk};
 
-    ghost forgets = { λ old moment input sent until after outcome new served. forgets_desk S.Store old.desk moment input sent until after outcome new.desk served };
+    ghost forgets = { λ old moment input sent until after outcome new served. forgets_desk _ old.desk moment input sent until after outcome new.desk served };
 }

@@ -1,5 +1,6 @@
 //! Connections served over a database.
-ghost use Rattle.std.specs.Prelude.{◌≡◌};
+ghost use Rattle.std.specs.Prelude.{◌≡◌, Result};
+ghost use Rattle.fab_store.specs.declared.OpenFault.{OpenFault};
 ghost use Rattle.fab_program_outside.specs.Coming.{After};
 ghost use Rattle.fab_wire_serving.specs.Turns.{Gives};
 ghost use Rattle.fab_program_desks.specs.Databases.{IsAgain};
@@ -47,18 +48,18 @@ pub fn serve<O: Files + Databases + Addresses, N: FnMut() -> Option<u64>, W: Wri
     }
 }
 
-/// Serves connections over a desk over a store, if there is one. `again` opens the store anew.
+/// Serves connections over a desk over the tables at the path that is asked for, if there are any. `again`
+/// opens these tables anew.
 fn serve_over<
-    O: Addresses,
-    S: Store<Global>,
+    O: Databases + Addresses,
     N: FnMut() -> Option<u64>,
     W: Write + Drop,
-    F: Fn() -> Result<S, OpenFault>,
+    F: Fn() -> Result<O::Tables, OpenFault>,
 >(
     rt: &HostRuntime,
     outside: &O,
     asked: &Serve<'_>,
-    store: Result<S, Fault>,
+    store: Result<O::Tables, Fault>,
     policy: Policy,
     now: &mut N,
     log: W,
@@ -66,7 +67,8 @@ fn serve_over<
 ) -> Result<End, Fault>
     requires now { (state : N) → N.pre state }
     requires again { F.pre again.now }
-    ensures { After store (λ s. IsServedOver ⟦<Front<S> as Server>⟧ W.contents (F.post again.now) (Gives N.step) asked.now.count (λ front. front.desk) (O.listens outside.now asked.now.listen.now) S.Store s policy log) result }
+    requires found { (came : Result O.Tables OpenFault) → F.post again.now came → IsAgain (O.finds outside.now asked.now.db.now) came }
+    ensures { After store (λ s. IsServedOver ⟦<Front<O::Tables> as Server>⟧ W.contents (IsAgain (O.finds outside.now asked.now.db.now)) (Gives N.step) asked.now.count (λ front. front.desk) (O.listens outside.now asked.now.listen.now) O.Tables.Store s policy log) result }
 {
     match store {
         Ok(store) => {
