@@ -11,10 +11,16 @@ use Rattle.fab_names.specs.declared.member.Member.TheVariants as member
 use Rattle.fab_names.specs.contracts.member.MemberOrd.TheImpl.Laws.{total-law}
 use Rattle.fab_names.specs.Orders.{fabric_cmp, name_cmp, member_cmp}
 
+pub less_equal : {A : Type 0} → Less ≡ Equal → A
+less_equal e = absurd cc
+
+pub greater_equal : {A : Type 0} → Greater ≡ Equal → A
+greater_equal e = absurd cc
+
 pub fabric_exact : set.IsAntisymmetric fabric_cmp
 fabric_exact A A e = refl
-fabric_exact A B e = absurd cc
-fabric_exact B A e = absurd cc
+fabric_exact A B e = less_equal e
+fabric_exact B A e = greater_equal e
 fabric_exact B B e = refl
 
 pub name_total : IsTotalOrder name_cmp
@@ -27,9 +33,9 @@ pub member_total : IsTotalOrder member_cmp
 member_total = total-law
 
 pub both_equal : (r s : Ordering) → ordering_then r s ≡ Equal → (r ≡ Equal) × (s ≡ Equal)
-both_equal Less s e = absurd cc
+both_equal Less s e = less_equal e
 both_equal Equal s e = (refl, e)
-both_equal Greater s e = absurd cc
+both_equal Greater s e = greater_equal e
 
 pub member_exact : set.IsAntisymmetric member_cmp
 member_exact (member.Port a) (member.Port b) e = ap member.Port (set.nat_cmp-IsAntisymmetric a b e)
@@ -39,23 +45,23 @@ member_exact (member.Place a) (member.Place b) e =
     λ i. member.Place (record { domain = set.nat_cmp-IsAntisymmetric a.domain b.domain both.0 i; slot = set.nat_cmp-IsAntisymmetric a.slot b.slot both.1 i })
 member_exact (member.Address a) (member.Address b) e = ap member.Address (set.nat_cmp-IsAntisymmetric a b e)
 member_exact (member.Alias a) (member.Alias b) e = ap member.Alias (name_exact a b e)
-member_exact (member.Port a) (member.Node b) e = absurd cc
-member_exact (member.Port a) (member.Place b) e = absurd cc
-member_exact (member.Port a) (member.Address b) e = absurd cc
-member_exact (member.Port a) (member.Alias b) e = absurd cc
-member_exact (member.Node a) (member.Port b) e = absurd cc
-member_exact (member.Node a) (member.Place b) e = absurd cc
-member_exact (member.Node a) (member.Address b) e = absurd cc
-member_exact (member.Node a) (member.Alias b) e = absurd cc
-member_exact (member.Place a) (member.Port b) e = absurd cc
-member_exact (member.Place a) (member.Node b) e = absurd cc
-member_exact (member.Place a) (member.Address b) e = absurd cc
-member_exact (member.Place a) (member.Alias b) e = absurd cc
-member_exact (member.Address a) (member.Port b) e = absurd cc
-member_exact (member.Address a) (member.Node b) e = absurd cc
-member_exact (member.Address a) (member.Place b) e = absurd cc
-member_exact (member.Address a) (member.Alias b) e = absurd cc
-member_exact (member.Alias a) (member.Port b) e = absurd cc
-member_exact (member.Alias a) (member.Node b) e = absurd cc
-member_exact (member.Alias a) (member.Place b) e = absurd cc
-member_exact (member.Alias a) (member.Address b) e = absurd cc
+member_exact (member.Port a) (member.Node b) e = less_equal e
+member_exact (member.Port a) (member.Place b) e = less_equal e
+member_exact (member.Port a) (member.Address b) e = less_equal e
+member_exact (member.Port a) (member.Alias b) e = less_equal e
+member_exact (member.Node a) (member.Port b) e = greater_equal e
+member_exact (member.Node a) (member.Place b) e = less_equal e
+member_exact (member.Node a) (member.Address b) e = less_equal e
+member_exact (member.Node a) (member.Alias b) e = less_equal e
+member_exact (member.Place a) (member.Port b) e = greater_equal e
+member_exact (member.Place a) (member.Node b) e = greater_equal e
+member_exact (member.Place a) (member.Address b) e = less_equal e
+member_exact (member.Place a) (member.Alias b) e = less_equal e
+member_exact (member.Address a) (member.Port b) e = greater_equal e
+member_exact (member.Address a) (member.Node b) e = greater_equal e
+member_exact (member.Address a) (member.Place b) e = greater_equal e
+member_exact (member.Address a) (member.Alias b) e = less_equal e
+member_exact (member.Alias a) (member.Port b) e = greater_equal e
+member_exact (member.Alias a) (member.Node b) e = greater_equal e
+member_exact (member.Alias a) (member.Place b) e = greater_equal e
+member_exact (member.Alias a) (member.Address b) e = greater_equal e
