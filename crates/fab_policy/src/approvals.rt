@@ -3,6 +3,7 @@ ghost use Rattle.std.specs.Prelude.{◌≡◌};
 ghost use Rattle.fab_policy.specs.Verdicts as verdicts;
 
 use crate::act::{Approval, PlanApprovals};
+use crate::needs::has_role;
 use fab_names::Name;
 use fab_policy_base::Caller;
 
@@ -20,16 +21,6 @@ fn has_approved(plan: &PlanApprovals, revision: u64, fresh: bool, caller: &Calle
     plan.approvals
         .iter()
         .any(|x| is_approval_of(x, caller, fresh, revision))
-}
-
-/// Whether the caller has the role, where one is asked for.
-pub(crate) fn has_role(caller: &Caller, role: &Option<Name>) -> bool
-    ensures { result ≡ verdicts.has_role role.now caller.now }
-{
-    match role {
-        Some(role) => caller.has_role(role),
-        None => true,
-    }
 }
 
 /// Whether the caller counts for a quorum: has approved the plan, at this revision where the

@@ -7,8 +7,9 @@
 mod act;
 mod approvals;
 pub mod laws;
+pub mod needs;
 mod verdicts;
-mod window;
+pub mod window;
 
 pub use act::{Act, Approval, Need, PlanApprovals, Verdict};
 pub use approvals::counts;

@@ -1,7 +1,6 @@
 //! The verdict of a policy on an act.
-ghost use Rattle.std.specs.Prelude.{◌≡◌, ◌≤◌, ◌↔◌, Some, IfSome, IsTrue, MatchOption, Contains, codes, option_copied, count_by, length, nat_le, take, ◌&&◌, if◌then◌else◌};
+ghost use Rattle.std.specs.Prelude.{◌≡◌, ◌≤◌, Some, IfSome, IsTrue, MatchOption, codes, count_by, length, nat_le, take, ◌&&◌, if◌then◌else◌};
 ghost use Rattle.std.specs.List.{list_all, list_any, zip};
-ghost use Rattle.fab_policy_base.specs.Callers as callers;
 ghost use Rattle.fab_policy_base.specs.Callers.{lists_tenant};
 ghost use Rattle.fab_policy_base.specs.Limits.{most_callers};
 ghost use Rattle.fab_policy.specs.Found as found;
@@ -9,67 +8,13 @@ ghost use Rattle.fab_policy.specs.Found.{AreFound, IsKnown};
 ghost use Rattle.fab_policy.specs.Verdicts as verdicts;
 
 use crate::act::{Act, Need, Verdict};
-use crate::approvals::{counts, has_role};
+use crate::approvals::counts;
+use crate::needs::{applies, has_role, is_own, meets_role};
 use crate::window::some_is_open;
-use fab_names::{Fabric, Name};
+use fab_names::Name;
 use fab_policy_base::laws::policy_is_sound;
 use fab_policy_base::limits::MOST_CALLERS;
-use fab_policy_base::{Action, Caller, Policy, Quorum, Rule};
-
-/// Whether the action is among these.
-fn has_action(actions: &[Action], action: Action) -> bool
-    ensures { IsTrue result ↔ Contains actions.now action }
-{
-    actions.contains(&action)
-}
-
-/// Whether the fabric is among these.
-fn has_fabric(fabrics: &[Fabric], fabric: Fabric) -> bool
-    ensures { IsTrue result ↔ Contains fabrics.now fabric }
-{
-    fabrics.contains(&fabric)
-}
-
-/// Whether the rule speaks of the act.
-fn applies(rule: &Rule, act: &Act) -> bool
-    ensures { IsTrue result ↔ verdicts.Applies rule.now act.now }
-{
-    if !has_action(&rule.actions, act.action) {
-        return false;
-    }
-    match rule.fabric {
-        Some(fabric) => has_fabric(act.fabrics, fabric),
-        None => true,
-    }
-}
-
-/// Whether there is a caller with the role, where one is asked for.
-fn meets_role(caller: Option<&Caller>, role: &Option<Name>) -> bool
-    ensures { result ≡ verdicts.meets_role role.now (option_copied caller.entry) }
-{
-    match (role, caller) {
-        (None, _) => true,
-        (Some(_), None) => false,
-        (Some(role), Some(caller)) => caller.has_role(role),
-    }
-}
-
-/// Whether each of the tenants is the caller's.
-fn has_tenants(caller: &Caller, tenants: &[Name]) -> bool
-    ensures { result ≡ list_all (callers.has_tenant caller.now) tenants.now }
-{
-    tenants.iter().all(|t| caller.has_tenant(t))
-}
-
-/// Whether there is a caller, whose is each of the tenants.
-fn is_own(caller: Option<&Caller>, tenants: &[Name]) -> bool
-    ensures { result ≡ verdicts.is_own tenants.now (option_copied caller.entry) }
-{
-    match caller {
-        Some(caller) => has_tenants(caller, tenants),
-        None => false,
-    }
-}
+use fab_policy_base::{Caller, Policy, Quorum, Rule};
 
 /// Whether the window is open, where one is asked for.
 fn meets_window(policy: &Policy, window: &Option<Name>, moment: u64) -> bool

@@ -34,8 +34,9 @@ fn is_frozen(freezes: &[Freeze], moment: u64) -> bool
     freezes.iter().any(|f| spans(f.from, f.until, moment))
 }
 
-/// Whether the window is open at a moment in Unix seconds.
-fn is_open(window: &Window, moment: u64) -> bool
+/// Whether the window is open at a moment in Unix seconds: some part of the week holds its minute, and no
+/// freeze holds it.
+pub fn is_open(window: &Window, moment: u64) -> bool
     ensures { result ≡ spec.is_open window.now moment }
 {
     is_in_week(&window.weekly, week_minute(moment)) && !is_frozen(&window.freeze, moment)
@@ -49,7 +50,7 @@ fn is_open_as(window: &Window, name: &Name, moment: u64) -> bool
 }
 
 /// Whether a window of that name is open at a moment in Unix seconds.
-pub(crate) fn some_is_open(windows: &[Window], name: &Name, moment: u64) -> bool
+pub fn some_is_open(windows: &[Window], name: &Name, moment: u64) -> bool
     ensures { result ≡ list_any (spec.is_open_as name.now moment) windows.now }
 {
     windows.iter().any(|w| is_open_as(w, name, moment))

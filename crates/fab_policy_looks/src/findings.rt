@@ -3,9 +3,11 @@ ghost use Rattle.std.specs.Prelude.{IfOk, OnOk};
 ghost use Rattle.fab_policy_looks.specs.Findings.{AddsFinding, AreFindings, IsQuorum, IsRole, IsScope, IsWindow};
 
 use crate::found::{QuorumNeed, RoleNeed, RuleFinding, WindowNeed};
-use crate::needs::{applies, are_tenants_met, count_for, has_quorum, has_role, is_own};
-use crate::openings::{is_open_at, opening};
+use crate::openings::opening;
+use crate::quorums::{are_tenants_met, count_for, has_quorum};
 use fab_policy::Act;
+use fab_policy::needs::{applies, is_own, meets_role};
+use fab_policy::window::some_is_open;
 use fab_policy_base::{Policy, Rule};
 use std::alloc::{AllocError, Global};
 
@@ -16,7 +18,7 @@ fn find_role(policy: &Policy, act: &Act, rule: &Rule) -> Option<RoleNeed>
     match rule.role {
         Some(role) => Some(RoleNeed {
             role,
-            is_met: has_role(policy.row(act.caller), &role),
+            is_met: meets_role(policy.row(act.caller), &rule.role),
         }),
         None => None,
     }
@@ -39,7 +41,7 @@ fn find_window(policy: &Policy, act: &Act, rule: &Rule) -> Option<WindowNeed>
     match rule.window {
         Some(window) => Some(WindowNeed {
             window,
-            is_met: is_open_at(policy.windows(), &window, act.moment),
+            is_met: some_is_open(policy.windows(), &window, act.moment),
             opens: opening(policy.windows(), &window, act.moment),
         }),
         None => None,

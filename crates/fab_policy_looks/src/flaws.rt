@@ -6,6 +6,7 @@ ghost use Rattle.fab_policy_looks.specs.Flaws as flaws;
 
 use crate::warnings::Warning;
 use fab_names::Name;
+use fab_policy::needs::has_role;
 use fab_policy_base::{Action, Caller, Policy, Quorum, Rule, Window};
 
 /// The warning, where there is reason for it.
@@ -25,8 +26,8 @@ fn names_fabric(action: Action) -> bool
     }
 }
 
-/// Whether a command of the action is about a plan.
-fn is_of_plan(action: Action) -> bool
+/// Whether a command of the action is about a plan: one that is no import, put or drop.
+pub fn is_of_plan(action: Action) -> bool
     ensures { result ≡ flaws.is_of_plan action }
 {
     match action {
@@ -54,16 +55,6 @@ fn some_has(callers: &[Caller], role: &Name) -> bool
     ensures { result ≡ flaws.some_has callers.now role.now }
 {
     callers.iter().any(|caller| caller.has_role(role))
-}
-
-/// Whether the caller has the role, where one is asked for.
-fn has_role(caller: &Caller, role: &Option<Name>) -> bool
-    ensures { result ≡ verdicts.has_role role.now caller.now }
-{
-    match role {
-        Some(role) => caller.has_role(role),
-        None => true,
-    }
 }
 
 /// How many callers have the role, where one is asked for.

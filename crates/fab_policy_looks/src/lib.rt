@@ -13,11 +13,12 @@
 mod findings;
 mod flaws;
 mod found;
-mod needs;
 mod openings;
+mod quorums;
 mod warnings;
 
 pub use findings::find_rules;
+pub use flaws::is_of_plan;
 pub use found::{QuorumNeed, RoleNeed, RuleFinding, WindowNeed};
 pub use openings::opening;
 pub use warnings::{Warning, warnings_of};

@@ -1,54 +1,14 @@
 //! When a window opens.
-ghost use Rattle.std.specs.Prelude.{◌≡◌, None, Some};
-ghost use Rattle.fab_policy.specs.Windows as windows;
-ghost use Rattle.fab_policy.specs.Verdicts.{meets_window};
+ghost use Rattle.std.specs.Prelude.{◌≡◌, None};
 ghost use Rattle.fab_policy_looks.specs.Inner.Candidates as candidates;
 ghost use Rattle.fab_policy_looks.specs.Openings.{IsOpening};
 
 use fab_names::Name;
-use fab_policy_base::{Freeze, WEEK_MINUTES, WeekSpan, Window};
+use fab_policy::window::is_open;
+use fab_policy_base::{WEEK_MINUTES, Window};
 
 /// How many seconds a week has.
 const WEEK_SECONDS: u64 = WEEK_MINUTES * 60;
-
-/// Whether the number is at or after `from`, and before `until`.
-fn spans(from: u64, until: u64, number: u64) -> bool
-    ensures { result ≡ windows.spans from until number }
-{
-    from <= number && number < until
-}
-
-/// The minute of the week, from Monday 00:00 UTC, at a moment in Unix seconds.
-fn week_minute(moment: u64) -> u64
-    ensures { result ≡ windows.week_minute moment }
-{
-    (moment / 60 + 4320) % WEEK_MINUTES
-}
-
-/// Whether some part of the week holds the minute.
-fn is_in_week(weekly: &[WeekSpan], minute: u64) -> bool
-    ensures { result ≡ windows.is_in_week weekly.now minute }
-{
-    weekly
-        .iter()
-        .any(|span| spans(span.from, span.until, minute))
-}
-
-/// Whether some freeze holds the moment.
-fn is_frozen(freezes: &[Freeze], moment: u64) -> bool
-    ensures { result ≡ windows.is_frozen freezes.now moment }
-{
-    freezes
-        .iter()
-        .any(|freeze| spans(freeze.from, freeze.until, moment))
-}
-
-/// Whether the window is open at a moment in Unix seconds.
-fn is_open(window: &Window, moment: u64) -> bool
-    ensures { result ≡ windows.is_open window.now moment }
-{
-    is_in_week(&window.weekly, week_minute(moment)) && !is_frozen(&window.freeze, moment)
-}
 
 /// How many seconds after the moment a minute of the week begins.
 fn seconds_to(moment: u64, minute: u64) -> u64
@@ -195,13 +155,4 @@ pub fn opening(windows: &[Window], name: &Name, from: u64) -> Option<u64>
     ensures { IsOpening windows.now name.now from result }
 {
     with_windows(windows, name, from)
-}
-
-/// Whether a window of the name is open at a moment in Unix seconds.
-pub fn is_open_at(windows: &[Window], name: &Name, moment: u64) -> bool
-    ensures { result ≡ meets_window windows.now moment (Some name.now) }
-{
-    windows
-        .iter()
-        .any(|window| window.name == *name && is_open(window, moment))
 }

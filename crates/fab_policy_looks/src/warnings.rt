@@ -1,7 +1,7 @@
 //! What is no fault of a policy, and is worth a look.
 ghost use Rattle.std.specs.Prelude.{◌≡◌, ◌++◌, ◌∷◌, [], OnOk, IfOk};
 ghost use Rattle.fab_policy_looks.specs.Flaws as flaws;
-ghost use Rattle.fab_policy_looks.specs.Warnings.{of_actions, of_rules, there, warnings_of};
+ghost use Rattle.fab_policy_looks.specs.Warnings.{of_actions, of_rules, told, warnings_of};
 
 use crate::flaws::{
     approvals_flaw, early_flaw, fabric_flaw, plan_flaw, role_flaw, unruled, window_flaw,
@@ -68,7 +68,7 @@ const ACTIONS: [Action; 8] = [
 
 /// Adds a warning, if there is one.
 fn add(warnings: &mut Vec<Warning>, warning: Option<Warning>) -> Result<(), AllocError>
-    ensures { OnOk result (warnings.new.items ≡ warnings.old.items ++ there (warning ∷ [])) }
+    ensures { OnOk result (warnings.new.items ≡ warnings.old.items ++ told (warning ∷ [])) }
 {
     if let Some(warning) = warning {
         warnings.push(warning)?;
@@ -78,7 +78,7 @@ fn add(warnings: &mut Vec<Warning>, warning: Option<Warning>) -> Result<(), Allo
 
 /// Adds those of the warnings that there are.
 fn add_each(warnings: &mut Vec<Warning>, more: &[Option<Warning>]) -> Result<(), AllocError>
-    ensures { OnOk result (warnings.new.items ≡ warnings.old.items ++ there more.now) }
+    ensures { OnOk result (warnings.new.items ≡ warnings.old.items ++ told more.now) }
 {
     for warning in more {
         add(warnings, *warning)?;
@@ -93,7 +93,7 @@ fn add_rule(
     number: usize,
     rule: &Rule,
 ) -> Result<(), AllocError>
-    ensures { OnOk result (warnings.new.items ≡ warnings.old.items ++ there (flaws.flaws_of policy.now number rule.now)) }
+    ensures { OnOk result (warnings.new.items ≡ warnings.old.items ++ told (flaws.flaws_of policy.now number rule.now)) }
 {
     let flaws = [
         fabric_flaw(number, rule),
@@ -120,7 +120,7 @@ fn add_rules(warnings: &mut Vec<Warning>, policy: &Policy) -> Result<(), AllocEr
 
 /// Adds the warning of an action, if no rule is about it.
 fn add_action(warnings: &mut Vec<Warning>, rules: &[Rule], action: Action) -> Result<(), AllocError>
-    ensures { OnOk result (warnings.new.items ≡ warnings.old.items ++ there (flaws.unruled rules.now action ∷ [])) }
+    ensures { OnOk result (warnings.new.items ≡ warnings.old.items ++ of_actions rules.now (action ∷ [])) }
 {
     add(warnings, unruled(rules, action))?;
     Ok(())

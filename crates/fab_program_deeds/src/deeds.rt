@@ -10,6 +10,7 @@ ghost use Rattle.fab_program_deeds.specs.Parts.{AreReadIn};
 
 use fab_names::{Fabric, Name};
 use fab_policy::{Act, Action, Approval, Caller, CallerId, PlanApprovals, Policy};
+use fab_policy_looks::is_of_plan;
 use fab_program_words::{ActionWord, Deed, NamedFabrics};
 
 /// Whether the caller has the name.
@@ -76,16 +77,6 @@ fn action_of(word: ActionWord) -> Action
         ActionWord::DryRun => Action::DryRun,
         ActionWord::Activate => Action::Activate,
         ActionWord::Rollback => Action::Rollback,
-    }
-}
-
-/// Whether a command of the action is about a plan.
-fn is_of_plan(action: Action) -> bool
-    ensures { result ≡ flaws.is_of_plan action }
-{
-    match action {
-        Action::Import | Action::Inventory => false,
-        _ => true,
     }
 }
 

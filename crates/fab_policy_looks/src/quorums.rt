@@ -1,67 +1,11 @@
-//! Whether a rule of a policy applies to an act, and whether its needs are met, each for itself.
-ghost use Rattle.std.specs.Prelude.{◌≡◌, ◌↔◌, Contains, IsTrue, Some, count_by, option_copied};
-ghost use Rattle.std.specs.List.{list_all};
-ghost use Rattle.fab_policy_base.specs.Callers as callers;
+//! Who counts for the quorum of a rule, and whether what it asks of approvals is met.
+ghost use Rattle.std.specs.Prelude.{◌≡◌, Some, count_by};
 ghost use Rattle.fab_policy.specs.Verdicts as verdicts;
 ghost use Rattle.fab_policy_looks.specs.Findings.{counted_for};
 
-use fab_names::{Fabric, Name};
+use fab_names::Name;
 use fab_policy::{Act, PlanApprovals, counts};
-use fab_policy_base::{Action, Caller, Policy, Quorum, Rule};
-
-/// Whether the action is among these.
-fn has_action(actions: &[Action], action: Action) -> bool
-    ensures { IsTrue result ↔ Contains actions.now action }
-{
-    actions.contains(&action)
-}
-
-/// Whether the fabric is among these.
-fn has_fabric(fabrics: &[Fabric], fabric: Fabric) -> bool
-    ensures { IsTrue result ↔ Contains fabrics.now fabric }
-{
-    fabrics.contains(&fabric)
-}
-
-/// Whether the rule speaks of the act.
-pub fn applies(rule: &Rule, act: &Act) -> bool
-    ensures { IsTrue result ↔ verdicts.Applies rule.now act.now }
-{
-    if !has_action(&rule.actions, act.action) {
-        return false;
-    }
-    match rule.fabric {
-        Some(fabric) => has_fabric(act.fabrics, fabric),
-        None => true,
-    }
-}
-
-/// Whether there is a caller with the role.
-pub fn has_role(caller: Option<&Caller>, role: &Name) -> bool
-    ensures { result ≡ verdicts.meets_role (Some role.now) (option_copied caller.entry) }
-{
-    match caller {
-        Some(caller) => caller.has_role(role),
-        None => false,
-    }
-}
-
-/// Whether each of the tenants is the caller's.
-fn has_tenants(caller: &Caller, tenants: &[Name]) -> bool
-    ensures { result ≡ list_all (callers.has_tenant caller.now) tenants.now }
-{
-    tenants.iter().all(|tenant| caller.has_tenant(tenant))
-}
-
-/// Whether there is a caller, whose is each of the tenants.
-pub fn is_own(caller: Option<&Caller>, tenants: &[Name]) -> bool
-    ensures { result ≡ verdicts.is_own tenants.now (option_copied caller.entry) }
-{
-    match caller {
-        Some(caller) => has_tenants(caller, tenants),
-        None => false,
-    }
-}
+use fab_policy_base::{Caller, Policy, Quorum};
 
 /// How many callers count for the quorum of a plan.
 fn count_signers(callers: &[Caller], plan: &PlanApprovals, revision: u64, quorum: &Quorum) -> usize
