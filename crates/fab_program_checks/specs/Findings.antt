@@ -1,5 +1,5 @@
 -- What is found in the bytes of a file.
-use Rattle.std.specs.Prelude.{ℕ, ◌≡◌, ◌<◌, ◌^◌, ◌⊎◌, List, length, Result, Ok, Err, IsUtf8}
+use Rattle.std.specs.Prelude.{ℕ, ◌≡◌, ◌⊎◌, List, Result, Ok, Err, IsUtf8}
 use Rattle.fab_inventory.specs.declared.port.PortRow.{PortRow}
 use Rattle.fab_plans_base.specs.Steps.{PlanStep}
 use Rattle.fab_plans_base.specs.Plans.{Spells}
@@ -11,13 +11,10 @@ use Rattle.fab_policy_base.specs.Tables.{SpellsPolicy, HasPolicyFault}
 use Rattle.fab_policy_looks.specs.Warnings.{warnings_of}
 use Rattle.fab_program_checks.specs.declared.findings.Finding.{Finding}
 use Rattle.fab_program_checks.specs.declared.findings.Finding.TheVariants as finding
+use Rattle.fab_program_outside.specs.Contents.{IsTooLarge}
 use Rattle.fab_program_outside.specs.declared.faults.Fault.{Fault}
 use Rattle.fab_program_outside.specs.declared.faults.Fault.TheVariants as fault
 use Rattle.fab_wire_requests.specs.PortLists.{ListsPorts, IsFaultAt}
-
--- there are more bytes than a file may have
-abbrev pub IsTooLarge : List ℕ → Type 0
-IsTooLarge bytes = 2 ^ 20 < length bytes
 
 -- what is found in a text, unless there are too many bytes or they are no text
 abbrev pub IsTextFinding : (List ℕ → Result Finding Fault → Type 0) → List ℕ → Result Finding Fault → Type 0

@@ -1,5 +1,5 @@
 -- What a task comes to at a desk.
-use Rattle.std.specs.Prelude.{ℕ, ◌≡◌, ◌<◌, ◌≤◌, ◌^◌, ◌⊎◌, List, length, Option, Result}
+use Rattle.std.specs.Prelude.{ℕ, ◌≡◌, ◌⊎◌, List, Option, Result}
 use Rattle.std.specs.declared.alloc.Global.{Global}
 use Rattle.fab_wire_answers.specs.declared.answers.Answer.{Answer}
 use Rattle.fab_wire_answers.specs.declared.answers.Answer.TheVariants as answer
@@ -17,6 +17,7 @@ use Rattle.fab_files.specs.declared.forms.Form.{Form}
 use Rattle.fab_files.specs.declared.forms.Form.TheVariants.{Json}
 use Rattle.fab_files.specs.declared.printing.End.{End}
 use Rattle.fab_program_outside.specs.Coming.{After, Then}
+use Rattle.fab_program_outside.specs.Contents.{IsTooLarge}
 use Rattle.fab_program_outside.specs.declared.faults.Fault.{Fault}
 use Rattle.fab_store.specs.declared.Store as store
 use Rattle.fab_wire.specs.Handled.{Handles, policy_of}
@@ -40,8 +41,8 @@ IsImportOf fabric bytes other = ⊥
 -- why bytes are not imported though somebody has the token: there are more than a port list may have; or
 -- else the record of this number is faulty, or there was no memory
 abbrev pub IsTurnedBack : List ℕ → Answer Global → Type 0
-IsTurnedBack bytes a = ((2 ^ 20 < length bytes) × (a ≡ answer.Refused no.TooLarge))
-    ⊎ ((length bytes ≤ 2 ^ 20) × (((line : ℕ) × IsFaultAt bytes line × (a ≡ answer.Refused (no.BadBody line)))
+IsTurnedBack bytes a = (IsTooLarge bytes × (a ≡ answer.Refused no.TooLarge))
+    ⊎ (¬ IsTooLarge bytes × (((line : ℕ) × IsFaultAt bytes line × (a ≡ answer.Refused (no.BadBody line)))
     ⊎ (a ≡ answer.Replied (reply.Refused refusal.Memory))))
 
 module _ {S : Type 0} (g : store.Ghosts S Global) where
@@ -54,7 +55,7 @@ module _ {S : Type 0} (g : store.Ghosts S Global) where
   abbrev pub ImportsKnown : ProgramDesk S → List ℕ → ℕ → Fabric → List ℕ → Answer Global → ProgramDesk S → Type 0
   ImportsKnown d token moment fabric bytes a e =
       (IsTurnedBack bytes a × (e ≡ d))
-      ⊎ ((length bytes ≤ 2 ^ 20) × ((c : Command Global) × IsImportOf fabric bytes c × Replies d token moment c a e))
+      ⊎ (¬ IsTooLarge bytes × ((c : Command Global) × IsImportOf fabric bytes c × Replies d token moment c a e))
 
   -- nobody has the token, and the desk is as it was; or somebody has it, and the bytes are imported
   abbrev pub ImportsAt : ProgramDesk S → List ℕ → ℕ → Fabric → List ℕ → Answer Global → ProgramDesk S → Type 0

@@ -26,9 +26,17 @@ IsUsed Measures = (size : Size) × Measures size × ¬ IsEmpty size
 
 -- ---- the bytes of a file
 
+-- how many bytes a file may have that the program reads whole
+abbrev pub most_file : ℕ
+most_file = 2 ^ 20
+
+-- there are more
+abbrev pub IsTooLarge : List ℕ → Type 0
+IsTooLarge bytes = most_file < length bytes
+
 -- the bytes that a reader gives, where it tells them: all of them, or the first, one more than a file may have
 abbrev pub HasFirst : Option (List ℕ) → List ℕ → Type 0
-HasFirst whole bytes = IfSome whole (λ all. bytes ≡ take (2 ^ 20 + 1) all)
+HasFirst whole bytes = IfSome whole (λ all. bytes ≡ take (most_file + 1) all)
 
 -- a read failed, by how many had failed before and have failed now; or there was no memory
 abbrev pub IsReadFault : (before after : ℕ) → Fault → Type 0
@@ -58,9 +66,9 @@ IsPolicyFrom text (Err fault) = (refusal : PolicyFault) × (fault ≡ fault_of_p
 
 -- there are too many bytes, or they are no text
 abbrev pub IsNoPolicyText : List ℕ → Type 0
-IsNoPolicyText bytes = (2 ^ 20 < length bytes) ⊎ ¬ IsUtf8 bytes
+IsNoPolicyText bytes = IsTooLarge bytes ⊎ ¬ IsUtf8 bytes
 
--- what the bytes of a file come to: at most 1048576 of them, which are text, spell a policy
+-- what the bytes of a file come to: no more of them than a file may have, which are text, spell a policy
 abbrev pub IsPolicyOf : List ℕ → Result PolicyRows Fault → Type 0
 IsPolicyOf bytes came = (IsNoPolicyText bytes × (came ≡ Err Policy)) ⊎ (¬ IsNoPolicyText bytes × IsPolicyFrom bytes came)
 

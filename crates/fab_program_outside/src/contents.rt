@@ -1,7 +1,7 @@
 //! What files contain.
-ghost use Rattle.std.specs.Prelude.{◌≡◌, ◌<◌, ◌↔◌, ◌^◌, IfOk, IsTrue, length, MatchResult};
+ghost use Rattle.std.specs.Prelude.{◌≡◌, ◌↔◌, IfOk, IsTrue, MatchResult};
 ghost use Rattle.fab_wire_streams.specs.Counting.{inner_of, failures_of};
-ghost use Rattle.fab_program_outside.specs.Contents.{HasContent, HasFirst, IsReadFault, IsUnread, IsPolicyAt, IsPolicyFrom, IsPolicyOf, fault_of_policy};
+ghost use Rattle.fab_program_outside.specs.Contents.{HasContent, HasFirst, IsReadFault, IsTooLarge, IsUnread, IsPolicyAt, IsPolicyFrom, IsPolicyOf, fault_of_policy};
 
 use crate::faults::Fault;
 use crate::files::Files;
@@ -73,7 +73,7 @@ fn unread(before: u64, after: u64) -> Fault
 
 /// Whether these are more bytes than a file may have.
 pub fn is_too_large(bytes: &[u8]) -> bool
-    ensures { IsTrue result ↔ (2 ^ 20 < length bytes.now) }
+    ensures { IsTrue result ↔ IsTooLarge bytes.now }
 {
     bytes.len() as u64 > MOST_FILE
 }

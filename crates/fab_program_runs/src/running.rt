@@ -57,32 +57,8 @@ pub fn run<N: FnMut() -> Option<u64>, R: Read + Drop, W: Write + Drop, E: Write>
     ensures asked { result < 2 → (w : Words) × Asks (map string_bytes words.now) w }
     ensures wrong { result ≡ 2 → (w : Words) → ¬ Asks (map string_bytes words.now) w }
 {
-    run_counted(rt, &Machine { rt }, words, now, reader, writer, errors)
-}
-
-/// Runs the program over any files, databases and addresses, and counts what standard error takes.
-fn run_counted<
-    O: Files + Databases + Addresses + Modes,
-    N: FnMut() -> Option<u64>,
-    R: Read + Drop,
-    W: Write + Drop,
-    E: Write,
->(
-    rt: &HostRuntime,
-    outside: &O,
-    words: &[String],
-    now: N,
-    reader: R,
-    writer: W,
-    errors: &mut E,
-) -> u8
-    requires { (state : N) → N.pre state }
-    ensures status { IsExitStatus result }
-    ensures asked { result < 2 → (w : Words) × Asks (map string_bytes words.now) w }
-    ensures wrong { result ≡ 2 → (w : Words) → ¬ Asks (map string_bytes words.now) w }
-{
     let mut errors = Counted::new(errors);
-    run_over(rt, outside, words, now, reader, writer, &mut errors)
+    run_over(rt, &Machine { rt }, words, now, reader, writer, &mut errors)
 }
 
 /// Runs the program over any files, databases and addresses.

@@ -1,5 +1,5 @@
 -- What a caller is told of an import or of a plan, and what is printed of it.
-use Rattle.std.specs.Prelude.{ℕ, ◌<◌, ◌≤◌, ◌^◌, ◌⊎◌, List, length, Bool, true, false, Option, Result}
+use Rattle.std.specs.Prelude.{ℕ, ◌⊎◌, List, Bool, true, false, Option, Result}
 use Rattle.std.specs.declared.vec.Vec.{Vec}
 use Rattle.std.specs.declared.alloc.Global.{Global}
 use Rattle.fab_desk_base.specs.Answers.{IsNobodys}
@@ -21,6 +21,7 @@ use Rattle.fab_files_tries.specs.fab_looks_tries.declared.plans.TriedPlan.{Tried
 use Rattle.fab_names.specs.declared.fabric.Fabric.{Fabric}
 use Rattle.fab_policy_base.specs.Callers.{HasToken}
 use Rattle.fab_policy_base.specs.Policies.{PolicyRows}
+use Rattle.fab_program_outside.specs.Contents.{IsTooLarge}
 use Rattle.fab_program_outside.specs.Printing.{Prints}
 use Rattle.fab_program_outside.specs.declared.faults.Fault.{Fault}
 use Rattle.fab_wire_answers.specs.declared.answers.Answer.{Answer}
@@ -64,8 +65,8 @@ module _ {W : Type 0} (contents : W → Option (List ℕ)) (w : WorldRows) (p : 
   -- memory, or the bytes list records, and it is told what their import would do
   abbrev pub TellsBytes : Fabric → List ℕ → Option ℕ → Bool → W → Result (W × End) Fault → Type 0
   TellsBytes f bytes most json writer came =
-      ((2 ^ 20 < length bytes) × Prints contents writer (json_line (unread_with no.TooLarge)) Refused came)
-      ⊎ ((length bytes ≤ 2 ^ 20) × (((line : ℕ) × IsFaultAt bytes line × Prints contents writer (json_line (unread_with (no.BadBody line))) Refused came)
+      (IsTooLarge bytes × Prints contents writer (json_line (unread_with no.TooLarge)) Refused came)
+      ⊎ (¬ IsTooLarge bytes × (((line : ℕ) × IsFaultAt bytes line × Prints contents writer (json_line (unread_with (no.BadBody line))) Refused came)
       ⊎ (Prints contents writer (json_line (refused_with refusal.Memory)) Refused came
       ⊎ ((rows : Vec PortRow Global) × ListsPorts bytes rows.items × TellsRows f rows most json writer came))))
 
