@@ -21,11 +21,6 @@ use Rattle.fab_inventory.specs.Inventories.{InventoryRows, no_rows, IsSound, Hav
 use Rattle.fab_inventory.specs.declared.holder.HolderKind.TheVariants as kind
 use Rattle.fab_inventory.proofs.NameTests.{same_name_tells, other_is, tie_tells}
 
--- a value at a key that is there, and at any key after an insertion
-kept_some : {X : Type 0} (b : Bool) (v : X) (o : Option X) → is_some o ≡ true → is_some (cond b (Some v) o) ≡ true
-kept_some true v o h = refl
-kept_some false v o h = h
-
 one_more_at_most : (b : Bool) (n most : ℕ) → n ≤ most → (b ≡ false → n < most) → cond b n (n + 1) ≤ most
 one_more_at_most true n most h room = h
 one_more_at_most false n most h room = let lt : n < most = room refl in omega arith

@@ -43,13 +43,6 @@ pub least_at : (gs : List StorageGroupRows) (host : List ℕ) (i j : ℕ) (a b :
 least_at gs host i j a b o first second = least_as nexus_cmp (MeetsTwo host a b) (MeetsAt gs host i j) o (λ n h. (a, b, first, second, h))
     (λ n w. subst (λ x. MeetsTwo host x b n) (same_group (sym w.2 ∙ first)) (subst (λ y. MeetsTwo host w.0 y n) (same_group (sym w.3 ∙ second)) w.4))
 
--- no storage group at a place
-pub none_at_first : (gs : List StorageGroupRows) (host : List ℕ) (i j : ℕ) → slice_get gs i ≡ None → IsLeastOf (MeetsAt gs host i j) None
-none_at_first gs host i j none n w = let e : ◌≡◌ {A = Option StorageGroupRows} None (Some w.0) = sym none ∙ w.2 in absurd cc
-
-pub none_at_second : (gs : List StorageGroupRows) (host : List ℕ) (i j : ℕ) → slice_get gs j ≡ None → IsLeastOf (MeetsAt gs host i j) None
-none_at_second gs host i j none n w = let e : ◌≡◌ {A = Option StorageGroupRows} None (Some w.1) = sym none ∙ w.3 in absurd cc
-
 -- a pair that gives one host none gives no host any
 pub fine_more : (gs : List StorageGroupRows) (old new : List Bool) (host : List ℕ) (i j : ℕ) (a b : StorageGroupRows) → slice_get gs i ≡ Some a → slice_get gs j ≡ Some b → ((n : Nexus) → ¬ MeetsTwo host a b n)
     → ((p q : ℕ) → IsKnown new p q → IsKnown old p q ⊎ ((p ≡ i) × (q ≡ j))) → AreFine gs old → AreFine gs new

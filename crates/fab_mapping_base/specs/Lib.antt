@@ -1,3 +1,4 @@
+pub mod Limits
 pub mod Groups
 pub mod Nexuses
 pub mod Clashes

@@ -1,5 +1,5 @@
 //! Where a host would meet two volumes: for each host the exposed storage groups that serve it, and
-//! of these each pair once.
+//! of these each pair, unless another host showed that it gives no host any.
 ghost use Rattle.std.specs.Prelude.{◌≡◌, ℕ, map, Some, true, IsTrue, ◌↔◌, IfOk, MatchOption};
 ghost use Rattle.std.specs.Option.{option_copied};
 ghost use Rattle.std.specs.List.{slice_get};

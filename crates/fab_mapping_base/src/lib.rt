@@ -9,6 +9,7 @@ mod fault;
 mod gone;
 mod host_group;
 mod known_pairs;
+pub mod laws;
 mod limits;
 mod look_ups;
 mod nexus;

@@ -6,7 +6,6 @@ use Rattle.fab_names.specs.WorldWideNames.{SpellsWwn, SpellsPrintedWwn}
 use Rattle.fab_names.specs.Addresses.{SpellsAddress, SpellsPrintedAddress}
 use Rattle.fab_names.specs.Places.{Position, SpellsPosition, SpellsPlace}
 use Rattle.fab_names.specs.Members.{SpellsMember, SpellsPrinted}
-use Rattle.fab_names.specs.Faults.{HasNoKind}
 use Rattle.fab_names.specs.declared.member.Member.{Member}
 use Rattle.fab_names.specs.declared.member.Member.TheVariants as member
 use Rattle.fab_names.proofs.Numerals.{not_in_number}
@@ -112,11 +111,3 @@ no_alias text rest is none (member.Node n) s = omega (arith, ap (λ (t : List �
 no_alias text rest is none (member.Place p) s = omega (arith, ap (λ (t : List ℕ). get_or t 0 0) (sym is ∙ s.1))
 no_alias text rest is none (member.Address x) s = omega (arith, ap (λ (t : List ℕ). get_or t 0 0) (sym is ∙ s.1))
 no_alias text rest is none (member.Alias a) s = let same : s.0 ≡ rest = ap (drop 6) (sym s.1 ∙ is) in none (subst IsNameText same s.2.1)
-
--- a text that begins with no kind is no member
-pub no_kind : (text : List ℕ) → HasNoKind text → (m : Member) → ¬ SpellsMember text m
-no_kind text none (member.Port n) s = (none s.0).0 s.1
-no_kind text none (member.Node n) s = (none s.0).1 s.1
-no_kind text none (member.Place p) s = (none s.0).2 s.1
-no_kind text none (member.Address x) s = (none s.0).3 s.1
-no_kind text none (member.Alias a) s = (none s.0).4 s.1

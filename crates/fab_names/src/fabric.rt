@@ -12,7 +12,9 @@ use std::fmt;
 /// One of the two fabrics, `A` before `B`.
 #[derive(Clone, Copy, Debug, PartialEq, Eq, PartialOrd, Ord)]
 pub enum Fabric {
+    /// Fabric A.
     A,
+    /// Fabric B.
     B,
 }
 

@@ -14,6 +14,7 @@ pub fn is_token(text: &[u8]) -> bool
     !text.is_empty() && text.len() <= MOST_TOKEN_BYTES && has_token_chars(text)
 }
 
+/// Whether a token may hold each of the characters.
 fn has_token_chars(text: &[u8]) -> bool
     ensures { result ≡ list_all is_token_char text.now }
 {

@@ -1,2 +1,1 @@
-pub mod Rebuilt
 pub use Rattle.fab_zoning.proofs as fab_zoning

@@ -5,5 +5,4 @@ pub mod Steps
 pub mod Actions
 pub mod Forms
 pub mod Plans
-pub mod Parts
 pub use Rattle.fab_zoning.specs as fab_zoning

@@ -1,6 +1,5 @@
-//! The steps of plans, as values: what each does, the first word of its lines, the limits of plan
-//! texts, and whether two lists of steps are the same, told without memory. Its definitions are the
-//! grammar that says which texts spell which steps.
+//! The steps of plans, as values: what each does, the first word of its lines, and the limits of plan
+//! texts. Its definitions are the grammar that says which texts spell which steps.
 #![tactic(auto)]
 
 mod keyword;
@@ -8,8 +7,6 @@ pub mod laws;
 mod limits;
 mod mapping_action;
 mod mapping_keyword;
-mod parts;
-mod same;
 mod step;
 mod zoning_action;
 mod zoning_keyword;
@@ -19,7 +16,6 @@ pub use keyword::Keyword;
 pub use limits::{LAST_UNIT, MOST_BYTES, MOST_ITEMS, MOST_STEPS};
 pub use mapping_action::MappingAction;
 pub use mapping_keyword::MappingKeyword;
-pub use same::are_same;
 pub use step::{Action, Step};
 pub use zoning_action::ZoningAction;
 pub use zoning_keyword::ZoningKeyword;

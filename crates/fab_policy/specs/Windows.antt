@@ -2,10 +2,10 @@
 use Rattle.std.specs.Prelude.{ℕ, ◌+◌, ◌/◌, ◌%◌, Bool, ◌&&◌, not, nat_le, nat_lt, List}
 use Rattle.std.specs.List.{list_any}
 use Rattle.fab_policy_base.specs.Callers.{is_same}
+use Rattle.fab_policy_base.specs.Limits.{week_minutes}
 use Rattle.fab_policy_base.specs.Policies.{WindowRow}
 use Rattle.fab_policy_base.specs.declared.policy.Freeze.{Freeze}
 use Rattle.fab_policy_base.specs.declared.policy.WeekSpan.{WeekSpan}
-use Rattle.fab_policy_base.specs.declared.policy.TheConstants.{WEEK_MINUTES}
 
 -- whether the number is at or after the first, and before the second
 abbrev pub spans : ℕ → ℕ → ℕ → Bool
@@ -13,7 +13,7 @@ spans from until number = nat_le from number && nat_lt number until
 
 -- minutes from Monday 00:00 UTC at a Unix second: the first one was Thursday 00:00, minute 4320
 abbrev pub week_minute : ℕ → ℕ
-week_minute moment = (moment / 60 + 4320) % WEEK_MINUTES
+week_minute moment = (moment / 60 + 4320) % week_minutes
 
 -- whether some part of the week holds the minute
 abbrev pub is_in_week : List WeekSpan → ℕ → Bool

@@ -5,7 +5,7 @@ use Rattle.std.proofs.lemmas.List.Elements.{All-nil, All-cons, All-same}
 use Rattle.toml.specs.Data.{Data, Items, no_items, item, Members, get_member, as_table}
 use Rattle.fab_names.specs.Tokens.{IsTokenText}
 use Rattle.fab_policy_base.specs.Forms.{IsName, IsToken, AreTenants, IsWeekSpan, IsFreeze, IsRuleName, AreActions, IsCount, QuorumIn}
-use Rattle.fab_policy_base.specs.Limits.{most_callers, most_windows, most_rules, most_roles, most_tenants, most_weekly, most_freezes, most_approvals}
+use Rattle.fab_policy_base.specs.Limits.{most_callers, most_windows, most_rules, most_roles, most_tenants, most_weekly, most_freezes, most_approvals, week_minutes}
 use Rattle.fab_policy_base.specs.Policies.{TenantNames, CallerRow, WindowRow, RuleRow, PolicyRows}
 use Rattle.fab_policy_base.specs.Shapes.{EachMeans, IsList, IsTable}
 use Rattle.fab_policy_base.specs.Sound.{IsCaller, IsWindow, IsRule, IsSound}
@@ -13,7 +13,6 @@ use Rattle.fab_policy_base.specs.Tables.{IsCallerTable, IsWindowTable, IsRuleTab
 use Rattle.fab_policy_base.specs.Words.{key_word}
 use Rattle.fab_policy_base.specs.declared.key.Key.TheVariants as key
 use Rattle.fab_policy_base.specs.declared.policy.Quorum.{Quorum}
-use Rattle.fab_policy_base.specs.declared.policy.TheConstants.{WEEK_MINUTES}
 
 -- what holds of all that values may mean holds of each of a list's elements
 each_all : {X : Type 0} (R : Data → X → Type 0) (P : X → Type 0) → ((d : Data) (x : X) → R d x → P x) → (ds : Items) (xs : List X) → EachMeans R ds xs → All P xs
@@ -53,8 +52,8 @@ caller ms c h = record {
 
 window : (ms : Members) (w : WindowRow) → IsWindowTable ms w → IsWindow w
 window ms w h =
-    let spans = there (IsList IsWeekSpan most_weekly) (AreFew (λ s. (s.from < s.until) × (s.until ≤ WEEK_MINUTES)) most_weekly)
-    (λ d xs k. record { all = each_all IsWeekSpan (λ s. (s.from < s.until) × (s.until ≤ WEEK_MINUTES)) (λ e s m. (m.0.before, m.1)) k.items xs k.each; few = k.short })
+    let spans = there (IsList IsWeekSpan most_weekly) (AreFew (λ s. (s.from < s.until) × (s.until ≤ week_minutes)) most_weekly)
+    (λ d xs k. record { all = each_all IsWeekSpan (λ s. (s.from < s.until) × (s.until ≤ week_minutes)) (λ e s m. (m.0.before, m.1)) k.items xs k.each; few = k.short })
     (get_member (key_word key.Weekly) ms) w.weekly h.weekly in
     let freezes = few IsFreeze (λ f. f.from < f.until) most_freezes (λ d f k. k.before) (get_member (key_word key.Freeze) ms) w.freeze h.freeze in
     record { few_weekly = spans.few; few_freezes = freezes.few; weekly = spans.all; freezes = freezes.all }

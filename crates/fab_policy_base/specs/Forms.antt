@@ -3,7 +3,7 @@ use Rattle.std.specs.Prelude.{◌≡◌, ℕ, ◌<◌, ◌≤◌, pos, Bool, fal
 use Rattle.fab_names.specs.Names.{IsNameText}
 use Rattle.fab_names.specs.Tokens.{IsTokenText}
 use Rattle.toml.specs.Data.{Data, Items, no_items, item, Members, get_member, as_str, as_integer, as_array, as_bool}
-use Rattle.fab_policy_base.specs.Limits.{most_tenants, most_approvals}
+use Rattle.fab_policy_base.specs.Limits.{most_tenants, most_approvals, week_minutes}
 use Rattle.fab_policy_base.specs.Policies.{TenantNames}
 use Rattle.fab_policy_base.specs.Shapes.{At, MaybeAt, EachMeans, IsList, IsWord, MeansNothing, FaultIn, ItemFault, ListFault, WordFault}
 use Rattle.fab_policy_base.specs.Words.{key_word, action_word}
@@ -15,7 +15,6 @@ use Rattle.fab_policy_base.specs.declared.policy.Action.{Action}
 use Rattle.fab_policy_base.specs.declared.policy.Freeze.{Freeze}
 use Rattle.fab_policy_base.specs.declared.policy.Quorum.{Quorum}
 use Rattle.fab_policy_base.specs.declared.policy.WeekSpan.{WeekSpan}
-use Rattle.fab_policy_base.specs.declared.policy.TheConstants.{WEEK_MINUTES}
 
 -- a text that is a name
 abbrev pub IsName : Data → List ℕ → Type 0
@@ -45,7 +44,7 @@ pub record IsSpan (d : Data) (from until : ℕ) : Type 0 where
 
 -- within the minutes of a week
 abbrev pub IsWeekSpan : Data → WeekSpan → Type 0
-IsWeekSpan d w = IsSpan d w.from w.until × (w.until ≤ WEEK_MINUTES)
+IsWeekSpan d w = IsSpan d w.from w.until × (w.until ≤ week_minutes)
 
 -- in seconds
 abbrev pub IsFreeze : Data → Freeze → Type 0

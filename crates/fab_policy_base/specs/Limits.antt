@@ -17,6 +17,10 @@ most_roles = 16
 abbrev pub most_tenants : ℕ
 most_tenants = 64
 
+-- how many minutes a week has
+abbrev pub week_minutes : ℕ
+week_minutes = 10080
+
 -- of a window
 abbrev pub most_weekly : ℕ
 most_weekly = 64

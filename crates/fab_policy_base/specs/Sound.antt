@@ -2,9 +2,8 @@
 use Rattle.std.specs.Prelude.{◌≡◌, ℕ, ◌<◌, ◌≤◌, true, List, [], length, map, Option, Some, IfSome, Contains, All, slice_get, codes}
 use Rattle.fab_names.specs.Tokens.{IsTokenText}
 use Rattle.fab_policy_base.specs.Callers.{has_name}
-use Rattle.fab_policy_base.specs.Limits.{most_callers, most_windows, most_rules, most_roles, most_tenants, most_weekly, most_freezes, most_approvals}
+use Rattle.fab_policy_base.specs.Limits.{most_callers, most_windows, most_rules, most_roles, most_tenants, most_weekly, most_freezes, most_approvals, week_minutes}
 use Rattle.fab_policy_base.specs.Policies.{CallerRow, WindowRow, RuleRow, PolicyRows}
-use Rattle.fab_policy_base.specs.declared.policy.TheConstants.{WEEK_MINUTES}
 
 -- the text at the place stands at an earlier place too
 pub record RepeatsAt (texts : List (List ℕ)) (place : ℕ) : Type 0 where
@@ -48,7 +47,7 @@ pub record IsCaller (c : CallerRow) : Type 0 where
 pub record IsWindow (w : WindowRow) : Type 0 where
   pub few_weekly : length w.weekly ≤ most_weekly
   pub few_freezes : length w.freeze ≤ most_freezes
-  pub weekly : All (λ s. (s.from < s.until) × (s.until ≤ WEEK_MINUTES)) w.weekly
+  pub weekly : All (λ s. (s.from < s.until) × (s.until ≤ week_minutes)) w.weekly
   pub freezes : All (λ f. f.from < f.until) w.freeze
 
 -- a rule that speaks of some action, and asks for at least one approval where it asks for any

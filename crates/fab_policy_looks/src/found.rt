@@ -4,6 +4,7 @@ use fab_names::Name;
 /// The need of a role.
 #[derive(Clone, Copy)]
 pub struct RoleNeed {
+    /// The role.
     pub role: Name,
     /// Whether the caller has it.
     pub is_met: bool,
@@ -12,6 +13,7 @@ pub struct RoleNeed {
 /// The need of a window.
 #[derive(Clone, Copy)]
 pub struct WindowNeed {
+    /// The name of the window.
     pub window: Name,
     /// Whether it is open.
     pub is_met: bool,
@@ -39,10 +41,14 @@ pub struct QuorumNeed {
 pub struct RuleFinding {
     /// Its number among the rules, from 1.
     pub number: usize,
+    /// Its name.
     pub name: Name,
+    /// The need of a role, where it has one.
     pub role: Option<RoleNeed>,
     /// Where each touched tenant is to be the caller's, whether it is.
     pub scope: Option<bool>,
+    /// The need of a window, where it has one.
     pub window: Option<WindowNeed>,
+    /// The need of approvals, where it has one.
     pub approvals: Option<QuorumNeed>,
 }

@@ -16,38 +16,55 @@ use std::alloc::{AllocError, Global};
 pub enum Warning {
     /// The rule is about a fabric, and no command of its actions names one, so that it is about none.
     Fabric {
+        /// The number of the rule, from 1.
         number: usize,
+        /// Its name.
         name: Name,
     },
     /// No caller has the role that the rule asks for.
     Role {
+        /// The number of the rule, from 1.
         number: usize,
+        /// Its name.
         name: Name,
+        /// The role that nobody has.
         role: Name,
     },
     /// The window that the rule asks for has no part of the week.
     Window {
+        /// The number of the rule, from 1.
         number: usize,
+        /// Its name.
         name: Name,
+        /// The window.
         window: Name,
     },
     /// The rule asks for approvals, and no command of its actions is about a plan.
     Plan {
+        /// The number of the rule, from 1.
         number: usize,
+        /// Its name.
         name: Name,
     },
     /// The rule asks for approvals of commands of the action, before which a plan has none: nobody may stage
     /// a plan, or give the first approval.
     Early {
+        /// The number of the rule, from 1.
         number: usize,
+        /// Its name.
         name: Name,
+        /// The action.
         action: Action,
     },
     /// The rule asks for approvals of so many callers, and there are `there` who may give one.
     Approvals {
+        /// The number of the rule, from 1.
         number: usize,
+        /// Its name.
         name: Name,
+        /// From how many callers they are asked for.
         asked: usize,
+        /// How many callers may give one.
         there: usize,
     },
     /// No rule is about the action, so that nobody may do it.

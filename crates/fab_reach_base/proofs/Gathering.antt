@@ -1,5 +1,5 @@
 -- Paths that are found pair by pair.
-use Rattle.std.proofs.Common.{◌≡◌, ◌<◌, ℕ, List, [], ◌∷◌, ◌++◌, length, true, false, cond, Contains, Option, None, Some, IsTrue, inl, inr, refl, sym, ap, ◌∙◌, subst}
+use Rattle.std.proofs.Common.{◌≡◌, ◌<◌, ℕ, List, [], length, true, false, cond, Contains, Option, None, Some, IsTrue, inl, inr, refl, sym, ap, ◌∙◌, subst}
 use mathlib.Core.Bool.{true≢false}
 use Rattle.std.specs.Ordering.{nat_cmp}
 use Rattle.std.specs.Cmp.{nat_cmp_total}
@@ -20,14 +20,14 @@ use Rattle.fab_mapping.proofs.fab_mapping_base.fab_lemmas.SeenSets.{listed_decid
 use Rattle.fab_mapping.specs.fab_mapping_base.fab_lemmas.MapsOfSets.{in_tree}
 use Rattle.fab_mapping.specs.fab_mapping_base.Groups.{StorageGroupRows}
 use Rattle.fab_mapping.specs.Mappings.{MappingRows}
-use Rattle.fab_reach_base.specs.Adding.{Adds, AddsOnly}
+use Rattle.fab_reach_base.specs.Adding.{Adds}
 use Rattle.fab_reach_base.specs.Records.{Records}
 use Rattle.fab_reach_base.specs.Orders.{path_cmp, Has, IsListOf}
 use Rattle.fab_reach_base.specs.Reach.{IsPort, IsInitiator, PathOf, Reaches}
 use Rattle.fab_reach_base.specs.Gathering.{Index, IsIndexOf, AreGroupsOf, MayMeet, UnitPath, GroupPath, HasTarget, IsTargeted, PathFrom, StopsAt}
 use Rattle.fab_reach_base.specs.Limits.{MoreThan, IsPathsFault}
 use Rattle.fab_reach_base.specs.PathOrder.{path_total, path_exact}
-use Rattle.fab_reach_base.proofs.Adding.{Before, adds_as, adds_none, from_none, only_as, before_stop}
+use Rattle.fab_reach_base.proofs.Adding.{Before, adds_as, adds_none, from_none}
 use Rattle.fab_mapping.proofs.fab_mapping_base.fab_lemmas.SeenEntries.{entry_decides}
 use Rattle.fab_reach_base.proofs.Sets.{adds_insert, none_in}
 use Rattle.fab_reach_base.proofs.Same.{same_some, same_fabric}
@@ -101,9 +101,6 @@ module _ (w : Records) (o : Option (BTreeSet (List ℕ))) (host : List ℕ) (are
         meets = subst (λ g. Rattle.fab_reach_base.specs.Reach.Meets w g p q host) (sym u.0) (record { from = initiator; to = meets.0; here = meets.1; joined = meets.2 });
         mapped = (n, h.0, h.1, ap (λ (g : StorageGroupRows). g.exposed) (sym same) ∙ s.2, (s.3.0, s.3.2.0, ap (λ (g : StorageGroupRows). set.contains g.host_groups s.3.0) (sym same) ∙ s.3.1, s.3.2.1, (s.3.2.2, subst (λ y. set.contains h.0.targets y ≡ true) (sym u.2) h.2, u.3)));
       }
-
-  pub no_meeting : (old : Path → Type 0) → ((f : Fabric) → ¬ MayMeet w p q f) → Adds (PathOf w p.name q.name) old old
-  no_meeting old none = adds_none (PathOf w p.name q.name) old (λ x h. none x.fabric (meets_in x h))
 
   pub not_served : (old : Path → Type 0) → o ≡ None → Adds (PathOf w p.name q.name) old old
   not_served old none = adds_none (PathOf w p.name q.name) old (λ x h. true≢false (sym (served_by x h).0 ∙ ap (λ g. in_tree name_cmp g h.mapped.0) none))
@@ -237,17 +234,6 @@ module _ (w : Records) where
   -- what the paths of one pair add
   pub pair_of : (p q : ℕ) (port : Port) (old new : Path → Type 0) → IsPort w q port → Adds (PathOf w p port.name) old new → Adds (PathOf w p q) old new
   pair_of p q port old new is a = subst (λ y. Adds (PathOf w p y) old new) (name_of q port is) a
-
-  pub from_of : (p : ℕ) (port : Port) (old new : Path → Type 0) → IsPort w p port → Adds (PathFrom w port.name) old new → Adds (PathFrom w p) old new
-  from_of p port old new is a = subst (λ y. Adds (PathFrom w y) old new) (name_of p port is) a
-
-  -- past the limit there are only paths of the world
-  pub stops_pair : (p : ℕ) (before : List ℕ) (q : ℕ) (port : Port) (s m t : BTreeSet Path) → IsPort w q port → Adds (Before (PathOf w p) before) (Has s) (Has m) → Adds (PathOf w p port.name) (Has m) (Has t) → AddsOnly (Reaches w) (Has s) (Has t)
-  stops_pair p before q port s m t is a b = only_as (Before (PathOf w p) (before ++ q ∷ [])) (Reaches w) (Has s) (Has t) (λ x h. reaches p h.0 x h.2) (before_stop (PathOf w p) before q (Has s) (Has m) (Has t) a (pair_of p q port (Has m) (Has t) is b).sound)
-
-  pub stops_port : (most : ℕ) (before : List (ℕ × Known)) (s m t : BTreeSet Path) (fault : PathsFault) → Adds (Before ByPort before) (Has s) (Has m) → StopsAt most (Reaches w) m t fault → StopsAt most (Reaches w) s t fault
-  stops_port most before s m t TooMany a b = ((λ x h. elim (b.0 x h) [ inl o ↦ elim (a.sound x o) [ inl k ↦ inl k | inr e ↦ inr (reaches_from e.0.0 x e.2) ] | inr r ↦ inr r ]), b.1, b.2)
-  stops_port most before s m t Memory a b = tt
 
   -- a set past the limit
   pub more_than : (most : ℕ) (s t : BTreeSet Path) (fault : PathsFault) → s.keys ≡ [] → StopsAt most (Reaches w) s t fault → IsPathsFault most (Reaches w) fault

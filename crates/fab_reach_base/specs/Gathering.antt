@@ -1,5 +1,5 @@
--- How paths are found, by the exposed storage groups of a host: what the private loops say of
--- themselves. No public contract names anything of this file.
+-- How paths are found: the exposed storage groups that serve a host, the targets that they have, and what
+-- the loops over them add.
 use Rattle.std.specs.Prelude.{ℕ, ◌≡◌, ◌↔◌, ◌<◌, List, length, Option, Some, true, IsTrue}
 use Rattle.std.specs.BTreeMap.{BTreeMap}
 use Rattle.std.specs.BTreeSet.{BTreeSet, IsOrdered, contains}

@@ -6,6 +6,10 @@ use Rattle.fab_reach_base.specs.declared.path.Path.{Path}
 use Rattle.fab_reach_base.specs.declared.listing.PathsFault.{PathsFault}
 use Rattle.fab_reach_base.specs.declared.listing.PathsFault.TheVariants.{TooMany, Memory}
 
+-- how many paths a world may have
+abbrev pub most_paths : ℕ
+most_paths = 65536
+
 -- more paths have P than these: a list of so many different ones
 pub record MoreThan (most : ℕ) (P : Path → Type 0) : Type 0 where
   pub some : List Path

@@ -5,6 +5,7 @@ use Rattle.std.specs.FinSet as set
 use Rattle.fab_mapping.specs.fab_mapping_base.fab_names.declared.fabric.Fabric.{Fabric}
 use Rattle.fab_mapping.specs.fab_mapping_base.fab_inventory.Holders.{holder_in}
 use Rattle.fab_mapping.specs.fab_mapping_base.fab_inventory.Inventories.{InventoryRows, IsHost, IsArray}
+use Rattle.fab_mapping.specs.fab_mapping_base.Fitting.{HasHosts}
 use Rattle.fab_mapping.specs.fab_mapping_base.Groups.{HostGroupRows, StorageGroupRows}
 use Rattle.fab_mapping.specs.Mappings.{MappingRows}
 use Rattle.fab_reach_base.specs.Records.{Records, zoning_at}
@@ -13,17 +14,13 @@ use Rattle.fab_reach_base.specs.Records.{Records, zoning_at}
 abbrev pub IsArrayPort : InventoryRows → ℕ → Type 0
 IsArrayPort v q = (array : List ℕ) × (holder_in (map.get v.ports) q ≡ Some array) × IsArray v.holders array
 
--- the hosts of the host group are hosts
-abbrev pub AreHosts : InventoryRows → HostGroupRows → Type 0
-AreHosts v k = (h : List ℕ) → set.contains k.hosts h ≡ true → IsHost v.holders h
-
 -- arrays hold the targets of the storage group
 abbrev pub AreTargets : InventoryRows → StorageGroupRows → Type 0
 AreTargets v g = (q : ℕ) → set.contains g.targets q ≡ true → IsArrayPort v q
 
 -- the hosts of all host groups are hosts
 abbrev pub HaveHosts : InventoryRows → MappingRows → Type 0
-HaveHosts v m = (n : List ℕ) (k : HostGroupRows) → map.get m.host_groups n ≡ Some k → AreHosts v k
+HaveHosts v m = (n : List ℕ) (k : HostGroupRows) → map.get m.host_groups n ≡ Some k → HasHosts v k
 
 -- arrays hold the targets of all storage groups
 abbrev pub HaveTargets : InventoryRows → MappingRows → Type 0

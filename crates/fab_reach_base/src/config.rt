@@ -12,8 +12,11 @@ use std::marker::Model;
 ///
 /// A contract sees it as a `ConfigRows`.
 pub struct Config<A: Allocator + Copy> {
+    /// The zoning of fabric A.
     pub a: Zoning<A>,
+    /// The zoning of fabric B.
     pub b: Zoning<A>,
+    /// The host groups and the storage groups, of both fabrics.
     pub mapping: Mapping<A>,
 }
 

@@ -1,5 +1,6 @@
 //! Laws of paths: a law is the contract of a function that does nothing.
 ghost use Rattle.std.specs.Prelude.{◌≡◌, ◌↔◌, ◌⊎◌, ℕ, List, All, IsTrue};
+ghost use Rattle.fab_reach_base.specs.Limits.{most_paths};
 ghost use Rattle.fab_reach_base.specs.Records.{Records};
 ghost use Rattle.fab_reach_base.specs.Orders.{path_cmp, path_order, IsListOf};
 ghost use Rattle.fab_reach_base.specs.Reach.{AreJoined, IsOffered, Reaches, ReachesFrom};
@@ -8,8 +9,13 @@ ghost use Rattle.fab_reach_base.specs.Views.{seen};
 ghost use Rattle.fab_reach_base.specs.Serving.{IsServing};
 ghost use Rattle.fab_reach_base.specs.Soundness.{IsSoundBeside};
 
-use crate::View;
+use crate::{MOST_PATHS, View};
 use std::alloc::Allocator;
+
+/// The constant is the limit that the definitions tell.
+pub fn constants_are_the_limits()
+    ensures { MOST_PATHS ≡ most_paths }
+{}
 
 /// Paths are ordered by fabric, initiator, target, volume, unit.
 pub fn paths_in_order()

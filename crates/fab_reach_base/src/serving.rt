@@ -1,13 +1,13 @@
 //! Whether a world is one that a book may stand at.
 ghost use Rattle.std.specs.Prelude.{◌≡◌, ◌↔◌, IsTrue};
 ghost use Rattle.fab_reach_base.specs.Records.{zoning_at};
-ghost use Rattle.fab_reach_base.specs.Serving.{IsArrayPort, AreHosts, AreTargets, HaveHosts, HaveTargets};
+ghost use Rattle.fab_reach_base.specs.Serving.{IsArrayPort, AreTargets, HaveHosts, HaveTargets};
 
 use crate::Config;
 use fab_mapping::base::inventory::Inventory;
 use fab_mapping::base::names::{Fabric, Wwn};
-use fab_mapping::base::{is_array, is_host};
-use fab_mapping::{HostGroup, Mapping, StorageGroup};
+use fab_mapping::base::{host_group_fits, is_array};
+use fab_mapping::{Mapping, StorageGroup};
 use std::alloc::Allocator;
 
 /// Whether an array holds the port of this name.
@@ -21,18 +21,6 @@ fn is_array_port<A: Allocator + Copy>(inventory: &Inventory<A>, name: &Wwn) -> b
         Some(holder) => is_array(inventory, &holder),
         None => false,
     }
-}
-
-/// Whether the hosts of a host group are hosts.
-fn are_hosts<A: Allocator + Copy>(inventory: &Inventory<A>, group: &HostGroup<A>) -> bool
-    ensures { IsTrue result ↔ AreHosts inventory.now group.now }
-{
-    for host in group.hosts() {
-        if !is_host(inventory, host) {
-            return false;
-        }
-    }
-    true
 }
 
 /// Whether arrays hold the targets of a storage group.
@@ -52,7 +40,7 @@ pub fn have_hosts<A: Allocator + Copy>(inventory: &Inventory<A>, mapping: &Mappi
     ensures { IsTrue result ↔ HaveHosts inventory.now mapping.now }
 {
     for (_name, group) in mapping.host_groups() {
-        if !are_hosts(inventory, group) {
+        if !host_group_fits(inventory, group) {
             return false;
         }
     }

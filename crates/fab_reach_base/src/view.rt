@@ -12,7 +12,9 @@ use std::alloc::Allocator;
 /// What reachability is a matter of: the inventory and the configuration.
 #[derive(Clone, Copy)]
 pub struct View<'a, A: Allocator + Copy> {
+    /// What is known: ports, hosts, arrays and volumes.
     pub inventory: &'a Inventory<A>,
+    /// The zoning of both fabrics, and the mapping.
     pub config: &'a Config<A>,
 }
 

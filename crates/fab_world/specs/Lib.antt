@@ -1,3 +1,4 @@
+pub mod Limits
 pub mod PlanRecords
 pub mod Codes
 pub mod Plans

@@ -5,6 +5,7 @@
 mod any_plan;
 mod history;
 mod kept;
+pub mod laws;
 mod limits;
 mod present;
 mod sound;

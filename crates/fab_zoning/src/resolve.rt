@@ -22,7 +22,7 @@ fn add_row<A: Allocator + Copy>(
     ensures ok { OnOk result (AddsAll (λ row. row ≡ (zone, member)) rows.old rows.new) }
     ensures err { IfErr result (StopsAt (λ row. row ≡ (zone, member)) rows.old rows.new) }
 {
-    rows.insert(zone, member)?;
+    rows.put(zone, member)?;
     if rows.count() > MOST_ROWS {
         return Err(ZoningFault::Limit(ZoningLimit::Active));
     }

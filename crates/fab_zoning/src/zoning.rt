@@ -156,7 +156,7 @@ fn rows_of<A: Allocator + Copy>(
 {
     let mut rows = ActiveRows::new(alloc);
     for (zone, member) in listed {
-        rows.insert(*zone, *member)?;
+        rows.put(*zone, *member)?;
     }
     Ok(rows)
 }
@@ -615,7 +615,8 @@ impl<A: Allocator + Copy> Zoning<A> {
     }
 
     /// The zones of the active set that have the port, wherever it is logged in: those with its
-    /// N_Port_Name, those with its Node_Name and those with its place. It takes no memory.
+    /// N_Port_Name, those with its Node_Name, those with its place and those with its N_Port_ID. It takes
+    /// no memory.
     pub fn zones_of(&self, port: &Port) -> PortZones<'_, A>
         ensures { (z : List ℕ) → (in_zones result z ≡ true) ↔ Holds self.now.rows port.now z }
     {

@@ -225,21 +225,6 @@ impl<A: Allocator + Copy> ActiveRows<A> {
     ///
     /// # Errors
     /// `AllocError` where there is no memory. The rows are then as they were.
-    pub fn insert(&mut self, zone: Name, member: Member) -> Result<(), AllocError>
-        requires { set.len self.old ≤ most_rows }
-        ensures ok { OnOk result (self.new ≡ set.insert self.old (zone, member)) }
-        ensures err { OnErr result (self.new ≡ self.old) }
-    {
-        if add_zone(self.alloc, &mut self.zones_by_member, member, zone)? {
-            self.count += 1;
-        }
-        Ok(())
-    }
-
-    /// Adds a row, if it is not there, however many there are.
-    ///
-    /// # Errors
-    /// `AllocError` where there is no memory. The rows are then as they were.
     pub fn put(&mut self, zone: Name, member: Member) -> Result<(), AllocError>
         ensures ok { OnOk result (self.new ≡ set.insert self.old (zone, member)) }
         ensures err { OnErr result (self.new ≡ self.old) }

@@ -14,6 +14,6 @@ loop-zone-preserved g c =
     let i = c.loop-zone.zone-index in
     let r : Row = c.loop-zone-item.result in
     let more : take (i + 1) xs ≡ take i xs ++ r ∷ [] = take_more xs i r c.loop-zone-test.true ∙ ap (λ (x : Row). take i xs ++ x ∷ []) (sym c.loop-zone-item.is) in (
-      c.in_ok-insert.ensures.ok ∙ ap (λ (s : Rows). set.insert s r) c.loop-zone.invariant.0 ∙ sym (ap (λ (ys : List Row). set.from_list {R = row_cmp} ys) more ∙ set.from_list_push row_total row_exact (take i xs) r),
-      grows_by_one c.loop-zone.rows c.insert.new.self r i c.in_ok-insert.ensures.ok c.loop-zone.invariant.1,
+      c.in_ok-put.ensures.ok ∙ ap (λ (s : Rows). set.insert s r) c.loop-zone.invariant.0 ∙ sym (ap (λ (ys : List Row). set.from_list {R = row_cmp} ys) more ∙ set.from_list_push row_total row_exact (take i xs) r),
+      grows_by_one c.loop-zone.rows c.put.new.self r i c.in_ok-put.ensures.ok c.loop-zone.invariant.1,
     )
