@@ -60,6 +60,7 @@ impl<A: Allocator + Copy, S: Store<A>, B: PathBook<A>> Desk<A, S, B> {
         ensures policy { IfOk result (λ desk. desk.policy ≡ policy) }
         ensures opened { IfOk result (λ desk. IsOpened S.Store store desk.store desk.ledger.world) }
         ensures unasked { IfOk result (λ desk. desk.ledger.asked ≡ 0) }
+        ensures aside { IfOk result (λ desk. desk.aside ≡ None) }
         ensures fault { IfErr result (λ e. IsUnopened S.Store store e.0 e.1) }
     {
         let mut store = store;
@@ -76,7 +77,8 @@ impl<A: Allocator + Copy, S: Store<A>, B: PathBook<A>> Desk<A, S, B> {
     }
 
     /// Opens a halted desk again, over another store or the same one opened anew: its world is the
-    /// one that the tables have. It has asked about no pair since.
+    /// one that the tables have. It has asked about no pair since. A store that refused a change and was
+    /// not released is let go of.
     ///
     /// # Errors
     /// As for `open`: the desk stays halted, with the world that it had.
@@ -85,6 +87,7 @@ impl<A: Allocator + Copy, S: Store<A>, B: PathBook<A>> Desk<A, S, B> {
         ensures policy { self.new.policy ≡ self.old.policy }
         ensures opened { OnOk result (IsOpened S.Store store self.new.store self.new.ledger.world) }
         ensures unasked { OnOk result (self.new.ledger.asked ≡ 0) }
+        ensures aside { OnOk result (self.new.aside ≡ None) }
         ensures fault { IfErr result (λ e. IsUnopened S.Store store e.0 e.1) }
         ensures kept { OnErr result (self.new ≡ self.old) }
     {

@@ -1,75 +1,72 @@
 //! The world that the tables of a database have.
-ghost use Rattle.std.specs.Prelude.{◌≡◌, ◌↔◌, ◌<◌, ◌≤◌, ℕ, false, Err, IfOk, IfErr, IfSome, MatchOption, OnOk, IsTrue};
+ghost use Rattle.std.specs.Prelude.{◌≡◌, ◌↔◌, ◌<◌, ℕ, false, Err, IfOk, IfErr, MatchOption, OnOk, IsTrue};
 ghost use Rattle.sqlite.specs.Held.{state};
 ghost use Rattle.sqlite.specs.State.{HasCleanDisk};
 ghost use Rattle.fab_store_base.specs.Opened as opened;
 ghost use Rattle.fab_store_rows.specs.declared.table_rows.TheConstants.{SCHEMA};
 ghost use Rattle.fab_store_sql.specs.States.{IsDesk};
 ghost use Rattle.fab_store_schema.specs.Trees.{tables_of};
-ghost use Rattle.fab_store_base.specs.Calls.{OpensNot};
+ghost use Rattle.fab_store_base.specs.Calls.{IsOtherSchema, OpensNot};
 ghost use Rattle.fab_store_base.specs.Worlds.{HoldsWorld, IsWritten};
 ghost use Rattle.fab_store_base.specs.declared.faults.OpenFault.TheVariants as faults;
 ghost use Rattle.fab_world.specs.Soundness.{IsSound};
-ghost use Rattle.fab_store_tables.specs.Versions.{TellSchema};
-ghost use Rattle.fab_store.specs.Loading.{HaveNamesOnce, TellsNewer, TellNewer};
+ghost use Rattle.fab_store.specs.Loading.{HaveNamesOnce, TellsOther, TellOther};
 ghost use Rattle.fab_store.specs.Reads.{OnlyReads, SeesSame};
 
 use crate::naming::open_tables;
 use crate::reading::read_tables;
 use fab_store_base::{OpenFault, TableLines, world_of_lines};
-use fab_store_columns::{MetaLine, MetaRow, PlanLine};
+use fab_store_columns::{MetaLine, PlanLine};
 use fab_store_load::LoadFault;
 use fab_store_migration::has_old_schema;
 use fab_store_rows::SCHEMA;
 use fab_store_sql::ReadFault;
-use fab_store_tables::schema_told;
+use fab_store_tables::schema_in;
 use fab_world::World;
 use sqlite::{Alter, Connection};
 use std::alloc::{AllocError, Allocator, Global};
 use std::collections::BTreeSet;
 
-/// The schema, if it is newer.
-fn newer(schema: u64) -> Option<u64>
-    ensures { MatchOption result (schema ≤ SCHEMA) (λ n. (n ≡ schema) × (SCHEMA < n)) }
+/// The schema, if it is another than this one and ever was.
+fn other(schema: u64) -> Option<u64>
+    ensures { MatchOption result (¬ IsOtherSchema schema) (λ n. (n ≡ schema) × IsOtherSchema n) }
 {
-    (schema > SCHEMA).then_some(schema)
+    (schema != 0 && schema != SCHEMA).then_some(schema)
 }
 
-/// The schema that a setting tells, if it is newer.
-fn newer_in(line: &MetaLine<Global>) -> Option<u64>
-    ensures { MatchOption result ((n : ℕ) → ¬ TellsNewer line.now n) (TellsNewer line.now) }
+/// The other schema that a setting tells.
+fn other_in(line: &MetaLine<Global>) -> Option<u64>
+    ensures { MatchOption result ((n : ℕ) → ¬ TellsOther line.now n) (TellsOther line.now) }
 {
-    match line.read() {
-        Some(MetaRow::Schema(schema)) => newer(schema),
-        Some(MetaRow::Revision(_)) => None,
-        Some(MetaRow::Setting(_)) => None,
+    match schema_in(line) {
+        Some(schema) => other(schema),
         None => None,
     }
 }
 
-/// The newer schema that one of the settings tells.
-fn newer_schema(lines: &[MetaLine<Global>]) -> Option<u64>
-    ensures { MatchOption result ((n : ℕ) → ¬ TellNewer lines.now n) (TellNewer lines.now) }
+/// The other schema that one of the settings tells.
+fn other_schema(lines: &[MetaLine<Global>]) -> Option<u64>
+    ensures { MatchOption result ((n : ℕ) → ¬ TellOther lines.now n) (TellOther lines.now) }
 {
     for line in lines {
-        if let Some(schema) = newer_in(line) {
+        if let Some(schema) = other_in(line) {
             return Some(schema);
         }
     }
     None
 }
 
-/// The older schema that one of the settings tells.
-fn older_schema(lines: &[MetaLine<Global>]) -> Option<u64>
-    ensures { IfSome result (λ n. TellSchema lines.now n × (n < SCHEMA)) }
+/// Why tables that tell another schema are not opened.
+fn schema_fault(schema: u64) -> OpenFault
+    requires { IsOtherSchema schema }
+    ensures newer { SCHEMA < schema → result ≡ faults.NewerSchema schema }
+    ensures older { schema < SCHEMA → result ≡ faults.OldSchema schema }
 {
-    let Some(schema) = schema_told(lines) else {
-        return None;
-    };
-    if schema == 0 || schema >= SCHEMA {
-        return None;
+    if schema > SCHEMA {
+        OpenFault::NewerSchema(schema)
+    } else {
+        OpenFault::OldSchema(schema)
     }
-    Some(schema)
 }
 
 /// Whether no two lines have one name.
@@ -100,11 +97,8 @@ pub(crate) fn open_lines<A: Allocator + Copy>(
     ensures fault { IfErr result (OpensNot (opened.tables_of lines.now)) }
     ensures twice { result ≡ Err faults.Store → ¬ HaveNamesOnce lines.now.plans.items }
 {
-    if let Some(schema) = newer_schema(lines.meta.as_slice()) {
-        return Err(OpenFault::NewerSchema(schema));
-    }
-    if let Some(schema) = older_schema(lines.meta.as_slice()) {
-        return Err(OpenFault::OldSchema(schema));
+    if let Some(schema) = other_schema(lines.meta.as_slice()) {
+        return Err(schema_fault(schema));
     }
     match world_of_lines(alloc, lines) {
         Ok(world) => Ok(world),

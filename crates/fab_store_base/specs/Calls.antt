@@ -1,5 +1,5 @@
 -- What a call of a store tells where it gives nothing.
-use Rattle.std.specs.Prelude.{◌≡◌, ◌⊎◌, ◌<◌, ◌≤◌, ◌+◌, ◌^◌, ◌-◌, min, ℕ}
+use Rattle.std.specs.Prelude.{◌≡◌, ◌≢◌, ◌⊎◌, ◌<◌, ◌+◌, ◌^◌, ◌-◌, min, ℕ}
 use Rattle.fab_store_world.specs.Standing.{HaveRows}
 use Rattle.fab_store_rows.specs.declared.table_rows.TheConstants.{SCHEMA}
 use Rattle.fab_store_load.specs.declared.fault.Table.TheVariants.{Meta}
@@ -9,7 +9,7 @@ use Rattle.fab_world.specs.Soundness.{IsSound}
 use Rattle.fab_world.specs.Worlds.{WorldRows}
 use Rattle.fab_store_base.specs.declared.faults.OpenFault.{OpenFault}
 use Rattle.fab_store_base.specs.declared.faults.OpenFault.TheVariants.{Damaged, NewerSchema, OldSchema, Store, Memory}
-use Rattle.fab_store_base.specs.Worlds.{HoldsWorld, TellsSchema, IsWritten}
+use Rattle.fab_store_base.specs.Worlds.{HoldsWorld, IsWritten}
 
 -- the count of refused calls rises by one; at its greatest value it stays
 abbrev pub Rises : ℕ → ℕ → Type 0
@@ -20,15 +20,15 @@ abbrev pub IsCounted : ℕ → ℕ → OpenFault → Type 0
 IsCounted old new Store = Rises old new
 IsCounted old new _ = new ≡ old
 
--- no setting tells a newer schema
-abbrev pub TellsNoNewer : Tables → Type 0
-TellsNoNewer t = (n : ℕ) → TellsSchema t n → n ≤ SCHEMA
+-- a schema that is not this one; there never was a schema 0
+abbrev pub IsOtherSchema : ℕ → Type 0
+IsOtherSchema n = (n ≢ 0) × (n ≢ SCHEMA)
 
--- no newer schema is told, and no sound world whose rows are all written in lines has the rows; or a
+-- no other schema is told, and no sound world whose rows are all written in lines has the rows; or a
 -- newer schema is told, or an older one
 abbrev pub OpensNot : Tables → OpenFault → Type 0
-OpensNot t (Damaged table) = TellsNoNewer t × ((w : WorldRows) → IsWritten w → HaveRows w → HoldsWorld t w → ¬ IsSound w)
-OpensNot t (NewerSchema n) = TellsSchema t n × (SCHEMA < n)
+OpensNot t (Damaged table) = ((n : ℕ) → TellsVersion t n → ¬ IsOtherSchema n) × ((w : WorldRows) → IsWritten w → HaveRows w → HoldsWorld t w → ¬ IsSound w)
+OpensNot t (NewerSchema n) = TellsVersion t n × (SCHEMA < n)
 OpensNot t (OldSchema n) = TellsVersion t n × (n < SCHEMA)
 OpensNot t Store = Unit {0}
 OpensNot t Memory = Unit {0}

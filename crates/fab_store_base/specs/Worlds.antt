@@ -57,10 +57,6 @@ StandsIn w table.Paths = IsShown path_row ShowsPath (IsRowOfPath w)
 abbrev pub HoldsWorld : Tables → WorldRows → Type 0
 HoldsWorld tables w = (t : Table) (columns : Row) → Contains (tables t) columns ↔ StandsIn w t columns
 
--- a setting tells this schema
-abbrev pub TellsSchema : Tables → ℕ → Type 0
-TellsSchema tables n = (columns : Row) × Contains (tables table.Meta) columns × IsShown meta_row ShowsMeta (λ r. r ≡ meta.Schema n) columns
-
 -- the table of paths has the path of this host
 abbrev pub HasPathOf : Tables → List ℕ → Path → Type 0
 HasPathOf tables host x = (columns : Row) × Contains (tables table.Paths) columns × IsShown path_row ShowsPath (λ (r : PathRow). (r.host ≡ host) × (r.path ≡ x)) columns

@@ -110,6 +110,7 @@ fn is_blank<S: Alter>(conn: &Connection<S>) -> bool
 /// database is as it was, if the connection is still open.
 pub fn init<S: Alter>(conn: &mut Connection<S>, alloc: Global) -> Result<(), Error>
     ensures outside { conn.old.in_transaction ≡ false → conn.new.in_transaction ≡ false }
+    ensures fresh { OnOk result (IsBlank (state S.Store conn.old)) }
     ensures done { HasCleanDisk (state S.Store conn.new) → OnOk result (IsTrue (state S.Store conn.new).is_open × IsReady (state S.Store conn.new) × IsNewDesk (tables_of (state S.Store conn.new).now.trees)) }
     ensures failed { HasCleanDisk (state S.Store conn.new) → OnErr result (Stays (state S.Store conn.old) (state S.Store conn.new)) }
     ensures crash { Survives (state S.Store conn.old) (state S.Store conn.new) (λ trees. IsNewDesk (tables_of trees)) }

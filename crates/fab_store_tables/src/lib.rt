@@ -28,4 +28,4 @@ pub use reading::rows_of_lines;
 pub use row::Row;
 pub use stored_line::TableLine;
 pub use undo_line::UndoLine;
-pub use versions::{MOST_SCHEMA, schema_told};
+pub use versions::{MOST_SCHEMA, schema_in, schema_told};

@@ -20,8 +20,8 @@ fn schema_at(key: &str, value: &str) -> Option<u64>
     }
 }
 
-/// The schema that a setting tells, if it tells one.
-fn schema_in(line: &MetaLine<Global>) -> Option<u64>
+/// The schema that a setting tells, if it tells one. It takes no memory.
+pub fn schema_in(line: &MetaLine<Global>) -> Option<u64>
     ensures { MatchOption result ((n : ℕ) → ¬ TellsSchema line.now n) (TellsSchema line.now) }
 {
     schema_at(line.key.as_str(), line.value.as_str())
