@@ -37,7 +37,6 @@ use Rattle.fab_desk_commands.specs.Nexts.{all_but_last, next_world, turned_at, w
 use Rattle.fab_desk_commands.specs.declared.next.Next.{Next}
 use Rattle.fab_desk_commands.specs.declared.next.Next.TheVariants.{Same, Stock, Staged, Turned, Reconfigured}
 use Rattle.fab_desk_commands.specs.declared.next.Turn.TheVariants.{Withdrawn, Approved, Activated, RolledBack}
-use Rattle.fab_desk_commands.specs.Kinds.{IsReconfiguration}
 use Rattle.fab_desk_commands.specs.Trials.{HasEarlier, IsBeforePlan, IsRollback, IsRestoreFault, IsSoundAfter}
 use Rattle.fab_desk_commands.proofs.Activations.{placed}
 use Rattle.fab_desk_commands.proofs.PlanChecks.{rollback_passes, gone_refused}
@@ -187,16 +186,6 @@ rolled_world {A} w n c rest last (Reconfigured config m (RolledBack d)) h p is =
     (λ i. placed (h.0 i) (all_but_last (last i)) (turned_at (h.1 i) (RolledBack d) w))
     ∙ ap (λ (order : List (List ℕ)). placed c order (turned_at {A = A} n (RolledBack d) w)) (without_last rest n)
     ∙ ap (λ o. placed c rest (with_turn n (RolledBack d) o w)) is
-
-pub is_reconfiguration : {A : Type 0} (w : WorldRows) (n : List ℕ) (c : ConfigRows) (next : Next A) → IsRollback w n c next → IsReconfiguration n next
-is_reconfiguration w n c Same h = absurd h
-is_reconfiguration w n c (Stock v d) h = absurd h
-is_reconfiguration w n c (Staged m q) h = absurd h
-is_reconfiguration w n c (Turned m t) h = absurd h
-is_reconfiguration w n c (Reconfigured config m Withdrawn) h = absurd h
-is_reconfiguration w n c (Reconfigured config m (Approved given)) h = absurd h
-is_reconfiguration w n c (Reconfigured config m (Activated d)) h = absurd h
-is_reconfiguration w n c (Reconfigured config m (RolledBack d)) h = h.1
 
 -- it tells what it changed
 pub rollback_tells : {A : Type 0} (w : WorldRows) (n : List ℕ) (c : ConfigRows) (next : Next A) → IsRollback w n c next → TellsRows w next

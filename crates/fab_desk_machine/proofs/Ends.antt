@@ -1,5 +1,5 @@
 -- What a command comes to.
-use Rattle.std.proofs.Common.{ℕ, ◌≡◌, ◌⊎◌, inl, inr, List, cond, slice_get, Option, None, Some, IsSome, MatchOption, refl, sym, ap, ◌∙◌, subst}
+use Rattle.std.proofs.Common.{ℕ, ◌≡◌, inl, inr, List, cond, slice_get, Option, None, Some, IsSome, MatchOption, refl, sym, ap, ◌∙◌, subst}
 use mathlib.Core.Bool.{true≢false}
 use Rattle.std.proofs.lemmas.Option.{same_Some, none-some}
 use Rattle.std.specs.Cmp.{tied_itself}
@@ -20,13 +20,10 @@ use Rattle.fab_desk_trials.specs.fab_desk_commands.declared.next.Next.{Next}
 use Rattle.fab_desk_base.specs.Acts.{IsJudged}
 use Rattle.fab_desk_base.specs.Answers.{IsMove, IsReport, IsLeft, IsCarriedOut, IsOutcomeFor, IsAnswerTo, IsThere, HasPlan, IsStep}
 use Rattle.fab_desk_base.specs.Commands.{action_of, plan_of, IsGiven, IsStaging}
-use Rattle.fab_desk_base.specs.Refusals.{IsEffect, IsFirstFault}
-use Rattle.fab_desk_base.specs.Trying.{IsTryFault}
+use Rattle.fab_desk_base.specs.Refusals.{IsEffect}
 use Rattle.fab_desk_base.specs.declared.command.Command.{Command}
 use Rattle.fab_desk_base.specs.declared.command.Command.TheVariants.{Import, PutHolder, PutVolume, DropHolder, DropVolume, Stage, Withdraw, Approve, DryRun, Activate, Rollback, Show}
 use Rattle.fab_desk_base.specs.declared.command.Query.{Query}
-use Rattle.fab_desk_base.specs.declared.fault.DeskFault.{DeskFault}
-use Rattle.fab_desk_base.specs.declared.fault.DeskFault.TheVariants as fault
 use Rattle.fab_desk_base.specs.declared.reply.Reply.{Reply}
 use Rattle.fab_desk_base.specs.declared.reply.Reply.TheVariants as reply
 use Rattle.fab_desk_machine.specs.Proposals.{IsChangeFor, IsProposalFor, IsEffectOf, IsEnd, IsSenderOf, query_in, request_of}
@@ -39,28 +36,6 @@ use Rattle.fab_desk_machine.specs.declared.proposing.Proposal.{Proposal}
 use Rattle.fab_desk_machine.specs.declared.proposing.Proposal.TheVariants.{Answer, Ready}
 use Rattle.fab_desk_machine.specs.declared.report.Report.{Report}
 use Rattle.fab_desk_machine.specs.declared.verdicts.Sender.{Sender}
-
--- ---- faults
-
--- a fault of a trial that is not want of memory is the first refusal
-pub refused_or_memory : {A : Type 0} (w : WorldRows) (caller : List ℕ) (c : Command A) (q : DeskFault) → IsTryFault w caller c q → (q ≡ fault.Memory) ⊎ IsFirstFault w caller c q
-refused_or_memory w caller c fault.NoCaller h = inr h
-refused_or_memory w caller c (fault.BadBody line) h = inr h
-refused_or_memory w caller c (fault.Denied rule name need) h = inr h
-refused_or_memory w caller c fault.NotFound h = inr h
-refused_or_memory w caller c (fault.Exists n) h = inr h
-refused_or_memory w caller c (fault.InUse item by) h = inr h
-refused_or_memory w caller c (fault.Unknown item) h = inr h
-refused_or_memory w caller c (fault.Limit limit) h = inr h
-refused_or_memory w caller c (fault.WrongState s) h = inr h
-refused_or_memory w caller c (fault.NotLast n) h = inr h
-refused_or_memory w caller c (fault.Gone g) h = inr h
-refused_or_memory w caller c fault.OwnPlan h = inr h
-refused_or_memory w caller c (fault.PortClash q) h = inr h
-refused_or_memory w caller c (fault.Plan step refusal) h = inr h
-refused_or_memory w caller c fault.Memory h = inl refl
-refused_or_memory w caller c fault.Store h = inr h
-refused_or_memory w caller c fault.Halted h = inr h
 
 -- ---- which command
 

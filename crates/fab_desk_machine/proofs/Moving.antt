@@ -6,23 +6,17 @@ use Rattle.fab_reach_base.proofs.Sets.{none_in}
 use Rattle.fab_reach_base.specs.Records.{Records}
 use Rattle.fab_world.specs.Worlds.{WorldRows, records_of}
 use Rattle.fab_desk_base.specs.Commands.{tried}
-use Rattle.fab_desk_base.specs.Refusals.{IsFirstFault}
 use Rattle.fab_desk_base.specs.Tenants.{Has}
 use Rattle.fab_desk_base.specs.Touching.{MovesTenant, MovesPathOf}
 use Rattle.fab_desk_base.specs.declared.command.Command.{Command}
-use Rattle.fab_desk_base.specs.declared.fault.DeskFault.{DeskFault}
 use Rattle.fab_desk_base.proofs.Confined.{still}
-use Rattle.fab_desk_base.proofs.Tried.{done_not_refused, one_done}
+use Rattle.fab_desk_base.proofs.Tried.{one_done}
 use Rattle.fab_desk_trials.specs.Trials.{effect_world, HasEffect}
 use Rattle.fab_desk_trials.specs.declared.effects.Effect.{Effect}
 
 -- an empty set has just the tenants of which there is none
 pub has_none : (s : BTreeSet (List ℕ)) (P : List ℕ → Type 0) → s.keys ≡ [] → ((t : List ℕ) → ¬ P t) → (t : List ℕ) → Has s t ↔ P t
 has_none s P empty none t = ((λ h. absurd (none_in name_total name_exact s empty t h)), λ p. absurd (none t p))
-
--- a refused command moves nothing
-pub refused_moves_none : {A : Type 0} (w : WorldRows) (caller : List ℕ) (c : Command A) (q : DeskFault) → IsFirstFault w caller (tried c) q → (t : List ℕ) → ¬ MovesTenant w caller c t
-refused_moves_none w caller c q refused t (new, is, moves) = done_not_refused w caller (tried c) new q is refused
 
 module _ {A : Type 0} (w : WorldRows) (caller : List ℕ) (c : Command A) (e : Effect A) (h : HasEffect w caller c e) where
   -- a command that has the effect moves what the effect does

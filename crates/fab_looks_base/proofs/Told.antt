@@ -23,7 +23,7 @@ use Rattle.fab_reach_base.specs.declared.path.Path.{Path}
 use Rattle.fab_looks_base.specs.Links.{PathTo, IsReached, IsMappedBy, IsExposedBy}
 use Rattle.fab_looks_base.specs.Inner.Offers.{AreJust}
 use Rattle.fab_looks_base.specs.Inner.Gaining.{AddsReachers, AddsHost, AddsHosts}
-use Rattle.fab_looks_base.specs.Reachers.{IsReacher, AreReachers}
+use Rattle.fab_looks_base.specs.Reachers.{IsReacher}
 use Rattle.fab_looks_base.specs.declared.reaching.Counts.{Counts}
 use Rattle.fab_looks_base.proofs.Gathered.{just_as, none_has}
 use Rattle.fab_looks_base.proofs.Ways.{from_path}
@@ -102,12 +102,6 @@ module _ (w : Records) (volume : List ℕ) where
     sound = a.sound;
     kept = a.kept;
     there = λ h _ r. let k = host_known w volume h r in a.there h (k.0, subst (λ ys. Contains ys (h, k.0)) (sym is) ((entry_decides name_cmp name_total name_exact w.inventory.holders h k.0).0 k.1)) r;
-  }
-
-  pub from_empty : (s t : BTreeMap (List ℕ) Counts) → ((q : List ℕ) → get name_cmp s q ≡ None) → AddsHosts w volume s t → AreReachers w volume t
-  from_empty s t none a = record {
-    sound = λ h n at. elim (a.sound h n at) [ inl o ↦ (let f : ◌≡◌ {A = Option Counts} None (Some n) = sym (none h) ∙ o in absurd cc) | inr r ↦ r ];
-    complete = λ h r. a.there h tt r;
   }
 
   -- exposed first, then serving

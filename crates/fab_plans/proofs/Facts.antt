@@ -3,10 +3,9 @@ use Rattle.std.proofs.Common.{◌≡◌, ℕ, Result, Ok, Err, OnOk, List, Optio
 use mathlib.Core.Bool.{true≢false}
 use Rattle.std.specs.declared.cmp.Ordering.{Ordering}
 use Rattle.std.specs.FinMap as map
-use Rattle.std.specs.FinSet as set
 use Rattle.std.proofs.lemmas.Option.{slice_get_within, get_or_from_slice_get, same_Some, none-some}
 use Rattle.fab_reach_base.specs.fab_lemmas.Firsts.{IsFirstWithout}
-use Rattle.fab_reach_base.specs.fab_lemmas.Room.{IsFull, HasRoom, IsFullSet, SetHasRoom}
+use Rattle.fab_reach_base.specs.fab_lemmas.Room.{IsFull, HasRoom}
 
 -- a test is not true and false
 pub not_both : {b : Bool} → b ≡ true → b ≡ false → ⊥
@@ -24,10 +23,6 @@ none_without P xs x all h = h.without (all_at P xs h.at x all h.is)
 pub room_or_full : {Q X : Type 0} {O : Q → Q → Ordering} (m : map.FinMap O X) (q : Q) (most : ℕ) → HasRoom m q most → ¬ IsFull m q most
 room_or_full m q most (inl there) full = not_both there full.0
 room_or_full m q most (inr few) full = omega (arith, few, full.1)
-
-pub set_room_or_full : {K : Type 0} {R : K → K → Ordering} (s : set.FinSet R) (k : K) (most : ℕ) → SetHasRoom s k most → ¬ IsFullSet s k most
-set_room_or_full s k most (inl there) full = not_both there full.0
-set_room_or_full s k most (inr few) full = omega (arith, few, full.1)
 
 -- one value at most
 pub one_value : {X : Type 0} {o : Option X} {x y : X} → o ≡ Some x → o ≡ Some y → x ≡ y

@@ -1,12 +1,11 @@
 -- A text that is kept, and its steps.
-use Rattle.std.proofs.Common.{◌≡◌, ◌↔◌, ℕ, List, [], Bool, IsTrue, length, refl, sym, ap, ◌∙◌, subst, inl, inr, arith, nat_eq}
+use Rattle.std.proofs.Common.{◌≡◌, ◌↔◌, ℕ, List, [], Bool, IsTrue, refl, sym, ap, ◌∙◌, subst, inl, inr, nat_eq}
 use Rattle.std.specs.Bool.{Decides}
 use Rattle.std.specs.Cmp.Lexicographic.{pointwise}
 use Rattle.std.proofs.lemmas.Slice.Eq.{bytes_eq-Decides}
-use Rattle.fab_plans_text.specs.fab_plans_base.Texts.{lines_of}
 use Rattle.fab_plans_text.specs.fab_plans_base.Steps.{PlanStep}
-use Rattle.fab_plans_text.specs.fab_plans_base.Plans.{SpellsLines, IsWithinLimits, Spells, plan_text}
-use Rattle.fab_plans_kept.specs.Texts.{IsKeptFor, HasSteps, HasSteps-prop, no_steps, kept_once}
+use Rattle.fab_plans_text.specs.fab_plans_base.Plans.{plan_text}
+use Rattle.fab_plans_kept.specs.Texts.{IsKeptFor, HasSteps, HasSteps-prop, kept_once}
 
 -- the steps that there are are those that it is kept for
 pub spelled_is : (text : List ℕ) (h : HasSteps text) (steps : List PlanStep) → IsKeptFor text steps → h.0 ≡ steps
@@ -24,32 +23,6 @@ blank_kept text e = inl (e, refl)
 pub kept_printed : (text : List ℕ) (steps : List PlanStep) → IsKeptFor text steps → text ≡ plan_text steps
 kept_printed text steps (inl h) = h.0 ∙ ap plan_text (sym h.1)
 kept_printed text steps (inr h) = h.printed
-
--- no text spells no step
-pub kept_blank : (text : List ℕ) (steps : List PlanStep) → IsKeptFor text steps → text ≡ [] → steps ≡ []
-kept_blank text steps (inl h) e = h.1
-kept_blank text steps (inr h) e = no_steps steps (subst (λ t. SpellsLines (lines_of t) steps) e h.spells.lines)
-
--- a text spells steps
-pub kept_spelt : (text : List ℕ) (steps : List PlanStep) → IsKeptFor text steps → ¬ (text ≡ []) → Spells text steps
-kept_spelt text steps (inl h) some = absurd (some h.0)
-kept_spelt text steps (inr h) some = h.spells
-
--- steps within the limits are some
-some_steps : (steps : List PlanStep) → IsWithinLimits steps → ¬ (steps ≡ [])
-some_steps steps h e = omega (arith, h.some, ap (λ (xs : List PlanStep). length xs) e)
-
-pub within_spelt : (text : List ℕ) (steps : List PlanStep) → IsKeptFor text steps → IsWithinLimits steps → Spells text steps
-within_spelt text steps k h = kept_spelt text steps k (λ e. some_steps steps h (kept_blank text steps k e))
-
--- a text is there just where its steps are within the limits
-pub kept_within : (text : List ℕ) (steps : List PlanStep) → IsKeptFor text steps → ¬ (text ≡ []) → IsWithinLimits steps
-kept_within text steps k some =
-    let spelt = kept_spelt text steps k some in
-    record { some = spelt.some; few = spelt.few; short = spelt.printed_short }
-
-pub within_some : (text : List ℕ) (steps : List PlanStep) → IsKeptFor text steps → IsWithinLimits steps → ¬ (text ≡ [])
-within_some text steps k h e = some_steps steps h (kept_blank text steps k e)
 
 -- texts are the same just where their steps are
 pub same_kept : (a b : List PlanStep) (text others : List ℕ) → IsKeptFor text a → IsKeptFor others b → text ≡ others ↔ a ≡ b

@@ -1,8 +1,8 @@
 -- Keys that are gathered step by step, and rows that stand at none of them.
-use Rattle.std.proofs.Common.{◌≡◌, ◌<◌, ◌≤◌, ◌+◌, ℕ, zero, suc, length, take, get_or, List, [], ◌∷◌, ◌++◌, cond, true, Contains, inl, inr, refl, sym, ap, ◌∙◌, subst, arith}
+use Rattle.std.proofs.Common.{◌≡◌, ◌<◌, ◌+◌, ℕ, zero, suc, length, take, get_or, List, [], ◌∷◌, ◌++◌, cond, true, Contains, inl, inr, refl, sym, ap, ◌∙◌, subst, arith}
 use Rattle.std.specs.BTreeMap.{is_at}
 use Rattle.std.specs.BTreeSet.{BTreeSet, contains}
-use Rattle.std.proofs.lemmas.List.{take_more, take_all}
+use Rattle.std.proofs.lemmas.List.{take_more}
 use Rattle.std.proofs.lemmas.List.Elements.{Contains-push_cases}
 use Rattle.fab_inventory.specs.Inventories.{InventoryRows}
 use Rattle.fab_reach_base.specs.Records.{ConfigRows}
@@ -16,10 +16,6 @@ use Rattle.fab_plans.specs.Outcomes.{AllDone}
 use Rattle.fab_plans_rows.specs.Keys.{step_key, HasKeys}
 use Rattle.fab_plans_rows.proofs.Steps.{IsElsewhere, no_key}
 
--- no step so far
-pub none_named : (s : BTreeSet RowKey) → HasKeys s []
-none_named s x there = absurd (omega (arith, there.1))
-
 -- one step more
 pub one_more : (s n : BTreeSet RowKey) (steps : List PlanStep) (i : ℕ) (step : PlanStep) (k : RowKey) → i < length steps → step ≡ get_or steps i step → k ≡ step_key step
     → ((q : RowKey) → contains key_cmp n q ≡ cond (is_at (key_cmp k) q) true (contains key_cmp s q)) → HasKeys s (take i steps) → HasKeys n (take (i + 1) steps)
@@ -29,10 +25,6 @@ one_more s n steps i step k less at is u has x there =
       | inl old ↦ a.kept (step_key x) (has x old)
       | inr e ↦ subst (λ y. HasKey n (step_key y)) e (a.there (step_key step) (sym is))
     ]
-
--- past the last step
-pub all_named : (s : BTreeSet RowKey) (steps : List PlanStep) (i : ℕ) → length steps ≤ i → HasKeys s (take i steps) → HasKeys s steps
-all_named s steps i past has = subst (HasKeys s) (take_all i steps past) has
 
 -- a row at none of the keys is at no step's
 elsewhere : (s : BTreeSet RowKey) (steps : List PlanStep) → HasKeys s steps → (r : ConfigRow) → ¬ HasKey s (key_of r) → IsElsewhere steps r

@@ -33,9 +33,6 @@ module _ (rows : Option (Bor (BTreeSet Path))) (these : List Path) where
   pub is_known : (k : Path) → in_rows rows k ≡ true → (x : Path) → ¬ IfNew k x
   is_known k there x w = w.1 (ap (in_rows rows) w.0 ∙ there)
 
-  pub all_new : (old new : Path → Type 0) → Adds (Before IfNew these) old new → Adds (IsLater these rows) old new
-  all_new old new = adds_as (Before IfNew these) (IsLater these rows) old new (λ x w. (subst (Contains these) (sym w.2.0) w.1, w.2.1)) (λ x w. (x, w.0, (refl, w.1)))
-
   -- a row, if it is not listed
   abbrev pub IfGone : Path → Path → Type 0
   IfGone k x = (x ≡ k) × ¬ Contains these x

@@ -137,9 +137,6 @@ module _ (w : Records) where
         (λ e h. from_flag e h.0 h.1 h.2 h.3 h.4 h.5)
         (adds_both (LooseAt A flags.0) (LooseAt B flags.1) old mid new a b)
 
-    pub if_flag : (f : Fabric) (flag : Bool) (old new : Pair → Type 0) → flag ≡ true → Adds (λ e. IsOffered w e.0 e.1 × IsLoose w f e.0 × IsLoose w f e.1) old new → Adds (LooseAt f flag) old new
-    if_flag f flag old new is = adds_as (λ e. IsOffered w e.0 e.1 × IsLoose w f e.0 × IsLoose w f e.1) (LooseAt f flag) old new (λ e h. (is, h.0, h.1, h.2)) (λ e h. (h.1, h.2, h.3))
-
 -- each with each
 pub product : (s t : BTreeSet ℕ) (ks : List ℕ) (old new : Pair → Type 0) → ks ≡ s.keys → Adds (Before (λ p (e : Pair). HasPortIn t e.1 × (e.0 ≡ p)) ks) old new → Adds (λ e. HasPortIn s e.0 × HasPortIn t e.1) old new
 product s t ks old new is a = adds_as (λ e. (p : ℕ) × HasPortIn s p × (HasPortIn t e.1 × (e.0 ≡ p))) (λ e. HasPortIn s e.0 × HasPortIn t e.1) old new

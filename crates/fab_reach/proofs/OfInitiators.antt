@@ -32,9 +32,6 @@ module _ (touched : BTreeSet (List ℕ)) where
   pub kept_name : (k : List ℕ) (old new : List ℕ → Type 0) → contains name_cmp touched k ≡ false → Adds (λ n. n ≡ k) old new → Adds (λ n. (n ≡ k) × (contains name_cmp touched n ≡ false)) old new
   kept_name k old new is = adds_as (λ n. n ≡ k) (λ n. (n ≡ k) × (contains name_cmp touched n ≡ false)) old new (λ n e. (e, ap (contains name_cmp touched) e ∙ is)) (λ n h. h.0)
 
-  pub touched_name : (k : List ℕ) (old : List ℕ → Type 0) → contains name_cmp touched k ≡ true → Adds (λ n. (n ≡ k) × (contains name_cmp touched n ≡ false)) old old
-  touched_name k old is = adds_none (λ n. (n ≡ k) × (contains name_cmp touched n ≡ false)) old (λ n h. true≢false (sym (ap (contains name_cmp touched) h.0 ∙ is) ∙ h.1))
-
   pub kept_names : (s : BTreeSet (List ℕ)) (ks : List (List ℕ)) (old new : List ℕ → Type 0) → ks ≡ s.keys → Adds (Before (λ k (n : List ℕ). (n ≡ k) × (contains name_cmp touched n ≡ false)) ks) old new
       → Adds (λ n. (contains name_cmp s n ≡ true) × (contains name_cmp touched n ≡ false)) old new
   kept_names s ks old new is a = adds_as (λ n. (k : List ℕ) × HasName s k × ((n ≡ k) × (contains name_cmp touched n ≡ false))) (λ n. (contains name_cmp s n ≡ true) × (contains name_cmp touched n ≡ false)) old new

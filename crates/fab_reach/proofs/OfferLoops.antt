@@ -1,6 +1,5 @@
 -- Ports and pairs that loops add.
 use Rattle.std.proofs.Common.{ℕ, ◌≡◌, List, true, Option, None, Some, IsTrue, refl, sym, ap, ◌∙◌, subst}
-use mathlib.Core.Bool.{true≢false}
 use Rattle.std.specs.Ordering.{nat_cmp}
 use Rattle.std.specs.BTreeMap as tree
 use Rattle.std.specs.BTreeMap.{BTreeMap}
@@ -64,9 +63,6 @@ module _ (m : MappingRows) (held : Held) where
     offered_to q s old new at = adds_as (λ e. (n : List ℕ) × (in_tree name_cmp (Some s) n ≡ true) × IsPortServedBy m held n e.0 × (e.1 ≡ q)) (λ e. IsPortServedAt m held targeted q e.0 × (e.1 ≡ q)) old new
         (λ e w. ((w.0, ap (λ o. in_tree name_cmp o w.0) at ∙ w.1, w.2), w.3))
         (λ e w. (w.0.0, sym (ap (λ o. in_tree name_cmp o w.0.0) at) ∙ w.0.1, w.0.2, w.1))
-
-    pub offered_to_none : (q : ℕ) (old : Pair → Type 0) → tree.get nat_cmp targeted q ≡ None → Adds (λ e. IsPortServedAt m held targeted q e.0 × (e.1 ≡ q)) old old
-    offered_to_none q old none = adds_none (λ e. IsPortServedAt m held targeted q e.0 × (e.1 ≡ q)) old (λ e w. true≢false (sym w.0.1 ∙ ap (λ o. in_tree name_cmp o w.0.0) none))
 
     pub offered_to_all : (s : BTreeSet ℕ) (ks : List ℕ) (old new : Pair → Type 0) → Adds (Before (λ q e. IsPortServedAt m held targeted q e.0 × (e.1 ≡ q)) ks) old new → ks ≡ s.keys
         → Adds (λ e. HasPortIn s e.1 × IsPortServedAt m held targeted e.1 e.0) old new

@@ -24,7 +24,3 @@ pub record IsRowDiff (w v : Records) (gone come : List Row) : Type 0 where
   pub new : (r : Row) → Contains come r → Stands v r × ¬ Stands w r
   pub before : (r : Row) → Stands w r → Stands v r ⊎ Contains gone r
   pub after : (r : Row) → Stands v r → Stands w r ⊎ Contains come r
-
--- the row stands once the rows that are gone have left w, and those that are come are there
-abbrev pub StandsAfter : Records → List Row → List Row → Row → Type 0
-StandsAfter w gone come r = (Stands w r × ¬ Contains gone r) ⊎ Contains come r

@@ -20,14 +20,14 @@ use Rattle.fab_inventory.specs.declared.port.Port.{Port}
 use Rattle.fab_inventory.specs.Ports.{port_at, port_of}
 use Rattle.fab_lemmas.proofs.SeenEntries.{entry_decides}
 use Rattle.fab_lemmas.proofs.Tests.{or_left, or_right}
-use Rattle.fab_zoning_rows.specs.Holding.{Matches, IsLoggedInAt, Holds, place_member, address_member, has_row}
+use Rattle.fab_zoning_rows.specs.Holding.{IsLoggedInAt, Holds, place_member, address_member, has_row}
 use Rattle.fab_zoning_rows.proofs.PortMembers.{held_exactly}
 use Rattle.fab_zoning_rows.specs.Rows.{Rows}
 use Rattle.fab_reach_base.specs.Adding.{Adds}
 use Rattle.fab_reach_base.specs.Reach.{IsPort}
 use Rattle.fab_reach_base.specs.Records.{Records, zoning_at}
 use Rattle.fab_reach_base.specs.Serving.{IsServing}
-use Rattle.fab_reach_base.proofs.Adding.{Before, adds_as, adds_none, from_none}
+use Rattle.fab_reach_base.proofs.Adding.{Before, adds_as, from_none}
 use Rattle.fab_reach_base.proofs.Gathering.{name_of}
 use Rattle.fab_reach_base.proofs.Same.{same_some}
 use Rattle.fab_reach_base.proofs.Sets.{adds_insert, none_in}
@@ -212,18 +212,11 @@ module _ (w v : Records) (gone come : List Row) (d : IsRowDiff w v gone come) wh
 pub changed : (other : Records) (k : Key) (port : Port) (old new : ℕ → Type 0) → IsChangedBy other k port → Adds (λ y. y ≡ port.name) old new → Adds (λ y. IsChangedBy other k port × (y ≡ port.name)) old new
 changed other k port old new c = adds_as (λ y. y ≡ port.name) (λ y. IsChangedBy other k port × (y ≡ port.name)) old new (λ y e. (c, e)) (λ y h. h.1)
 
-pub not_changed : (other : Records) (k : Key) (port : Port) (old : ℕ → Type 0) → ¬ IsChangedBy other k port → Adds (λ y. IsChangedBy other k port × (y ≡ port.name)) old old
-not_changed other k port old none = adds_none (λ y. IsChangedBy other k port × (y ≡ port.name)) old (λ y h. none h.0)
-
 module _ (w other : Records) (k : Key) where
   pub known_changed : (name : ℕ) (port : Port) (old new : ℕ → Type 0) → IsPort w name port → Adds (λ y. IsChangedBy other k port × (y ≡ port.name)) old new → Adds (λ y. IsPortChangedBy w other k y × (y ≡ name)) old new
   known_changed name port old new is = adds_as (λ y. IsChangedBy other k port × (y ≡ port.name)) (λ y. IsPortChangedBy w other k y × (y ≡ name)) old new
       (λ y h. let e = h.1 ∙ name_of w name port is in ((port, ap (port_at w.inventory.ports) e ∙ is, h.0), e))
       (λ y h. (subst (IsChangedBy other k) (same_some h.0.1 (ap (port_at w.inventory.ports) h.1 ∙ is)) h.0.2, h.1 ∙ sym (name_of w name port is)))
-
-  pub not_known_changed : (name : ℕ) (old : ℕ → Type 0) → port_at w.inventory.ports name ≡ None → Adds (λ y. IsPortChangedBy w other k y × (y ≡ name)) old old
-  not_known_changed name old none = adds_none (λ y. IsPortChangedBy w other k y × (y ≡ name)) old (λ y h.
-      let e : ◌≡◌ {A = Option Port} None (Some h.0.0) = sym none ∙ ap (port_at w.inventory.ports) (sym h.1) ∙ h.0.1 in absurd cc)
 
   known_entry : (name : ℕ) (port : Port) → IsPort w name port → (x : Known) × (map.get w.inventory.ports name ≡ Some x)
   known_entry name port is = by (map.get w.inventory.ports name) refl is
@@ -240,10 +233,6 @@ module _ (w other : Records) (k : Key) where
       (λ y h.
       let x = known_entry y h.0 h.1 in
       ((y, x.0), subst (λ ys. Contains ys (y, x.0)) (sym is) ((entry_decides nat_cmp nat_cmp_total set.nat_cmp-IsAntisymmetric w.inventory.ports y x.0).0 x.1), (h, refl)))
-
-  pub port_changed : (name : ℕ) (old new : ℕ → Type 0) → k.1 ≡ member.Port name → Adds (λ y. IsPortChangedBy w other k y × (y ≡ name)) old new → Adds (IsPortChangedBy w other k) old new
-  port_changed name old new is = adds_as (λ y. IsPortChangedBy w other k y × (y ≡ name)) (IsPortChangedBy w other k) old new (λ y h. h.0)
-      (λ y h. (h, sym (name_of w y h.0 h.1) ∙ subst (λ m. Matches m h.0) is h.2.1))
 
 pub by_keys : (w other : Records) (s : BTreeSet Key) (ks : List Key) (old new : ℕ → Type 0) → ks ≡ s.keys → Adds (Before (IsPortChangedBy w other) ks) old new → Adds (IsPortChanged w other s) old new
 by_keys w other s ks old new is = adds_as (Before (IsPortChangedBy w other) ks) (IsPortChanged w other s) old new

@@ -85,12 +85,6 @@ serving_added serving r k s old new is at = adds_as (λ n. IsTrue (contains name
     (λ n h. (k, is, ap (λ o. in_tree name_cmp o n) at ∙ h))
     (λ n h. sym (ap (λ o. in_tree name_cmp o n) at) ∙ ap (λ x. tree_has name_cmp name_cmp serving x n) (same_some is h.1) ∙ h.2)
 
-pub no_serving : (serving : Names) (r : Row) (k : List ℕ) (old : List ℕ → Type 0) → host_group_said r ≡ Some k → tree.get name_cmp serving k ≡ None → Adds (IsServing serving r) old old
-no_serving serving r k old is none = adds_none (IsServing serving r) old (λ n h. true≢false (sym (ap (λ x. tree_has name_cmp name_cmp serving x n) (same_some is h.1) ∙ h.2) ∙ ap (λ o. in_tree name_cmp o n) none))
-
-pub no_host_said : (serving : Names) (r : Row) (old : List ℕ → Type 0) → host_group_said r ≡ None → Adds (IsServing serving r) old old
-no_host_said serving r old none = adds_none (IsServing serving r) old (λ n h. let e : ◌≡◌ {A = Option (List ℕ)} None (Some h.0) = sym none ∙ h.1 in absurd cc)
-
 pub touched_by : (serving : Names) (r : Row) (old mid new : List ℕ → Type 0) → Adds (λ n. group_said r ≡ Some n) old mid → Adds (IsServing serving r) mid new → Adds (IsTouchedBy serving r) old new
 touched_by serving r = adds_both (λ n. group_said r ≡ Some n) (IsServing serving r)
 

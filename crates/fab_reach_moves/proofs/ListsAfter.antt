@@ -70,27 +70,15 @@ module _ {Y : Type 0} (gone : Y → Bool) where
   pub stand_left : (P Q : Y → Type 0) (old new : Y → Type 0) → ((y : Y) → (P y → Q y) × (Q y → P y)) → Adds (λ y. P y × (gone y ≡ false)) old new → Adds (λ y. Q y × (gone y ≡ false)) old new
   stand_left P Q old new same = adds_as (λ y. P y × (gone y ≡ false)) (λ y. Q y × (gone y ≡ false)) old new (λ y h. ((same y).0 h.0, h.1)) (λ y h. ((same y).1 h.0, h.1))
 
-  pub none_left : (Q : Y → Type 0) (old : Y → Type 0) → ((y : Y) → ¬ Q y) → Adds (λ y. Q y × (gone y ≡ false)) old old
-  none_left Q old none = adds_none (λ y. Q y × (gone y ≡ false)) old (λ y h. none y h.0)
-
 module _ (w : Records) (n : List ℕ) where
   pub host_groups_stand : (g : StorageGroupRows) → map.get w.config.mapping.groups n ≡ Some g → (x : List ℕ) → (set.contains g.host_groups x ≡ true → Stands w (name_row (HostGroups n) x)) × (Stands w (name_row (HostGroups n) x) → set.contains g.host_groups x ≡ true)
   host_groups_stand g at x = ((λ h. (g, at, h)), λ h. subst (λ (y : StorageGroupRows). set.contains y.host_groups x ≡ true) (same_some h.1 at) h.2)
 
-  pub no_host_groups : map.get w.config.mapping.groups n ≡ None → (x : List ℕ) → ¬ Stands w (name_row (HostGroups n) x)
-  no_host_groups none x h = let e : ◌≡◌ {A = Option StorageGroupRows} None (Some h.0) = sym none ∙ h.1 in absurd cc
-
   pub hosts_stand : (g : HostGroupRows) → map.get w.config.mapping.host_groups n ≡ Some g → (x : List ℕ) → (set.contains g.hosts x ≡ true → Stands w (name_row (Hosts n) x)) × (Stands w (name_row (Hosts n) x) → set.contains g.hosts x ≡ true)
   hosts_stand g at x = ((λ h. (g, at, h)), λ h. subst (λ (y : HostGroupRows). set.contains y.hosts x ≡ true) (same_some h.1 at) h.2)
 
-  pub no_hosts_stand : map.get w.config.mapping.host_groups n ≡ None → (x : List ℕ) → ¬ Stands w (name_row (Hosts n) x)
-  no_hosts_stand none x h = let e : ◌≡◌ {A = Option HostGroupRows} None (Some h.0) = sym none ∙ h.1 in absurd cc
-
   pub targets_stand : (g : StorageGroupRows) → map.get w.config.mapping.groups n ≡ Some g → (x : ℕ) → (set.contains g.targets x ≡ true → Stands w (target_row n x)) × (Stands w (target_row n x) → set.contains g.targets x ≡ true)
   targets_stand g at x = ((λ h. (g, at, h)), λ h. subst (λ (y : StorageGroupRows). set.contains y.targets x ≡ true) (same_some h.1 at) h.2)
-
-  pub no_targets_stand : map.get w.config.mapping.groups n ≡ None → (x : ℕ) → ¬ Stands w (target_row n x)
-  no_targets_stand none x h = let e : ◌≡◌ {A = Option StorageGroupRows} None (Some h.0) = sym none ∙ h.1 in absurd cc
 
 -- ---- after it
 

@@ -54,9 +54,6 @@ pub port_named : (r : Row) (x : Port) (old new : ℕ → Type 0) → r ≡ row.P
 port_named r x old new is = adds_as (λ p. p ≡ x.name) (NamesPort r) old new (λ p e. (x, is, e))
     (λ p h. let e : row.Port x ≡ row.Port h.0 = sym is ∙ h.1 in let same : x ≡ h.0 = cc in h.2 ∙ ap (λ (y : Port). y.name) (sym same))
 
-pub nothing_named : (r : Row) (old : ℕ → Type 0) → ((x : Port) → ¬ (r ≡ row.Port x)) → Adds (NamesPort r) old old
-nothing_named r old none = adds_none (NamesPort r) old (λ p h. none h.0 h.1)
-
 -- each port that is known after a step is among those known before it and those that rows are of
 pub known_after : (w v : Records) (gone come : List Row) (ports : BTreeSet ℕ) → IsRowDiff w v gone come → ((p : ℕ) → (HasPortIn ports p → IsKnownPort w p ⊎ NamesPortIn come p) × (IsKnownPort w p ⊎ NamesPortIn come p → HasPortIn ports p))
     → (p : ℕ) → IsKnownPort v p → HasPortIn ports p

@@ -3,7 +3,7 @@ use Rattle.std.proofs.Common.{ℕ, ◌≡◌, ◌↔◌, ◌⊎◌, inl, inr, Li
 use Rattle.fab_reach_base.specs.fab_names.declared.fabric.Fabric.{Fabric}
 use Rattle.fab_reach_base.specs.fab_names.declared.member.Member.{Member}
 use Rattle.fab_reach_base.specs.fab_names.declared.member.Member.TheVariants as member
-use Rattle.fab_reach_base.specs.fab_zoning.Edits.{Puts, Takes}
+use Rattle.fab_reach_base.specs.fab_zoning.Edits.{Puts}
 use Rattle.fab_store_rows.specs.declared.config_row.ConfigRow.{ConfigRow}
 use Rattle.fab_store_rows.specs.declared.config_row.ConfigRow.TheVariants as config
 use Rattle.fab_store_rows.specs.declared.config_row.ZoningItem.{ZoningItem}
@@ -71,16 +71,3 @@ module _ (row : ConfigRow) (e : Use) (P Q : Use → Type 0) (is : use_of row ≡
     λ h. elim ((puts x).0 h) [ inl k ↦ inl k | inr same ↦ inr (ap row_of same ∙ tells_row row e is) ],
     λ h. elim h [ inl k ↦ (puts x).1 (inl k) | inr t ↦ (puts x).1 (inr (told (use_of row) x e (told_by row x t) is)) ],
   )
-
-  pub one_taken : Takes e P Q → (x : Use) → Q x ↔ P x × ¬ (row_of x ≡ row)
-  one_taken takes x = (
-    λ h. let k = (takes x).0 h in (k.0, λ t. k.1 (told (use_of row) x e (told_by row x t) is)),
-    λ h. (takes x).1 (h.0, λ same. h.1 (ap row_of same ∙ tells_row row e is)),
-  )
-
-module _ (row : ConfigRow) (P : Use → Type 0) (is : use_of row ≡ None) where
-  pub none_put : (x : Use) → P x ↔ P x ⊎ (row_of x ≡ row)
-  none_put x = (λ h. inl h, λ h. elim h [ inl k ↦ k | inr t ↦ none_told x (sym is ∙ told_by row x t) ])
-
-  pub none_taken : (x : Use) → P x ↔ P x × ¬ (row_of x ≡ row)
-  none_taken x = (λ h. (h, λ t. none_told x (sym is ∙ told_by row x t)), λ h. h.0)

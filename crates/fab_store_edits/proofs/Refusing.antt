@@ -14,26 +14,18 @@ use Rattle.fab_store_rows.specs.declared.config_row.StoragePart.{StoragePart}
 use Rattle.fab_store_rows.specs.declared.config_row.StoragePart.TheVariants as part
 use Rattle.fab_store_rows.specs.declared.config_row.ConfigRow.{ConfigRow}
 use Rattle.fab_store_rows.specs.declared.config_row.ConfigRow.TheVariants as config
-use Rattle.fab_store_rows.specs.Standing.{IsGroup, IsHostHead, IsStorageHead, Stands}
+use Rattle.fab_store_rows.specs.Standing.{IsGroup, IsHostHead, IsStorageHead}
 use Rattle.fab_store_edits.specs.Rows.{host_head, host_row, part_row, name_row, flag_row, storage_row}
-use Rattle.fab_store_rows.specs.Tidy.{HasNoEmptySet, IsTidy}
+use Rattle.fab_store_rows.specs.Tidy.{HasNoEmptySet}
 use Rattle.fab_store_edits.specs.Inner.Edits.{Is, IsPut, HasRival, IsOrphan, IsRefused}
 use Rattle.fab_store_edits.specs.Inner.MappingEdits.{IsTakenUnit}
 use Rattle.fab_store_edits.specs.Inner.ZoningEdits.{with_zoning}
-use Rattle.fab_store_edits.proofs.ZoningMoves.{zoning_now, moved, moved_back, tidy_with}
+use Rattle.fab_store_edits.proofs.ZoningMoves.{zoning_now, moved, moved_back}
 use Rattle.fab_store_edits.proofs.GroupMoves.{some_is, here_none}
 
 pub if_ok : {X E : Type 0} {P Q : X → Type 0} (r : Result X E) → ((x : X) → P x → Q x) → IfOk r P → IfOk r Q
 if_ok (Ok x) f h = f x h
 if_ok (Err e) f h = h
-
--- more may go
-pub put_as : (G H : ConfigRow → Type 0) (r : ConfigRow) (c d : ConfigRows) → ((x : ConfigRow) → G x → H x) → IsPut G r c d → IsPut H r c d
-put_as G H r c d to p = record { there = p.there; kept = p.kept; left = λ x h. elim (p.left x h) [ inl k ↦ inl k | inr g ↦ inr (to x g) ] }
-
--- a row that stands, put again
-pub put_again : (G : ConfigRow → Type 0) (r : ConfigRow) (c : ConfigRows) → Stands c r → IsPut G r c c
-put_again G r c there = record { there = there; kept = λ x h. inl h; left = λ x h. inl h }
 
 -- ---- settings
 module _ (c : ConfigRows) (f : Fabric) where
@@ -57,19 +49,8 @@ module _ (c : ConfigRows) (f : Fabric) where
         left = moved c u (Is (flag_row f c)) f (record { name = λ k h. inl h; flag = λ q h. inr (ap (λ (x : Bool). config.Setting (DefaultZone f x)) (sym h)); items = λ i h. inl h; rows = λ z m h. inl h });
       })
 
-  pub setting_tidy : (w : FabricZoning) → w.fabric ≡ (zoning_at c f).fabric → (HasNoEmptySet (zoning_at c f) → HasNoEmptySet w) → IsTidy c → IsTidy (with_zoning f w c)
-  setting_tidy w = tidy_with c w f
-
 pub name_tidy : (v w : FabricZoning) (n : Option (List ℕ)) → w ≡ record v { active = n } → (w.fabric ≡ v.fabric) × (HasNoEmptySet v → HasNoEmptySet w)
 name_tidy v w n made = (ap (λ (u : FabricZoning). u.fabric) made, λ h. subst HasNoEmptySet (sym made) (record { aliases = h.aliases; zones = h.zones; sets = h.sets }))
-
--- ---- what refuses a setting
-module _ (Goes : ConfigRow → Type 0) (c : ConfigRows) (f : Fabric) where
-  pub name_rival : (n : Option (List ℕ)) → ¬ ((zoning_at c f).active ≡ n) → ¬ Goes (name_row f c) → HasRival Goes c (config.Setting (ActiveSet f n))
-  name_rival n fresh stays = record { rival = name_row f c; stands = refl; stays = λ g. absurd (stays g); apart = λ b q r. fresh (sym q ∙ r) }
-
-  pub flag_rival : (p : Bool) → ¬ (permits (zoning_at c f).flag ≡ p) → ¬ Goes (flag_row f c) → HasRival Goes c (config.Setting (DefaultZone f p))
-  flag_rival p fresh stays = record { rival = flag_row f c; stands = refl; stays = λ g. absurd (stays g); apart = λ b q r. fresh (sym q ∙ r) }
 
 -- ---- what refuses a head, or a part
 module _ (Goes : ConfigRow → Type 0) (c : ConfigRows) where

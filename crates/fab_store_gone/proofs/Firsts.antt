@@ -80,15 +80,6 @@ module _ (inventory : InventoryRows) (g : StorageGroupRows) where
         by (Volume x) e = tied name_cmp name_total x v e.0
 
   -- ---- a whole group
-  pub array_first : (a : List ℕ) → IsFirstWith name_cmp (LacksArray inventory g) a → IsFirstWith lost_cmp (GroupLacks inventory g) (Array a)
-  array_first a h = (h.0, by)
-    where
-      by : (x : Lost) → GroupLacks inventory g x → is_gt (lost_cmp (Array a) x) ≡ false
-      by (Host x) e = absurd e
-      by (Array x) e = h.1 x e
-      by (Target x) e = refl
-      by (Volume x) e = refl
-
   module _ (no_array : (a : List ℕ) → ¬ LacksArray inventory g a) where
     pub target_first : (t : ℕ) → IsFirstWith nat_cmp (LacksTarget inventory g) t → IsFirstWith lost_cmp (GroupLacks inventory g) (Target t)
     target_first t h = (h.0, by)
@@ -121,9 +112,6 @@ module _ (groups : StorageGroups) (n : List ℕ) (Lacks : StorageGroupRows → L
   at_group g o at =
       least_as lost_cmp (Lacks g) (λ x. HasAt groups (λ (h : StorageGroupRows). Lacks h x) n) o
       (λ x e. (g, at, e)) (λ x w. subst (λ (h : StorageGroupRows). Lacks h x) (same_some w.1 at) w.2)
-
-  pub at_none : groups n ≡ None → (x : Lost) → ¬ HasAt groups (λ (h : StorageGroupRows). Lacks h x) n
-  at_none at x w = let e : ◌≡◌ {A = Option StorageGroupRows} None (Some w.0) = sym at ∙ w.1 in absurd cc
 
 -- ---- rows
 module _ (Lacks : ConfigRow → Lost → Type 0) where

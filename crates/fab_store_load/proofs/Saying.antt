@@ -30,13 +30,6 @@ module _ {R E : Type 0} (said : R → Option E) (row_of : E → R) (says : (e : 
   one : (e f : E) → row_of e ≡ row_of f → e ≡ f
   one e f same = let alike : ◌≡◌ {A = Option E} (Some e) (Some f) = sym (says e) ∙ ap said same ∙ says f in cc
 
-  -- a row of another kind
-  pub rows_skip : (xs : List R) (r : R) (P : E → Type 0) → AreRows row_of xs P → said r ≡ None → AreRows row_of (xs ++ r ∷ []) P
-  rows_skip xs r P h nothing = record {
-    sound = λ e there. ⊎_elim (h.sound e) (λ same. let alike : ◌≡◌ {A = Option E} None (Some e) = sym nothing ∙ ap said same ∙ says e in absurd cc) (Contains-push_cases xs r (row_of e) there);
-    complete = λ e p. Contains-append_left xs (r ∷ []) (row_of e) (h.complete e p);
-  }
-
   -- a row of this kind
   pub rows_more : (xs : List R) (r : R) (e : E) (P Q : E → Type 0) → AreRows row_of xs P → r ≡ row_of e → Puts e P Q → AreRows row_of (xs ++ r ∷ []) Q
   rows_more xs r e P Q h is puts = record {

@@ -77,10 +77,6 @@ ready_still old new ready (inr back) is_open =
     let undone = back.undone is_open in
     record { outside = back.autocommit; same = undone.0 ∙ sym undone.1; desk = subst IsDesk (sym (undone.0 ∙ sym was.same)) was.desk }
 
-pub as_before : (old new : State) → IsReady old → IsUnchanged old new ⊎ IsRolledBack old new → IsTrue new.is_open → IsTrue old.is_open × (new.now ≡ old.now)
-as_before old new ready (inl same) is_open = (same.0.was_open, same.0.now_is)
-as_before old new ready (inr back) is_open = let was = back.was_open is_open in (was, (back.undone is_open).0 ∙ sym (ready was).same)
-
 -- the changes of the tables as they are once more
 pub can_still : {A : Type 0} (changes : LineChanges A) (old mid : State) → mid.now ≡ old.now → CanChange changes (tables_of old.now.trees) → CanChange changes (tables_of mid.now.trees)
 can_still changes old mid same can = subst (λ (d : Database). CanChange changes (tables_of d.trees)) (sym same) can

@@ -63,12 +63,6 @@ module _ {A : Type 0} (l : TableLine A) (old new : State) where
 
 -- ---- one walk after another
 
-pub loses_none : (P : Table → Row → Type 0) (tables : Tables) → ((t : Table) (r : Row) → ¬ P t r) → Loses P tables tables
-loses_none P tables none t r = (λ there. (there, none t r), λ both. both.0)
-
-pub gains_none : (P : Table → Row → Type 0) (tables : Tables) → ((t : Table) (r : Row) → ¬ P t r) → Gains P tables tables
-gains_none P tables none t r = (λ there. inl there, λ either. elim either [ inl was ↦ was | inr is ↦ absurd (none t r is) ])
-
 -- what has P or Q has R
 abbrev pub Joins : (Table → Row → Type 0) → (Table → Row → Type 0) → (Table → Row → Type 0) → Type 0
 Joins P Q R = (t : Table) (r : Row) → R t r ↔ (P t r ⊎ Q t r)

@@ -75,9 +75,6 @@ module _ {A : Type 0} (lines : TableLines) (rows : TableRows A) (settings : AreS
     (ports : AllZip ShowsPort lines.ports.items rows.ports.items) (addresses : AllZip ShowsAddress lines.addresses.items rows.addresses.items) (holders : AllZip ShowsHolder lines.holders.items rows.holders.items) (volumes : AllZip ShowsVolume lines.volumes.items rows.volumes.items)
     (plans : AllZip ShowsPlan lines.plans.items rows.plans.items) (approvals : AllZip ShowsApproval lines.approvals.items rows.approvals.items)
     (undos : AllZip ShowsUndo lines.undo.items rows.undo.items) (paths : AllZip ShowsPath lines.paths.items rows.paths.items) where
-  metas : List MetaRow
-  metas = settings.settings
-
   read_config : AreConfigRowsOf A (filter_map setting_in settings.settings) lines rows.config.items
   read_config = settings.config_are
 

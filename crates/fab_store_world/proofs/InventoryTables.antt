@@ -26,9 +26,6 @@ use Rattle.fab_world.specs.fab_store_rows.Standing.{IsKnown, entry_of, entry_at,
 use Rattle.fab_store_world.specs.Inventories.{IsKnownOnlyIn, port_order, port_row, entry_order, entry_row, address_order, address_row, holder_order, holder_row, volume_order, volume_row}
 use Rattle.fab_store_world.specs.InventoryGathering.{IsRowOfEntries}
 
-pub ports_total : IsTotalOrder port_order
-ports_total = on_total (λ (p : Port). p.name) nat_cmp_total
-
 pub entries_total : IsTotalOrder entry_order
 entries_total = on_total (λ (r : PortEntry). r.name) nat_cmp_total
 

@@ -16,13 +16,13 @@ use Rattle.fab_reach_base.proofs.fab_lemmas.SeenSets.{tie_decides}
 use Rattle.fab_reach_base.proofs.fab_lemmas.Walks.{walked, walk_end}
 use Rattle.fab_reach_base.proofs.SameLists.{same_sorted}
 use Rattle.fab_reach_base.specs.Adding.{Adds}
-use Rattle.fab_reach_base.proofs.Adding.{Before, before_last, adds_none, adds_as, from_none}
+use Rattle.fab_reach_base.proofs.Adding.{Before, before_last, adds_as, from_none}
 use Rattle.fab_reach_base.proofs.Sets.{adds_insert, none_in}
 use Rattle.std.specs.BTreeSet.{BTreeSet, contains, IsOrdered}
 use Rattle.std.specs.BTreeMap.{is_at}
 use Rattle.std.proofs.lemmas.Map.Views.{btree_set_contains_iff}
 use Rattle.fab_world.specs.fab_store_rows.PlanEntries.{PlanEntry}
-use Rattle.fab_store_world.specs.Orders.{IsOrderOf, IsActive, IsPlaced, IsAt, HasPlace, HaveNoPlace, numbered, place_cmp}
+use Rattle.fab_store_world.specs.Orders.{IsOrderOf, IsPlaced, IsAt, HasPlace, HaveNoPlace, numbered, place_cmp}
 
 pub place_total : IsTotalOrder place_cmp
 place_total = then_total (on_total (λ (e : ℕ × List ℕ). e.0) nat_cmp_total) (on_total (λ (e : ℕ × List ℕ). e.1) name_total)
@@ -75,10 +75,6 @@ order_told ks before it ns is none so = sym (walk_end ks before it is none) ∙ 
 pub active_added : (r : PlanEntry) (s n : BTreeSet (ℕ × List ℕ)) (k : ℕ × List ℕ) → IsAt r k → ((q : ℕ × List ℕ) → contains place_cmp n q ≡ cond (is_at (place_cmp k) q) true (contains place_cmp s q)) → Adds (IsAt r) (HasPlace s) (HasPlace n)
 active_added r s n k at put =
     adds_as (λ y. y ≡ k) (IsAt r) (HasPlace s) (HasPlace n) (λ y e. subst (IsAt r) (sym e) at) (λ y h. λ j. ((sym h.1 ∙ at.1) j, (sym h.2 ∙ at.2) j)) (adds_insert place_total place_exact s n k put)
-
--- another plan
-pub idle_added : (r : PlanEntry) (s : BTreeSet (ℕ × List ℕ)) → ¬ IsActive r → Adds (IsAt r) (HasPlace s) (HasPlace s)
-idle_added r s idle = adds_none (IsAt r) (HasPlace s) (λ y h. idle h.0)
 
 -- all of them, in order
 pub places_listed : (rows : List PlanEntry) (i : ℕ) (first t : BTreeSet (ℕ × List ℕ)) → length rows ≤ i → first.keys ≡ [] → IsOrdered place_cmp t → Adds (Before IsAt (take i rows)) (HasPlace first) (HasPlace t) → IsListOf place_cmp (IsPlaced rows) t.keys
