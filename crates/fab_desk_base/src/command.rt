@@ -14,53 +14,71 @@ use std::alloc::Allocator;
 pub enum Command<A: Allocator + Copy> {
     /// Takes over the whole list of the ports that are logged in at a fabric.
     Import {
+        /// The fabric.
         fabric: Fabric,
+        /// The records of its port list.
         rows: Vec<PortRow, A>,
     },
     /// Makes or replaces a host or an array, with just these ports.
     PutHolder {
+        /// Whether it is a host or an array.
         kind: HolderKind,
+        /// Its name.
         name: Name,
+        /// Whose it is.
         tenant: Name,
+        /// The N_Port_Names of its ports.
         ports: Vec<Wwn, A>,
     },
     /// Makes or replaces a volume.
     PutVolume {
+        /// Its name.
         name: Name,
+        /// Its array, whose it is, and its capacity.
         volume: Volume,
     },
     /// Drops a host or an array.
     DropHolder {
+        /// Whether it is a host or an array.
         kind: HolderKind,
+        /// Its name.
         name: Name,
     },
     /// Drops a volume.
     DropVolume {
+        /// Its name.
         name: Name,
     },
     /// Stages a plan of these steps, with the caller as its author.
     Stage {
+        /// The name of the plan.
         plan: Name,
+        /// Its steps, in order.
         steps: Vec<Step<A>, A>,
     },
     /// Withdraws a staged plan.
     Withdraw {
+        /// The name of the plan.
         plan: Name,
     },
     /// Approves a staged plan at the present revision.
     Approve {
+        /// The name of the plan.
         plan: Name,
     },
     /// Tells what the activation of the plan would gain and lose now, and changes nothing.
     DryRun {
+        /// The name of the plan.
         plan: Name,
     },
     /// Carries out the steps of a staged plan, whole or not at all.
     Activate {
+        /// The name of the plan.
         plan: Name,
     },
     /// Puts back the configuration from before the activation of the plan.
     Rollback {
+        /// The name of the plan.
         plan: Name,
     },
     /// Shows something.

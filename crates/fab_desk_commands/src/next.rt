@@ -41,24 +41,33 @@ pub enum Next<A: Allocator + Copy> {
     Same,
     /// Another inventory, by one change more, and the rows in which it differs.
     Stock {
+        /// The inventory after it.
         inventory: Inventory<A>,
+        /// The rows in which it differs.
         change: InventoryDifference<A>,
     },
     /// One plan more, under a name that no plan has.
     Staged {
+        /// The name of the plan.
         name: Name,
+        /// The plan.
         plan: KeptPlan<A>,
     },
     /// A plan in another state, or with other approvals.
     Turned {
+        /// The name of the plan.
         name: Name,
+        /// What becomes of it.
         turn: Turn<A>,
     },
     /// Another configuration, by one change more, and the plan that led to it, or from it. A plan
     /// that is activated is the last in force then, and it is the last in force that is rolled back.
     Reconfigured {
+        /// The configuration after it.
         config: Config<A>,
+        /// The name of the plan.
         name: Name,
+        /// What becomes of it.
         turn: Turn<A>,
     },
 }

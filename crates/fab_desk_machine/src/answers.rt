@@ -15,8 +15,11 @@ use std::alloc::{AllocError, Allocator};
 /// A request: the token that its sender shows, when it comes, in Unix seconds, and its command.
 #[derive(Drop)]
 pub struct Asked<'a, A: Allocator + Copy> {
+    /// The token that its sender shows.
     pub token: &'a str,
+    /// When it comes, in Unix seconds.
     pub moment: u64,
+    /// Its command.
     pub command: Command<A>,
 }
 

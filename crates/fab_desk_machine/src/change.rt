@@ -24,8 +24,11 @@ use std::alloc::{AllocError, Allocator};
 /// `Next::make_room` makes.
 #[derive(Drop)]
 pub struct Change<A: Allocator + Copy, R> {
+    /// The parts of the world after it.
     pub next: Next<A>,
+    /// The step of the book of paths, where paths may move.
     pub step: Option<R>,
+    /// What is answered, but for the lists of paths.
     pub report: Report,
 }
 

@@ -18,26 +18,35 @@ use std::alloc::Allocator;
 pub enum Report {
     /// An import, a put or a drop was done: the revision after it.
     Changed {
+        /// The revision after it.
         revision: u64,
     },
     /// The plan is staged, with so many steps.
     Staged {
+        /// The name of the plan.
         plan: Name,
+        /// How many steps it has, 1 to 200.
         steps: usize,
     },
     /// The plan is withdrawn.
     Withdrawn {
+        /// The name of the plan.
         plan: Name,
     },
     /// The plan has approvals of so many callers; the present revision.
     Approved {
+        /// The name of the plan.
         plan: Name,
+        /// How many callers approved it.
         approvals: usize,
+        /// The present revision.
         revision: u64,
     },
     /// The plan was activated or rolled back: the revision after it.
     Reconfigured {
+        /// The name of the plan.
         plan: Name,
+        /// The revision after it.
         revision: u64,
     },
 }

@@ -25,8 +25,11 @@ use std::collections::BTreeSet;
 /// Who sends a request, and when, in Unix seconds.
 #[derive(Clone, Copy, Drop)]
 pub struct Sender {
+    /// The caller, by the place among those of the policy.
     pub id: CallerId,
+    /// The name of the caller.
     pub name: Name,
+    /// When the request comes, in Unix seconds.
     pub moment: u64,
 }
 

@@ -32,7 +32,9 @@ use std::alloc::Allocator;
 /// no path can move.
 #[derive(Drop)]
 pub struct Prepared<A: Allocator + Copy, R> {
+    /// What the command would make of the world.
     pub effect: Effect<A>,
+    /// The step of the book, where a path may move.
     pub step: Option<R>,
 }
 

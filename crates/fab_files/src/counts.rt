@@ -12,7 +12,9 @@ use std::collections::BTreeMap;
 /// How many paths lead to a volume over each fabric.
 #[derive(Clone, Copy)]
 pub struct Counts {
+    /// How many over fabric A.
     pub over_a: u64,
+    /// How many over fabric B.
     pub over_b: u64,
 }
 

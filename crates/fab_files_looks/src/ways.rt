@@ -28,7 +28,9 @@ use std::alloc::Allocator;
 /// Why a host reaches a volume or does not, as JSON: an object, and a line feed.
 #[derive(Clone, Copy)]
 pub struct WayJson<'w, A: Allocator + Copy> {
+    /// The name of the host.
     pub host: Name,
+    /// The name of the volume.
     pub volume: Name,
     /// The answer.
     pub why: &'w Why<A>,

@@ -30,6 +30,7 @@ pub fn is_over(lost: usize, most: Option<u64>) -> bool
 /// paths are lost than may be.
 #[derive(Clone, Copy)]
 pub struct ImportText<'t, A: Allocator + Copy> {
+    /// What the import would do.
     pub tried: &'t TriedImport<A>,
     /// How many paths may be lost; without it, as many as there are.
     pub most_lost: Option<u64>,
@@ -165,6 +166,7 @@ fn put_guard<S: Sink>(sink: &mut S, lost: usize, most: Option<u64>) -> Result<()
 /// What an import would do, as JSON: an object, and a line feed.
 #[derive(Clone, Copy)]
 pub struct ImportJson<'t, A: Allocator + Copy> {
+    /// What the import would do.
     pub tried: &'t TriedImport<A>,
     /// How many paths may be lost; without it, as many as there are.
     pub most_lost: Option<u64>,

@@ -22,7 +22,9 @@ use std::collections::BTreeMap;
 /// How many paths a host has to a volume, at each fabric.
 #[derive(Clone, Copy, PartialEq, Eq)]
 pub struct Counts {
+    /// How many over fabric A.
     pub a: usize,
+    /// How many over fabric B.
     pub b: usize,
 }
 

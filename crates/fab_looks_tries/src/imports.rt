@@ -30,7 +30,9 @@ use std::alloc::{AllocError, Allocator};
 pub struct TriedImport<A: Allocator + Copy> {
     /// How many ports are listed.
     pub listed: usize,
+    /// What it would do to ports.
     pub ports: PortsMoved<A>,
+    /// What it would do to paths.
     pub paths: PathsMoved<A>,
 }
 

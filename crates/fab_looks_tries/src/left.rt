@@ -23,7 +23,9 @@ struct Over {
 /// Hosts that have paths over one fabric alone, and hosts that have none.
 #[derive(Drop)]
 pub struct Left<A: Allocator + Copy> {
+    /// Those that have paths over one fabric alone.
     pub on_one: BTreeSet<Name, A>,
+    /// Those that have no path.
     pub without: BTreeSet<Name, A>,
 }
 

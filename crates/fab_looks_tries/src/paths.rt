@@ -38,6 +38,7 @@ pub struct PathsMoved<A: Allocator + Copy> {
     pub gained: usize,
     /// How many it loses.
     pub lost: usize,
+    /// The hosts that lose paths.
     pub hosts: LosingHosts<A>,
 }
 

@@ -31,6 +31,7 @@ pub struct TriedPlan<A: Allocator + Copy> {
     pub revision: u64,
     /// The rows that it takes from the configuration, and those that it adds.
     pub rows: RowDifference<A>,
+    /// What it would do to paths.
     pub paths: PathsMoved<A>,
 }
 

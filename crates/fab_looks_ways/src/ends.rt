@@ -7,7 +7,10 @@ use fab_reach_base::names::{Fabric, Wwn};
 /// Ordered by fabric, initiator, target.
 #[derive(Clone, Copy, PartialEq, Eq, PartialOrd, Ord)]
 pub struct Ends {
+    /// The fabric.
     pub fabric: Fabric,
+    /// The N_Port_Name of the initiator.
     pub initiator: Wwn,
+    /// The N_Port_Name of the target.
     pub target: Wwn,
 }

@@ -19,7 +19,9 @@ use std::collections::{BTreeMap, BTreeSet};
 /// communicate there or may not.
 #[derive(Clone, Copy)]
 pub struct Pair {
+    /// The two ports, and the fabric.
     pub ends: Ends,
+    /// Why they may communicate, or may not.
     pub tie: Tie,
 }
 

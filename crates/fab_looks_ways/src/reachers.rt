@@ -22,10 +22,15 @@ use std::collections::{BTreeMap, BTreeSet};
 /// groups that offer it the volume, with the logical unit numbers, each in order.
 #[derive(Drop)]
 pub struct Reacher<A: Allocator + Copy> {
+    /// The name of the host.
     pub host: Name,
+    /// Whose it is.
     pub tenant: Name,
+    /// How many paths it has to the volume at each fabric.
     pub counts: Counts,
+    /// The logical unit numbers, 0 to 16383, at which the volume is offered to it.
     pub units: Vec<u16, A>,
+    /// The names of the storage groups that offer it the volume.
     pub groups: Vec<Name, A>,
 }
 

@@ -19,6 +19,7 @@ use itoa::Buffer;
 pub struct FindingText<'f> {
     /// The path of the file, as it was given.
     pub path: &'f str,
+    /// What is found in it.
     pub finding: &'f Finding,
     /// The mode of a file that has tokens in it, if it is known.
     pub mode: Option<u32>,

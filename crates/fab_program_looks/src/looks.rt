@@ -22,20 +22,26 @@ use std::io::Write;
 pub enum Look {
     /// Why a host reaches a volume or does not.
     Why {
+        /// The name of the host.
         host: Name,
+        /// The name of the volume.
         volume: Name,
     },
     /// Who reaches a volume.
     Who {
+        /// The name of the volume.
         volume: Name,
     },
     /// What is around a port.
     Port {
+        /// The N_Port_Name of the port.
         port: Wwn,
     },
     /// What there is of a kind, or only plans in a state.
     List {
+        /// The kind.
         kind: ListKind,
+        /// The state that the plans are in, if one is asked for.
         state: Option<ListState>,
     },
 }
@@ -45,6 +51,7 @@ pub enum Look {
 pub struct Asked<'t> {
     /// The token of the caller.
     pub token: &'t str,
+    /// What is looked at.
     pub look: Look,
     /// Whether JSON is asked for.
     pub is_json: bool,

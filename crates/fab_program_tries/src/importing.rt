@@ -21,6 +21,7 @@ use std::io::Write;
 /// An import that is tried.
 #[derive(Clone, Copy)]
 pub struct ImportAsked<'t> {
+    /// The fabric whose ports the list has.
     pub fabric: Fabric,
     /// The bytes of the port list.
     pub bytes: &'t [u8],

@@ -26,12 +26,16 @@ pub enum Trial<'t> {
     /// The import of a port list: its bytes, and how many paths may be lost; without a number, as many
     /// as there are.
     Import {
+        /// The fabric whose ports the list has.
         fabric: Fabric,
+        /// The bytes of the port list.
         bytes: &'t [u8],
+        /// How many paths may be lost; without it, as many as there are.
         most_lost: Option<u64>,
     },
     /// The activation of a plan.
     Plan {
+        /// The name of the plan.
         plan: Name,
     },
 }
@@ -43,6 +47,7 @@ pub struct Asked<'t> {
     pub token: &'t str,
     /// The moment in Unix seconds, or why there is none.
     pub moment: Result<u64, Fault>,
+    /// What is tried.
     pub trial: Trial<'t>,
     /// Whether JSON is asked for.
     pub is_json: bool,

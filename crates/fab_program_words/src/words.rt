@@ -91,7 +91,9 @@ pub struct Once<'a> {
 /// A port list to be imported.
 #[derive(Clone, Copy, Debug)]
 pub struct Import<'a> {
+    /// Who imports it, and into which database.
     pub access: Access<'a>,
+    /// The fabric whose ports the list has.
     pub fabric: Fabric,
     /// The port list's file.
     pub file: &'a str,
@@ -102,21 +104,27 @@ pub struct Import<'a> {
 /// A host whose paths are asked for.
 #[derive(Clone, Copy, Debug)]
 pub struct Paths<'a> {
+    /// Who asks, and at which database.
     pub access: Access<'a>,
+    /// The name of the host.
     pub host: Name,
 }
 
 /// A fabric whose active set is asked for.
 #[derive(Clone, Copy, Debug)]
 pub struct Export<'a> {
+    /// Who asks, and at which database.
     pub access: Access<'a>,
+    /// The fabric.
     pub fabric: Fabric,
 }
 
 /// A plan to be tried.
 #[derive(Clone, Copy, Debug)]
 pub struct DryRun<'a> {
+    /// Who asks, and at which database.
     pub access: Access<'a>,
+    /// The name of the plan.
     pub plan: Name,
     /// The moment, in seconds since 1970; without it the clock's.
     pub now: Option<u64>,
@@ -125,8 +133,11 @@ pub struct DryRun<'a> {
 /// A host and a volume, of which it is asked why the one reaches the other or does not.
 #[derive(Clone, Copy, Debug)]
 pub struct Why<'a> {
+    /// Who asks, and at which database.
     pub access: Access<'a>,
+    /// The name of the host.
     pub host: Name,
+    /// The name of the volume.
     pub volume: Name,
     /// Whether JSON is asked for.
     pub is_json: bool,
@@ -144,7 +155,9 @@ pub enum WhoOf {
 /// A volume or a port, of which it is asked who is there.
 #[derive(Clone, Copy, Debug)]
 pub struct Who<'a> {
+    /// Who asks, and at which database.
     pub access: Access<'a>,
+    /// The volume or the port.
     pub of: WhoOf,
     /// Whether JSON is asked for.
     pub is_json: bool,
@@ -153,31 +166,47 @@ pub struct Who<'a> {
 /// What a list is of.
 #[derive(Clone, Copy, Debug, PartialEq, Eq)]
 pub enum ListKind {
+    /// The hosts.
     Hosts,
+    /// The arrays.
     Arrays,
+    /// The volumes.
     Volumes,
+    /// The ports.
     Ports,
+    /// The aliases of both fabrics.
     Aliases,
+    /// The zones of both fabrics.
     Zones,
+    /// The zone sets of both fabrics.
     Sets,
+    /// The host groups.
     HostGroups,
+    /// The storage groups.
     Groups,
+    /// The plans.
     Plans,
 }
 
 /// In which state plans are that are listed.
 #[derive(Clone, Copy, Debug)]
 pub enum ListState {
+    /// They wait for their activation.
     Staged,
+    /// They were activated, and their activation is in force.
     Active,
+    /// Their activation was undone.
     RolledBack,
+    /// They were withdrawn before they were activated.
     Withdrawn,
 }
 
 /// A kind of which a list is asked for.
 #[derive(Clone, Copy, Debug)]
 pub struct Names<'a> {
+    /// Who asks, and at which database.
     pub access: Access<'a>,
+    /// The kind.
     pub kind: ListKind,
     /// Only plans in this state, if one is given.
     pub state: Option<ListState>,
@@ -199,21 +228,32 @@ pub enum Check<'a> {
 /// What a command does, as a policy names it.
 #[derive(Clone, Copy, Debug)]
 pub enum ActionWord {
+    /// It imports a port list.
     Import,
+    /// It puts or drops a host, an array or a volume.
     Inventory,
+    /// It stages a plan.
     Stage,
+    /// It withdraws a staged plan.
     Withdraw,
+    /// It approves a staged plan.
     Approve,
+    /// It tells what activating a plan would gain and lose.
     DryRun,
+    /// It activates a staged plan.
     Activate,
+    /// It rolls an active plan back.
     Rollback,
 }
 
 /// The fabrics that a command names.
 #[derive(Clone, Copy, Debug)]
 pub enum NamedFabrics {
+    /// Fabric A alone.
     A,
+    /// Fabric B alone.
     B,
+    /// Both fabrics.
     Both,
 }
 
@@ -222,6 +262,7 @@ pub enum NamedFabrics {
 pub struct Deed<'a> {
     /// Who sends it.
     pub caller: Name,
+    /// What it does.
     pub action: ActionWord,
     /// Without it no fabric.
     pub fabrics: Option<NamedFabrics>,
@@ -252,13 +293,16 @@ pub enum ExplainOf<'a> {
 pub struct Explain<'a> {
     /// The policy's file.
     pub policy: &'a str,
+    /// What is asked of it.
     pub of: ExplainOf<'a>,
 }
 
 /// A port list of which it is asked what its import would gain and lose.
 #[derive(Clone, Copy, Debug)]
 pub struct TryImport<'a> {
+    /// Who asks, and at which database.
     pub access: Access<'a>,
+    /// The fabric whose ports the list has.
     pub fabric: Fabric,
     /// The port list's file.
     pub file: &'a str,
@@ -271,7 +315,9 @@ pub struct TryImport<'a> {
 /// A plan of which it is asked what activating it would change.
 #[derive(Clone, Copy, Debug)]
 pub struct Diff<'a> {
+    /// Who asks, and at which database.
     pub access: Access<'a>,
+    /// The name of the plan.
     pub plan: Name,
     /// Whether JSON is asked for.
     pub is_json: bool,

@@ -17,6 +17,7 @@ use std::collections::{BTreeMap, BTreeSet};
 /// Who uses what in a configuration, as its rows tell.
 #[derive(Drop)]
 pub struct Users<A: Allocator + Copy> {
+    /// Where their memory is from.
     pub alloc: A,
     /// The names of what uses it. Where nothing uses it any more there may be an empty set.
     pub users: BTreeMap<Used, BTreeSet<Name, A>, A>,

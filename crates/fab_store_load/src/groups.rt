@@ -70,6 +70,7 @@ pub fn host_groups_from<A: Allocator + Copy>(
 /// The parts of storage groups, by name.
 #[derive(Drop)]
 pub struct Parts<A: Allocator + Copy> {
+    /// Where their memory is from.
     pub alloc: A,
     /// The host groups that they serve.
     pub served: BTreeMap<Name, BTreeSet<Name, A>, A>,

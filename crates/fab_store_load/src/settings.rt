@@ -27,7 +27,9 @@ pub struct Setting {
 /// The settings of both fabrics.
 #[derive(Clone, Copy)]
 pub struct Settings {
+    /// The setting of fabric A.
     pub a: Setting,
+    /// The setting of fabric B.
     pub b: Setting,
 }
 

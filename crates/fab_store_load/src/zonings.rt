@@ -47,7 +47,9 @@ fn zoning_of<A: Allocator + Copy>(
 /// The zoning of both fabrics.
 #[derive(Drop)]
 pub struct Zonings<A: Allocator + Copy> {
+    /// The zoning of fabric A.
     pub a: Zoning<A>,
+    /// The zoning of fabric B.
     pub b: Zoning<A>,
 }
 

@@ -33,7 +33,9 @@ pub enum ZoningItem {
 /// Ordered by fabric, then by item.
 #[derive(Clone, Copy, PartialEq, Eq, PartialOrd, Ord)]
 pub struct ZoningRow {
+    /// The fabric whose zoning has it.
     pub fabric: Fabric,
+    /// The item.
     pub item: ZoningItem,
 }
 
@@ -42,8 +44,11 @@ pub struct ZoningRow {
 /// Ordered by fabric, zone, member.
 #[derive(Clone, Copy, PartialEq, Eq, PartialOrd, Ord)]
 pub struct ActiveRow {
+    /// The fabric.
     pub fabric: Fabric,
+    /// The name of the zone.
     pub zone: Name,
+    /// The member.
     pub member: Member,
 }
 
@@ -52,7 +57,9 @@ pub struct ActiveRow {
 /// Ordered by name, tenant.
 #[derive(Clone, Copy, PartialEq, Eq, PartialOrd, Ord)]
 pub struct HostGroupRow {
+    /// Its name.
     pub name: Name,
+    /// Whose it is.
     pub tenant: Name,
 }
 
@@ -62,9 +69,13 @@ pub struct HostGroupRow {
 /// Ordered by name, tenant, array, exposed.
 #[derive(Clone, Copy, PartialEq, Eq, PartialOrd, Ord)]
 pub struct StorageGroupRow {
+    /// Its name.
     pub name: Name,
+    /// Whose it is.
     pub tenant: Name,
+    /// The array that it is on.
     pub array: Name,
+    /// Whether it is exposed: a hidden one gives no path.
     pub exposed: bool,
 }
 
@@ -73,7 +84,9 @@ pub struct StorageGroupRow {
 /// Ordered by kind as listed, then by group.
 #[derive(Clone, Copy, PartialEq, Eq, PartialOrd, Ord)]
 pub enum GroupRow {
+    /// A host group.
     Host(HostGroupRow),
+    /// A storage group.
     Storage(StorageGroupRow),
 }
 
@@ -106,10 +119,15 @@ pub enum PartRow {
 /// Ordered by table as listed, then by row.
 #[derive(Clone, Copy, PartialEq, Eq, PartialOrd, Ord)]
 pub enum ConfigRow {
+    /// A setting of a fabric's zoning.
     Setting(SettingRow),
+    /// An item of an alias, a zone or a zone set.
     Zoning(ZoningRow),
+    /// A member of a zone of an active zone set.
     Active(ActiveRow),
+    /// A host group or a storage group.
     Group(GroupRow),
+    /// A part of a host group or of a storage group.
     Part(PartRow),
 }
 

@@ -8,24 +8,33 @@ use fab_reach_base::names::{Address, Fabric, Name, Place, Wwn};
 /// anywhere, and who holds it if anybody.
 #[derive(Clone, Copy, PartialEq, Eq)]
 pub struct PortEntry {
+    /// Its N_Port_Name.
     pub name: Wwn,
+    /// The Node_Name of its node.
     pub node: Wwn,
+    /// The fabric and the place in it where it is logged in, if anywhere.
     pub at: Option<(Fabric, Place)>,
+    /// The host or the array that holds it, if one does.
     pub holder: Option<Name>,
 }
 
 /// The address of a port: the port's N_Port_Name, and the address that it has where it is logged in.
 #[derive(Clone, Copy, PartialEq, Eq)]
 pub struct AddressRow {
+    /// The N_Port_Name of the port.
     pub port: Wwn,
+    /// The address that it has where it is logged in.
     pub address: Address,
 }
 
 /// A host or an array: its name, which of both it is, and whose it is.
 #[derive(Clone, Copy, PartialEq, Eq)]
 pub struct HolderRow {
+    /// Its name.
     pub name: Name,
+    /// Whether it is a host or an array.
     pub kind: HolderKind,
+    /// Whose it is.
     pub tenant: Name,
 }
 
@@ -33,9 +42,13 @@ pub struct HolderRow {
 /// has, 1 to 9223372036854775807.
 #[derive(Clone, Copy, PartialEq, Eq)]
 pub struct VolumeRow {
+    /// Its name.
     pub name: Name,
+    /// The array that it is on.
     pub array: Name,
+    /// Whose it is.
     pub tenant: Name,
+    /// How many bytes it has: 1 to 9223372036854775807.
     pub bytes: u64,
 }
 
@@ -44,8 +57,12 @@ pub struct VolumeRow {
 pub enum InventoryRow {
     /// A port with its address, which no table has in one row.
     Port(Port),
+    /// A port without its address.
     Entry(PortEntry),
+    /// The address of a port.
     Address(AddressRow),
+    /// A host or an array.
     Holder(HolderRow),
+    /// A volume.
     Volume(VolumeRow),
 }

@@ -17,7 +17,9 @@ use std::collections::BTreeSet;
 /// are added. Each list is in the order of rows.
 #[derive(Drop)]
 pub struct RowDifference<A: Allocator> {
+    /// The rows that are taken away.
     pub taken: Vec<ConfigRow, A>,
+    /// The rows that are added.
     pub added: Vec<ConfigRow, A>,
 }
 

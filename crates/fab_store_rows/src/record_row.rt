@@ -37,11 +37,13 @@ impl PlanState {
 
 /// A plan. A contract sees it as a `PlanEntry`.
 pub struct PlanRow<A: Allocator> {
+    /// Its name.
     pub name: Name,
     /// Who staged it.
     pub author: Name,
     /// The printed form of its steps.
     pub text: String<A>,
+    /// Its state.
     pub state: PlanState,
     /// Its place among the activations in force, 1 for the oldest; 0 where it is not active.
     pub position: u64,
@@ -72,6 +74,7 @@ impl<A: Allocator> Model for PlanRow<A> {
 /// An approval of a plan.
 #[derive(Clone, Copy, PartialEq, Eq)]
 pub struct ApprovalRow {
+    /// The name of the plan.
     pub plan: Name,
     /// Who approved.
     pub caller: Name,
@@ -91,8 +94,11 @@ pub enum Sign {
 /// A row that the activation of an active plan took away or added.
 #[derive(Clone, Copy, PartialEq, Eq)]
 pub struct UndoRow {
+    /// The name of the plan.
     pub plan: Name,
+    /// Whether the row was taken away or added.
     pub sign: Sign,
+    /// The row.
     pub row: ConfigRow,
 }
 
@@ -101,6 +107,8 @@ pub struct UndoRow {
 /// Ordered by host, then by path.
 #[derive(Clone, Copy, PartialEq, Eq, PartialOrd, Ord)]
 pub struct PathRow {
+    /// The host that holds the path's initiator.
     pub host: Name,
+    /// The path.
     pub path: Path,
 }

@@ -21,18 +21,24 @@ pub enum CountRow {
 pub struct TableRows<A: Allocator + Copy> {
     /// Of the settings, those that are none of a configuration.
     pub counts: Vec<CountRow, A>,
+    /// Of ports without their addresses.
     pub ports: Vec<PortEntry, A>,
     /// Of ports that have an address.
     pub addresses: Vec<AddressRow, A>,
+    /// Of hosts and arrays.
     pub holders: Vec<HolderRow, A>,
+    /// Of volumes.
     pub volumes: Vec<VolumeRow, A>,
     /// The settings of both fabrics, the items of aliases, zones and zone sets, the rows of active
     /// zone sets, the groups, and their parts: each row's variant is its table.
     pub config: Vec<ConfigRow, A>,
+    /// Of plans.
     pub plans: Vec<PlanRow<A>, A>,
+    /// Of approvals of plans.
     pub approvals: Vec<ApprovalRow, A>,
     /// What active plans took away and added.
     pub undo: Vec<UndoRow, A>,
+    /// Of paths of hosts.
     pub paths: Vec<PathRow, A>,
 }
 

@@ -14,6 +14,7 @@ use std::marker::Model;
 /// A line of `undo`. A contract sees its columns.
 #[derive(Drop)]
 pub struct UndoLine<A: Allocator + Copy> {
+    /// The name of the plan.
     pub plan: String<A>,
     /// `-` for a row that was taken away, `+` for one that was added.
     pub sign: String<A>,

@@ -24,8 +24,11 @@ pub struct InventoryLists<A: Allocator> {
     pub ports: Vec<Port, A>,
     /// Rows of the table of ports: ports without their addresses.
     pub entries: Vec<PortEntry, A>,
+    /// Addresses of ports.
     pub addresses: Vec<AddressRow, A>,
+    /// Hosts and arrays.
     pub holders: Vec<HolderRow, A>,
+    /// Volumes.
     pub volumes: Vec<VolumeRow, A>,
 }
 
@@ -33,7 +36,9 @@ pub struct InventoryLists<A: Allocator> {
 /// added.
 #[derive(Drop)]
 pub struct InventoryDifference<A: Allocator> {
+    /// The rows that are taken away.
     pub taken: InventoryLists<A>,
+    /// The rows that are added.
     pub added: InventoryLists<A>,
 }
 

@@ -19,7 +19,9 @@ use std::collections::BTreeSet;
 /// those that are added. Each list is in the order of rows of paths.
 #[derive(Drop)]
 pub struct PathRowDifference<A: Allocator> {
+    /// The rows that are taken away.
     pub taken: Vec<PathRow, A>,
+    /// The rows that are added.
     pub added: Vec<PathRow, A>,
 }
 

@@ -21,16 +21,22 @@ use std::io::{Read, Write};
 /// A connection that waits: when it comes, in Unix seconds, and its two sides.
 #[derive(Drop)]
 pub struct Connection<R, W> {
+    /// When it comes, in Unix seconds.
     pub moment: u64,
+    /// The side that requests are read from.
     pub reader: Counted<R>,
+    /// The side that answers are written to.
     pub writer: Counted<W>,
 }
 
 /// A connection that was served: what came of it, and its two sides as it left them.
 #[derive(Drop)]
 pub struct Served<R, W> {
+    /// What came of it.
     pub outcome: Outcome,
+    /// The side that requests were read from.
     pub reader: Counted<R>,
+    /// The side that answers were written to.
     pub writer: Counted<W>,
 }
 

@@ -18,6 +18,7 @@ pub type Waiting<'t> = Connection<Slow<'t>, Breaking>;
 /// writer with what it took.
 #[derive(Drop)]
 pub struct Ending {
+    /// What came of it.
     pub outcome: Outcome,
     failures: (u64, u64),
     writer: Breaking,

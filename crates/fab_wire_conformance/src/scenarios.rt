@@ -11,7 +11,9 @@ pub struct Exchange {
     pub line: usize,
     /// When the request comes, in Unix seconds.
     pub moment: u64,
+    /// The bytes of the request.
     pub request: Vec<u8>,
+    /// The bytes of the answer.
     pub answer: Vec<u8>,
 }
 
@@ -20,12 +22,14 @@ pub struct Exchange {
 pub struct Scenario<'t> {
     /// The number of the line at which it begins, from 1 on.
     pub line: usize,
+    /// Its name.
     pub name: &'t str,
     /// The text of its policy: without a byte where it has that of the scenario before.
     pub policy: Vec<u8>,
     /// How many calls of its desk's store are handed on before one is refused, if one is. The first
     /// call opens the desk.
     pub calls: Option<u64>,
+    /// Its requests with their answers, in order.
     pub exchanges: Vec<Exchange>,
 }
 

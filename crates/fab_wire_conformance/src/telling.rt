@@ -42,10 +42,15 @@ fn lines_of(alloc: Global, bytes: &[u8]) -> Result<String, Fault> {
 /// request's number in it from 1 on, and the words of the way in which it was played.
 #[derive(Clone, Copy)]
 pub struct Place<'t> {
+    /// The path of the file.
     pub path: &'t str,
+    /// The number of the line at which the exchange begins, from 1 on.
     pub line: usize,
+    /// The name of the scenario.
     pub name: &'t str,
+    /// The number of the request in the scenario, from 1 on.
     pub number: usize,
+    /// The words of the way in which it was played.
     pub way: &'t str,
 }
 

@@ -18,7 +18,9 @@ use crate::faults::Fault;
 /// A line's text, or what is left of it, and its number from 1 on.
 #[derive(Clone, Copy)]
 pub struct Line<'t> {
+    /// Its number, from 1 on.
     pub number: usize,
+    /// Its text, or what is left of it.
     pub text: &'t str,
 }
 

@@ -60,7 +60,9 @@ pub(crate) struct Turn {
 pub(crate) struct Room {
     poll: Poll,
     gathering: Gathering,
+    /// When each connection was taken up, by its seat.
     pub starts: Vec<Instant>,
+    /// The lines that wait.
     pub pending: Pending,
     comer: Option<TcpStream>,
     left: u64,

@@ -72,16 +72,22 @@ pub struct End;
 /// A member, and others behind it.
 #[derive(Clone, Copy)]
 pub struct Field<V, R> {
+    /// Its key.
     pub key: &'static str,
+    /// Its value.
     pub value: V,
+    /// The members behind it.
     pub rest: R,
 }
 
 /// A member if there is a value, and others behind it.
 #[derive(Clone, Copy)]
 pub struct Maybe<V, R> {
+    /// Its key.
     pub key: &'static str,
+    /// Its value, if there is one.
     pub value: Option<V>,
+    /// The members behind it.
     pub rest: R,
 }
 
