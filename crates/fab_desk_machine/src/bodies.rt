@@ -7,7 +7,6 @@ ghost use Rattle.fab_reach_base.specs.fab_inventory.Inventories.{IsCapacity, kin
 ghost use Rattle.fab_policy.specs.fab_policy_base.Policies.{PolicyRows};
 
 use fab_desk_base::Command;
-use fab_desk_reads::plan_in;
 use fab_reach_base::inventory::{HolderKind, Inventory, MOST_BYTES, MOST_PORTS_OF_HOLDER};
 use fab_reach_base::names::Name;
 use fab_world::World;
@@ -50,7 +49,7 @@ fn has_holder<A: Allocator + Copy>(inventory: &Inventory<A>, kind: HolderKind, n
 fn has_plan<A: Allocator + Copy>(world: &World<A>, name: &Name) -> bool
     ensures { IsTrue result ↔ HasPlan world.now name.now }
 {
-    match plan_in(world, name) {
+    match world.plan(name) {
         Some(_plan) => true,
         None => false,
     }

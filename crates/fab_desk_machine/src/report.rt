@@ -7,7 +7,6 @@ ghost use Rattle.fab_desk_base.specs.Commands.{IsPlan};
 ghost use Rattle.fab_desk_machine.specs.Reports.{reply_of, Tells};
 
 use fab_desk_base::{Command, Reply};
-use fab_desk_reads::plan_in;
 use fab_reach_base::Delta;
 use fab_reach_base::names::Name;
 use fab_world::{KeptPlan, World};
@@ -93,7 +92,7 @@ fn approvals_with<A: Allocator + Copy>(kept: &KeptPlan<A>, caller: &Name) -> usi
 fn approvals_after<A: Allocator + Copy>(world: &World<A>, plan: &Name, caller: &Name) -> usize
     ensures { (p : PlanRecord) → IsPlan world.now plan.now p → (revision : ℕ) → result ≡ map.len (map.insert p.approvals caller.now revision) }
 {
-    match plan_in(world, plan) {
+    match world.plan(plan) {
         Some(kept) => approvals_with(kept, caller),
         None => 0,
     }

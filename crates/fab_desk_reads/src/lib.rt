@@ -18,6 +18,5 @@ mod records;
 mod zonings;
 
 pub use open::is_open_to;
-pub use parts::plan_in;
 pub use reads::shown;
 pub use records::recorded;

@@ -7,7 +7,7 @@ ghost use Rattle.fab_desk_base.specs.Showing.{AreEntries};
 use fab_policy::Approval;
 use fab_reach_base::names::{Name, Wwn};
 use std::alloc::{AllocError, Allocator};
-use std::collections::{BTreeMap, BTreeSet, btree_map, btree_set};
+use std::collections::{BTreeMap, btree_map, btree_set};
 
 /// The names that are gone through.
 pub fn names_listed<A: Allocator + Copy>(
@@ -41,16 +41,6 @@ pub fn units_listed<A: Allocator + Copy>(
         items.push((*unit, *volume))?;
     }
     Ok(items)
-}
-
-/// The keys of a set.
-pub fn keys_listed<K: Copy + Ord, A: Allocator + Copy>(
-    alloc: A,
-    keys: &BTreeSet<K, A>,
-) -> Result<Vec<K, A>, AllocError>
-    ensures { IfOk result (λ items. items.items ≡ keys.now.keys) }
-{
-    keys.iter().copied().collect(alloc)
 }
 
 /// The approvals of a plan, by the names of the callers.

@@ -6,7 +6,7 @@ ghost use Rattle.fab_desk_base.specs.Showing.{IsOwn, IsOpenTo};
 ghost use Rattle.fab_desk_base.specs.Tenants.{holder, volume, host_group, storage_group};
 
 use crate::holders::holder_tenant;
-use crate::parts::{inventory_in, mapping_in, plan_in, zoning_in};
+use crate::parts::{inventory_in, mapping_in, zoning_in};
 use fab_desk_base::Query;
 use fab_policy::{CallerId, Policy};
 use fab_reach_base::inventory::HolderKind;
@@ -96,7 +96,7 @@ fn are_known<A: Allocator + Copy>(world: &World<A>, port: &Wwn, other: &Wwn) -> 
 fn has_plan<A: Allocator + Copy>(world: &World<A>, name: &Name) -> bool
     ensures { IsTrue result ↔ IsSome (map.get world.now.plans name.now) }
 {
-    plan_in(world, name).is_some()
+    world.plan(name).is_some()
 }
 
 /// Whether the alias is there.

@@ -1,15 +1,13 @@
 //! The parts of a world.
 ghost use Rattle.std.specs.Prelude.{◌≡◌};
-ghost use Rattle.std.specs.FinMap as map;
-ghost use Rattle.std.specs.Option.{option_copied};
 ghost use Rattle.fab_reach_base.specs.Records.{zoning_at};
 
 use fab_reach_base::Config;
 use fab_reach_base::inventory::Inventory;
 use fab_reach_base::mapping::Mapping;
-use fab_reach_base::names::{Fabric, Name};
+use fab_reach_base::names::Fabric;
 use fab_reach_base::zoning::Zoning;
-use fab_world::{KeptPlan, World};
+use fab_world::World;
 use std::alloc::Allocator;
 
 /// The inventory of a world.
@@ -38,11 +36,4 @@ pub fn zoning_in<A: Allocator + Copy>(world: &World<A>, fabric: Fabric) -> &Zoni
     ensures { result.now ≡ zoning_at world.now.config fabric }
 {
     config_in(world).zoning(fabric)
-}
-
-/// The plan of a name in a world.
-pub fn plan_in<'a, A: Allocator + Copy>(world: &'a World<A>, name: &Name) -> Option<&'a KeptPlan<A>>
-    ensures { option_copied result ≡ map.get world.now.plans name.now }
-{
-    world.plans.get(name)
 }

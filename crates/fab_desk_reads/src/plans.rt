@@ -4,7 +4,6 @@ ghost use Rattle.fab_desk_base.specs.declared.command.Query.TheVariants as query
 ghost use Rattle.fab_desk_reads.specs.Recorded.{IsFound};
 
 use crate::listed::approvals_listed;
-use crate::parts::plan_in;
 use fab_desk_base::{Shown, ShownPlan};
 use fab_reach_base::names::Name;
 use fab_world::World;
@@ -21,7 +20,7 @@ pub fn plan_shown<A: Allocator + Copy>(
 ) -> Result<Option<Shown<A>>, AllocError>
     ensures { IfOk result (IsFound world.now (query.Plan name.now)) }
 {
-    let Some(kept) = plan_in(world, name) else {
+    let Some(kept) = world.plan(name) else {
         return Ok(None);
     };
     let plan = kept.plan();

@@ -4,9 +4,9 @@ ghost use Rattle.fab_desk_base.specs.declared.command.Query.TheVariants as query
 ghost use Rattle.fab_desk_reads.specs.Recorded.{IsFound};
 
 use crate::active::active_zones;
-use crate::listed::keys_listed;
 use crate::parts::zoning_in;
 use fab_desk_base::Shown;
+use fab_reach_base::lemmas::keys_listed;
 use fab_reach_base::names::{Fabric, Name};
 use fab_world::World;
 use std::alloc::{AllocError, Allocator};

@@ -1,5 +1,5 @@
 //! The rows of the paths that a change gains and loses.
-ghost use Rattle.std.specs.Prelude.{◌≡◌, IfOk};
+ghost use Rattle.std.specs.Prelude.{IfOk};
 ghost use Rattle.fab_reach_base.specs.fab_lemmas.Lists.{IsListOf};
 ghost use Rattle.fab_reach_base.specs.Books.{IsDelta};
 ghost use Rattle.fab_reach_base.specs.Views.{seen};
@@ -7,21 +7,12 @@ ghost use Rattle.fab_store_world.specs.PathGathering.{IsRowOfSome};
 ghost use Rattle.fab_store_world.specs.Paths.{ArePathChanges, path_row_order};
 ghost use Rattle.fab_desk_base.specs.Keeping.{KeepsHosts};
 
+use fab_reach_base::lemmas::keys_listed;
 use fab_reach_base::{Delta, Path, View};
 use fab_store_rows::PathRow;
 use fab_store_world::{PathRowDifference, add_path_rows};
 use std::alloc::{AllocError, Allocator};
 use std::collections::BTreeSet;
-
-/// The rows of a set, in order.
-fn listed<A: Allocator + Copy>(
-    alloc: A,
-    rows: &BTreeSet<PathRow, A>,
-) -> Result<Vec<PathRow, A>, AllocError>
-    ensures { IfOk result (λ items. items.items ≡ rows.now.keys) }
-{
-    rows.iter().copied().collect(alloc)
-}
 
 /// The rows of paths, each with the host that holds its initiator, in their order.
 fn rows_of<A: Allocator + Copy>(
@@ -34,7 +25,7 @@ fn rows_of<A: Allocator + Copy>(
     let mut rows = BTreeSet::new(alloc);
     add_path_rows(&mut rows, view, paths)?;
     let _count = rows.len();
-    let items = listed(alloc, &rows)?;
+    let items = keys_listed(alloc, &rows)?;
     Ok(items)
 }
 

@@ -6,7 +6,7 @@ ghost use Rattle.fab_policy.specs.declared.act.Approval.{Approval};
 ghost use Rattle.fab_desk_base.specs.Acts.{IsApprovalOf};
 ghost use Rattle.fab_desk_verdicts.specs.Named.{plan_named, approval_of, author_at, plan_author, AreListed};
 
-use crate::named::{named_plan, plan_at, plan_of};
+use crate::named::{named_plan, plan_of};
 use fab_desk_base::Command;
 use fab_policy::Approval;
 use fab_reach_base::names::Name;
@@ -50,7 +50,7 @@ fn approvals_under<A: Allocator + Copy>(
 ) -> Result<Vec<Approval, A>, AllocError>
     ensures { IfOk result (λ list. (x : Approval) → Contains list.items x ↔ IsApprovalOf world.now name.now x) }
 {
-    let Some(kept) = plan_at(world, name) else {
+    let Some(kept) = world.plan(name) else {
         return Ok(Vec::new(alloc));
     };
     let plan = kept.plan();
@@ -81,7 +81,7 @@ pub fn approvals_of<A: Allocator + Copy>(
 fn author_under<A: Allocator + Copy>(world: &World<A>, name: &Name) -> Option<Name>
     ensures { result ≡ author_at world.now name.now }
 {
-    let Some(kept) = plan_at(world, name) else {
+    let Some(kept) = world.plan(name) else {
         return None;
     };
     let plan = kept.plan();

@@ -1,7 +1,5 @@
 //! What a command says of itself, and the plan that it names.
 ghost use Rattle.std.specs.Prelude.{◌≡◌, ◌↔◌, Contains, IfOk};
-ghost use Rattle.std.specs.FinMap as map;
-ghost use Rattle.std.specs.Option.{option_copied};
 ghost use Rattle.fab_reach_base.specs.Views.{seen};
 ghost use Rattle.fab_world.specs.fab_plans_base.Steps.{PlanStep};
 ghost use Rattle.fab_world.specs.Worlds.{WorldRows, records_of};
@@ -12,8 +10,8 @@ use fab_desk_base::Command;
 use fab_policy::Action;
 use fab_reach_base::View;
 use fab_reach_base::names::Name;
+use fab_world::World;
 use fab_world::plans::base::Step;
-use fab_world::{KeptPlan, World};
 use std::alloc::{AllocError, Allocator};
 
 /// What the command does, as a policy names it; a read has no action.
@@ -67,13 +65,6 @@ pub fn view_of<A: Allocator + Copy>(world: &World<A>) -> View<'_, A>
     View::of(&world.inventory, &world.config)
 }
 
-/// The plan of this name, where there is one.
-pub fn plan_at<'a, A: Allocator + Copy>(world: &'a World<A>, name: &Name) -> Option<&'a KeptPlan<A>>
-    ensures { option_copied result ≡ map.get world.now.plans name.now }
-{
-    world.plans.get(name)
-}
-
 /// The steps of the plan of this name, read from its text; none where there is no such plan.
 ///
 /// # Errors
@@ -85,7 +76,7 @@ fn steps_under<A: Allocator + Copy>(
 ) -> Result<Vec<Step<A>, A>, AllocError>
     ensures { IfOk result (λ steps. (s : PlanStep) → Contains steps.items s ↔ commands.PlanHasStep world.now (Some name.now) s) }
 {
-    let Some(kept) = plan_at(world, name) else {
+    let Some(kept) = world.plan(name) else {
         return Ok(Vec::new(alloc));
     };
     let plan = kept.plan();

@@ -11,6 +11,7 @@ use crate::steps::add_steps;
 use crate::things::{add_holder, add_tenant, add_volume};
 use fab_desk_base::Command;
 use fab_reach_base::inventory::{HolderKind, Inventory};
+use fab_reach_base::lemmas::keys_listed;
 use fab_reach_base::names::Name;
 use fab_world::World;
 use fab_world::plans::base::Step;
@@ -87,16 +88,6 @@ fn add_named<A: Allocator + Copy>(
     Ok(())
 }
 
-/// The tenants of a set, in order.
-fn listed<A: Allocator + Copy>(
-    alloc: A,
-    tenants: &BTreeSet<Name, A>,
-) -> Result<Vec<Name, A>, AllocError>
-    ensures { IfOk result (λ list. list.items ≡ tenants.now.keys) }
-{
-    tenants.iter().copied().collect(alloc)
-}
-
 /// The tenants whose things the command of this caller touches: of its body and its plan, and the
 /// moved ones. The steps are those of its plan.
 ///
@@ -116,6 +107,6 @@ pub fn touched<A: Allocator + Copy>(
 {
     let mut tenants = moved.clone()?;
     add_named(&mut tenants, world, command, steps)?;
-    let list = listed(alloc, &tenants)?;
+    let list = keys_listed(alloc, &tenants)?;
     Ok(list)
 }

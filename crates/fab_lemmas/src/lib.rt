@@ -9,5 +9,5 @@ mod listed;
 mod room;
 
 pub use least::lesser;
-pub use listed::set_of;
+pub use listed::{keys_listed, set_of};
 pub use room::is_full;

@@ -1,4 +1,4 @@
-//! A set made of a list.
+//! Sets and lists.
 ghost use Rattle.std.specs.Prelude.{◌≡◌, IfOk};
 ghost use Rattle.std.specs.List.{list_any};
 ghost use Rattle.std.specs.Ordering.{eq_by_cmp};
@@ -22,4 +22,17 @@ pub fn set_of<K: Ord + Copy + Drop, A: Allocator + Copy>(
         set.insert(*key)?;
     }
     Ok(set)
+}
+
+/// The keys of a set, in their order.
+///
+/// # Errors
+/// `AllocError` where there is no memory.
+pub fn keys_listed<K: Copy + Ord, A: Allocator + Copy>(
+    alloc: A,
+    keys: &BTreeSet<K, A>,
+) -> Result<Vec<K, A>, AllocError>
+    ensures { IfOk result (λ items. items.items ≡ keys.now.keys) }
+{
+    keys.iter().copied().collect(alloc)
 }

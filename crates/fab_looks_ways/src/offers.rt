@@ -10,6 +10,7 @@ ghost use Rattle.fab_reach_base.specs.Adding.{Adds};
 ghost use Rattle.fab_reach_base.specs.Gathering.{Serves};
 
 use fab_looks_base::serves;
+use fab_reach_base::lemmas::keys_listed;
 use fab_reach_base::mapping::{Mapping, StorageGroup};
 use fab_reach_base::names::Name;
 use std::alloc::{AllocError, Allocator};
@@ -52,19 +53,6 @@ fn add_offers<A: Allocator + Copy>(
     Ok(())
 }
 
-/// The keys of a set, in order.
-///
-/// # Errors
-/// `AllocError` where there is no memory.
-pub fn listed<K: Copy + Ord, A: Allocator + Copy>(
-    alloc: A,
-    keys: &BTreeSet<K, A>,
-) -> Result<Vec<K, A>, AllocError>
-    ensures { IfOk result (λ items. items.items ≡ keys.now.keys) }
-{
-    keys.iter().copied().collect(alloc)
-}
-
 /// Those of the storage groups that are exposed and serve the host, in order.
 ///
 /// # Errors
@@ -80,7 +68,7 @@ pub fn offers_of<A: Allocator + Copy>(
     let mut offers = BTreeSet::new(alloc);
     add_offers(&mut offers, mapping, names, host)?;
     let _count = offers.len();
-    let items = listed(alloc, &offers)?;
+    let items = keys_listed(alloc, &offers)?;
     Ok(items)
 }
 
@@ -146,6 +134,6 @@ pub fn units_of<A: Allocator + Copy>(
     let mut units = BTreeSet::new(alloc);
     add_all_named(&mut units, mapping, volume, names)?;
     let _count = units.len();
-    let items = listed(alloc, &units)?;
+    let items = keys_listed(alloc, &units)?;
     Ok(items)
 }

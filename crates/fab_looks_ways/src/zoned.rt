@@ -10,8 +10,8 @@ ghost use Rattle.fab_reach_base.specs.Adding.{Adds};
 ghost use Rattle.fab_reach_base.specs.Records.{zoning_at};
 ghost use Rattle.fab_reach_base.specs.fab_zoning_rows.PortZones.{in_zones};
 
-use crate::offers::listed;
 use fab_reach_base::inventory::Port;
+use fab_reach_base::lemmas::keys_listed;
 use fab_reach_base::names::{Fabric, Name};
 use fab_reach_base::zoning::rows::PortZones;
 use fab_world::World;
@@ -96,6 +96,6 @@ pub fn zoned_at<A: Allocator + Copy>(
     let zones = world.config.zoning(fabric).zones_of(port);
     let names = names_of(alloc, &zones)?;
     let _count = names.len();
-    let items = listed(alloc, &names)?;
+    let items = keys_listed(alloc, &names)?;
     Ok(told_as(&items))
 }

@@ -13,10 +13,11 @@ ghost use Rattle.fab_store_rows.specs.AtKeys.{RowOfAny, IsActiveSetRow, IsDefaul
 use crate::gathering::{
     add_active, add_group_lacking, add_host_group_lacking, add_row, add_set_lacking,
 };
-use crate::listing::{RowDifference, listed};
+use crate::listing::RowDifference;
 use crate::makers::{Aliases, Maker, ZoneSets, Zones};
 use crate::{ConfigRow, RowKey, SettingRow};
 use fab_reach_base::Config;
+use fab_reach_base::lemmas::keys_listed;
 use fab_reach_base::mapping::Mapping;
 use fab_reach_base::names::{Fabric, Name};
 use fab_reach_base::zoning::Zoning;
@@ -158,7 +159,7 @@ fn rows_at<A: Allocator + Copy>(
     let mut rows = BTreeSet::new(alloc);
     add_at_each(&mut rows, Some(without), config, keys)?;
     let _count = rows.len();
-    let items = listed(alloc, &rows)?;
+    let items = keys_listed(alloc, &rows)?;
     Ok(items)
 }
 

@@ -1,5 +1,5 @@
 //! All rows of a configuration, and the differences of two.
-ghost use Rattle.std.specs.Prelude.{◌≡◌, IfOk};
+ghost use Rattle.std.specs.Prelude.{IfOk};
 ghost use Rattle.std.specs.Option.{option_copied};
 ghost use Rattle.fab_reach_base.specs.fab_lemmas.Lists.{IsListOf};
 ghost use Rattle.fab_store_rows.specs.RowOrder.{row_order};
@@ -10,6 +10,7 @@ ghost use Rattle.fab_store_rows.specs.Differences.{IsDifference};
 use crate::ConfigRow;
 use crate::gathering::add_all;
 use fab_reach_base::Config;
+use fab_reach_base::lemmas::keys_listed;
 use std::alloc::{AllocError, Allocator};
 use std::collections::BTreeSet;
 
@@ -23,16 +24,6 @@ pub struct RowDifference<A: Allocator> {
     pub added: Vec<ConfigRow, A>,
 }
 
-/// The rows of a set, in order.
-pub fn listed<A: Allocator + Copy>(
-    alloc: A,
-    rows: &BTreeSet<ConfigRow, A>,
-) -> Result<Vec<ConfigRow, A>, AllocError>
-    ensures { IfOk result (λ items. items.items ≡ rows.now.keys) }
-{
-    rows.iter().copied().collect(alloc)
-}
-
 /// The rows of a configuration, but for those that stand in another that is given.
 fn rows_without<'a, A: Allocator + Copy>(
     alloc: A,
@@ -44,7 +35,7 @@ fn rows_without<'a, A: Allocator + Copy>(
     let mut rows = BTreeSet::new(alloc);
     add_all(&mut rows, without, config)?;
     let _count = rows.len();
-    let items = listed(alloc, &rows)?;
+    let items = keys_listed(alloc, &rows)?;
     Ok(items)
 }
 

@@ -1,5 +1,5 @@
 //! The paths that lines of paths show.
-ghost use Rattle.std.specs.Prelude.{◌↔◌, ◌≡◌, IfOk, MatchOption};
+ghost use Rattle.std.specs.Prelude.{◌↔◌, IfOk, MatchOption};
 ghost use Rattle.fab_store_columns.specs.RecordLines.{ShowsPath};
 ghost use Rattle.fab_reach_base.specs.Orders.{Has, IsListOf};
 ghost use Rattle.fab_reach_base.specs.declared.path.Path.{Path};
@@ -7,6 +7,7 @@ ghost use Rattle.fab_store_tables.specs.Paths.{IsPathOf};
 ghost use Rattle.fab_store_tables.specs.Reading.{HasOdd};
 
 use fab_reach_base::Path;
+use fab_reach_base::lemmas::keys_listed;
 use fab_store_columns::PathLine;
 use std::alloc::{AllocError, Allocator, Global};
 use std::collections::BTreeSet;
@@ -28,16 +29,6 @@ fn path_set<A: Allocator + Copy>(
     Ok(Some(paths))
 }
 
-/// The paths of a set, in order.
-fn listed<A: Allocator + Copy>(
-    alloc: A,
-    paths: &BTreeSet<Path, A>,
-) -> Result<Vec<Path, A>, AllocError>
-    ensures { IfOk result (λ items. items.items ≡ paths.now.keys) }
-{
-    paths.iter().copied().collect(alloc)
-}
-
 /// The paths that lines of paths show, each once and in order, or none where a line shows no row.
 ///
 /// # Errors
@@ -52,6 +43,6 @@ pub fn paths_in<A: Allocator + Copy>(
         return Ok(None);
     };
     let _count = set.len();
-    let paths = listed(alloc, &set)?;
+    let paths = keys_listed(alloc, &set)?;
     Ok(Some(paths))
 }

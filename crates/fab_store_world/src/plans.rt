@@ -8,6 +8,7 @@ ghost use Rattle.fab_store_world.specs.Parts.{rows_at, approvals_at, standing_in
 ghost use Rattle.fab_world.specs.fab_plans_kept.Texts.{IsTextOf};
 ghost use Rattle.fab_store_world.specs.PlanRows.{IsInOrder, ChangesInOrder, ArePlanRows};
 
+use fab_reach_base::lemmas::keys_listed;
 use fab_reach_base::names::Name;
 use fab_world::load::rows::{ConfigRow, PlanRow, PlanState, RowDifference};
 use fab_world::plans::{Active, Plan, PlanText, RolledBack, Staged, Withdrawn};
@@ -26,16 +27,6 @@ pub struct PlanParts<A: Allocator + Copy> {
     pub added: BTreeMap<Name, BTreeSet<ConfigRow, A>, A>,
 }
 
-/// The rows of a set.
-fn keys_of<A: Allocator + Copy>(
-    alloc: A,
-    rows: &BTreeSet<ConfigRow, A>,
-) -> Result<Vec<ConfigRow, A>, AllocError>
-    ensures { IfOk result (λ items. items.items ≡ rows.now.keys) }
-{
-    rows.iter().copied().collect(alloc)
-}
-
 /// The rows of a set, in order.
 fn listed<A: Allocator + Copy>(
     alloc: A,
@@ -46,7 +37,7 @@ fn listed<A: Allocator + Copy>(
 {
     // The length tells that the set is in order.
     let _count = rows.len();
-    let items = keys_of(alloc, rows)?;
+    let items = keys_listed(alloc, rows)?;
     Ok(items)
 }
 

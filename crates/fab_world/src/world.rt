@@ -1,5 +1,7 @@
 //! The world of the desk.
 ghost use Rattle.std.specs.Prelude.{◌≡◌, ◌↔◌, IsTrue, IfOk};
+ghost use Rattle.std.specs.FinMap as map;
+ghost use Rattle.std.specs.Option.{option_copied};
 ghost use Rattle.fab_world.specs.Soundness.{IsSound};
 ghost use Rattle.fab_world.specs.Worlds.{new_world};
 
@@ -75,6 +77,13 @@ impl<A: Allocator + Copy> World<A> {
             order: Vec::new(alloc),
             revision: 0,
         }
+    }
+
+    /// The plan of the name, in whatever state, if there is one. It takes no memory.
+    pub fn plan(&self, name: &Name) -> Option<&KeptPlan<A>>
+        ensures { option_copied result ≡ map.get self.now.plans name.now }
+    {
+        self.plans.get(name)
     }
 
     /// Whether the world is sound. Besides its paths and the names of the order it has one earlier
