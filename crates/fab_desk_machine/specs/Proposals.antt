@@ -1,5 +1,5 @@
--- What is proposed for a request, and what a list of requests is answered.
-use Rattle.std.specs.Prelude.{ℕ, ◌≡◌, ◌⊎◌, List, [], ◌∷◌, Option, None, Some, slice_get}
+-- What is proposed for a request, and what is answered to it.
+use Rattle.std.specs.Prelude.{ℕ, ◌≡◌, ◌⊎◌, List, Option, None, Some, slice_get}
 use Rattle.fab_policy.specs.fab_policy_base.Callers.{IsOnlyWith}
 use Rattle.fab_policy.specs.fab_policy_base.Policies.{CallerRow, PolicyRows}
 use Rattle.fab_reach_base.specs.Records.{Records}
@@ -89,14 +89,6 @@ asked_of q = request_of q.token.now q.moment q.command
 -- counts as not made
 abbrev pub IsAnswered : {A : Type 0} → PolicyRows → WorldRows → Request A → Reply A → WorldRows → Type 0
 IsAnswered p w q r new = (IsMemory r × (new ≡ w)) ⊎ IsStep p w q r new
-
--- the requests, in their order, are answered so, and lead from one world to the other; those that are
--- answered for want of memory count as not made
-abbrev pub AreAnswered : {A : Type 0} → PolicyRows → WorldRows → List (Request A) → List (Reply A) → WorldRows → Type 0
-AreAnswered p w [] [] new = new ≡ w
-AreAnswered p w [] (r ∷ rs) new = ⊥
-AreAnswered p w (q ∷ qs) [] new = ⊥
-AreAnswered p w (q ∷ qs) (r ∷ rs) new = (next : WorldRows) × IsAnswered p w q r next × AreAnswered p next qs rs new
 
 -- ---- the sender
 

@@ -1,8 +1,7 @@
 //! Requests answered in memory.
-ghost use Rattle.std.specs.Prelude.{◌≡◌, IfOk, OnErr, map};
 ghost use Rattle.fab_world.specs.Soundness.{IsSound};
 ghost use Rattle.fab_world.specs.Worlds.{records_of};
-ghost use Rattle.fab_desk_machine.specs.Proposals.{AreAnswered, CountsStep, IsAccepted, IsAnswered, IsEffectOf, asked_of, request_of};
+ghost use Rattle.fab_desk_machine.specs.Proposals.{CountsStep, IsAccepted, IsAnswered, IsEffectOf, request_of};
 
 use crate::change::carry_through;
 use crate::proposing::{Proposal, propose_on_copies};
@@ -10,7 +9,7 @@ use fab_desk_base::{Command, Reply};
 use fab_policy::base::Policy;
 use fab_reach_books::PathBook;
 use fab_world::World;
-use std::alloc::{AllocError, Allocator};
+use std::alloc::Allocator;
 
 /// A request: the token that its sender shows, when it comes, in Unix seconds, and its command.
 #[derive(Drop)]
@@ -23,8 +22,8 @@ pub struct Asked<'a, A: Allocator + Copy> {
     pub command: Command<A>,
 }
 
-/// Answers a request in memory: what `propose` says, and a change is taken over at once. Want of
-/// memory is answered `Memory`, and nothing is changed.
+/// Answers a request in memory, for a desk that has no store: what `propose` says, and a change is taken
+/// over at once. Want of memory is answered `Memory`, and nothing is changed.
 pub fn answer<A: Allocator + Copy, B: PathBook<A>>(
     alloc: A,
     world: &mut World<A>,
@@ -45,39 +44,4 @@ pub fn answer<A: Allocator + Copy, B: PathBook<A>>(
         Proposal::Answer(reply) => reply,
         Proposal::Ready(change) => carry_through(alloc, change, world, book),
     }
-}
-
-/// Answers requests in memory, one after the other, each on the world that the one before left.
-/// Room for all replies is taken first.
-///
-/// # Errors
-/// `AllocError` where there is no memory for the replies: then none was answered, the world is as it
-/// was, and the book stands at it.
-pub fn answer_all<'a, A: Allocator + Copy, B: PathBook<A>>(
-    alloc: A,
-    world: &mut World<A>,
-    book: &mut B,
-    policy: &Policy,
-    requests: Vec<Asked<'a, A>, A>,
-) -> Result<Vec<Reply<A>, A>, AllocError>
-    requires sound { IsSound world.old }
-    requires stands { B.stands book.old (records_of world.old) }
-    ensures sound { IsSound world.new }
-    ensures stands { B.stands book.new (records_of world.new) }
-    ensures answers { IfOk result (λ replies. AreAnswered policy.now world.old (map asked_of requests.entry.items) replies.items world.new) }
-    ensures kept { OnErr result (world.new ≡ world.old) }
-{
-    let mut replies = Vec::with_capacity(alloc, requests.len())?;
-    for asked in requests {
-        replies.push_reserved(answer(
-            alloc,
-            world,
-            book,
-            policy,
-            asked.token,
-            asked.moment,
-            asked.command,
-        ));
-    }
-    Ok(replies)
 }

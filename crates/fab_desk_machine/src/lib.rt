@@ -15,7 +15,7 @@ mod proposing;
 mod report;
 mod verdicts;
 
-pub use answers::{Asked, answer, answer_all};
+pub use answers::{Asked, answer};
 pub use change::{Change, adopt, carry_through, lists_of, take_over};
 pub use fab_desk_base as base;
 pub use fab_desk_reads as reads;

@@ -21,6 +21,5 @@ pub use fault::{LoadFault, Table};
 pub use inventory::inventory_of;
 pub use kind::{Kind, Value};
 pub use kinds::Head;
-pub use maps::map_of;
 pub use nested::maps_of;
 pub use sets::sets_of;

@@ -17,5 +17,4 @@ pub use fab_store_load as load;
 pub use history::{earlier, has_sound_history};
 pub use kept::is_active_at;
 pub use limits::{MOST_CHANGES, MOST_PLANS};
-pub use present::has_few_paths;
 pub use world::World;
