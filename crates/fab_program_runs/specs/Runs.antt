@@ -21,7 +21,7 @@ use Rattle.fab_program_words.specs.declared.words.Words.{Words}
 use Rattle.fab_program_words.specs.declared.words.Words.TheVariants as words
 use Rattle.fab_program_checks.specs.Checks.{CheckComes}
 use Rattle.fab_program_checks.specs.declared.modes.Modes as modes
-use Rattle.fab_program_explains.specs.Explains.{ExplainComes, now_in}
+use Rattle.fab_program_checks.specs.Explains.{ExplainComes, now_in}
 use Rattle.fab_program_commands.specs.Commands.{DryRunComes, ImportComes, ShowComes}
 use Rattle.fab_program_desks.specs.Databases.{IsMade}
 use Rattle.fab_program_desks.specs.Desks.{ProgramDesk}

@@ -17,7 +17,7 @@ use fab_files::End;
 use fab_program_checks::{Modes, check};
 use fab_program_commands::{dry_run, export, import, paths, report};
 use fab_program_desks::{Addresses, Databases, make};
-use fab_program_explains::{explain, now_in};
+use fab_program_checks::{explain, now_in};
 use fab_program_options::{WordsFault, read_words};
 use fab_program_outside::{Fault, Files, Machine, fail, moment_of, refuse_text};
 use fab_program_serving::{Front, once, serve};

@@ -2,7 +2,7 @@
 ghost use Rattle.std.specs.Prelude.{◌≡◌, OnOk, IfOk, map, option_map};
 ghost use Rattle.fab_names.specs.Names.{SpellsName};
 ghost use Rattle.fab_program_words.specs.Lists.{SpellsApproval, parts_of};
-ghost use Rattle.fab_program_deeds.specs.Parts.{AddsRead, AreRead, AreReadIn};
+ghost use Rattle.fab_program_checks.specs.Parts.{AddsRead, AreRead, AreReadIn};
 
 use fab_names::Name;
 use fab_policy::Approval;

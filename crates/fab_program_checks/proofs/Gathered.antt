@@ -1,7 +1,7 @@
 -- What was read of the parts so far, and of the next.
 use Rattle.std.proofs.Common.{◌≡◌, ℕ, ◌+◌, ◌<◌, ◌≤◌, inl, inr, List, [], ◌∷◌, ◌++◌, length, map, get_or, drop, refl, sym, subst, append_assoc, append-nil, add-one, drop-cons}
 use Rattle.std.proofs.lemmas.List.{drop_all}
-use Rattle.fab_program_deeds.specs.Parts.{AddsRead, AreRead}
+use Rattle.fab_program_checks.specs.Parts.{AddsRead, AreRead}
 
 module _ {X : Type 0} (Spells : List ℕ → X → Type 0) (all : List X → Type 0) where
   -- what a part spells, and those behind it

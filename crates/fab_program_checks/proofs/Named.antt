@@ -6,7 +6,7 @@ use Rattle.std.proofs.lemmas.Option.{slice_get_read}
 use mathlib.Core.Bool.{true≢false}
 use Rattle.fab_policy_base.specs.Callers.{is_same, HasToken, IsOnlyWith}
 use Rattle.fab_policy_base.specs.Policies.{CallerRow, PolicyRows}
-use Rattle.fab_program_deeds.specs.Deeds.{IsNamed}
+use Rattle.fab_program_checks.specs.Deeds.{IsNamed}
 
 -- the caller at the place has the name
 pub named : (cs : List CallerRow) (i : ℕ) (c : CallerRow) (name : List ℕ) → i < length cs → c ≡ get_or cs i c → is_same c.name name ≡ true → IsSomeAnd (slice_get cs i) (λ c. c.name ≡ name)

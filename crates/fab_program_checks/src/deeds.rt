@@ -4,9 +4,9 @@ ghost use Rattle.fab_policy_base.specs.Callers.{HasToken, IsOnlyWith, is_same};
 ghost use Rattle.fab_names.specs.Names.{SpellsName};
 ghost use Rattle.fab_policy_looks.specs.Flaws as flaws;
 ghost use Rattle.fab_program_words.specs.Lists.{SpellsApproval};
-ghost use Rattle.fab_program_deeds.specs.Deeds as deeds;
-ghost use Rattle.fab_program_deeds.specs.Deeds.{IsActOf, IsCallerNamed, IsPlanOf};
-ghost use Rattle.fab_program_deeds.specs.Parts.{AreReadIn};
+ghost use Rattle.fab_program_checks.specs.Deeds as deeds;
+ghost use Rattle.fab_program_checks.specs.Deeds.{IsActOf, IsCallerNamed, IsPlanOf};
+ghost use Rattle.fab_program_checks.specs.Parts.{AreReadIn};
 
 use fab_names::{Fabric, Name};
 use fab_policy::{Act, Action, Approval, Caller, CallerId, PlanApprovals, Policy};

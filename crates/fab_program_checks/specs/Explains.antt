@@ -21,7 +21,7 @@ use Rattle.fab_program_outside.specs.Printing.{Prints}
 use Rattle.fab_program_outside.specs.declared.faults.Fault.{Fault}
 use Rattle.fab_program_outside.specs.declared.faults.Fault.TheVariants as fault
 use Rattle.fab_program_outside.specs.declared.files.Files as files
-use Rattle.fab_program_deeds.specs.Deeds.{IsActOf, IsCallerNamed}
+use Rattle.fab_program_checks.specs.Deeds.{IsActOf, IsCallerNamed}
 
 -- it is done where the act is allowed
 abbrev pub end_of_verdict : Verdict → End

@@ -2,16 +2,17 @@
 ghost use Rattle.std.specs.Prelude.{◌≡◌};
 ghost use Rattle.fab_files_policy.specs.Findings.{explained_text};
 ghost use Rattle.fab_files_policy.specs.Shown.{policy_text};
-ghost use Rattle.fab_program_explains.specs.Explains as explains;
-ghost use Rattle.fab_program_explains.specs.Explains.{ExplainComes, ExplainsAct, ExplainsDeed, ExplainsOf, ExplainsUnder, end_of_verdict, nobody_line};
+ghost use Rattle.fab_program_checks.specs.Explains as explains;
+ghost use Rattle.fab_program_checks.specs.Explains.{ExplainComes, ExplainsAct, ExplainsDeed, ExplainsOf, ExplainsUnder, end_of_verdict, nobody_line};
 ghost use Rattle.fab_wire_streams.specs.Taking.{Takes};
 
+use crate::deeds::{act_of, caller_named};
+use crate::parts::{approvals_in, names_in};
 use fab_files::{End, Printable};
 use fab_files_policy::{put_explained, put_policy};
 use fab_names::Name;
 use fab_policy::{Act, CallerId, Policy, Verdict, decide};
 use fab_policy_looks::{RuleFinding, find_rules};
-use fab_program_deeds::{act_of, approvals_in, caller_named, names_in};
 use fab_program_outside::{Fault, Files, policy_of, print_as};
 use fab_program_words::{Deed, Explain, ExplainOf};
 use fab_wire_streams::sink::{Sink, put_all};

@@ -1,5 +1,5 @@
-use Rattle.fab_program_explains.specs.Explains.{nobody_line}
-use Rattle.fab_program_explains.proofs.explaining.put_nobody.Goals as goal
+use Rattle.fab_program_checks.specs.Explains.{nobody_line}
+use Rattle.fab_program_checks.proofs.explaining.put_nobody.Goals as goal
 
 pub returns : goal.returns
 unfolding nobody_line

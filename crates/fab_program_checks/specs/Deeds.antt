@@ -15,7 +15,7 @@ use Rattle.fab_program_words.specs.declared.words.ActionWord.TheVariants as word
 use Rattle.fab_program_words.specs.declared.words.Deed.{Deed}
 use Rattle.fab_program_words.specs.declared.words.NamedFabrics.{NamedFabrics}
 use Rattle.fab_program_words.specs.declared.words.NamedFabrics.TheVariants as named
-use Rattle.fab_program_deeds.specs.Parts.{AreReadIn}
+use Rattle.fab_program_checks.specs.Parts.{AreReadIn}
 
 -- the caller at the place has the name
 abbrev pub IsNamed : PolicyRows → List ℕ → ℕ → Type 0
