@@ -2,14 +2,13 @@
 use Rattle.std.proofs.Common.{ℕ, ◌≡◌, ◌<◌, ◌↔◌, List, refl, subst, arith}
 use Rattle.fab_reach_base.specs.fab_inventory.declared.holder.HolderKind.TheVariants as kind
 use Rattle.fab_world.specs.Worlds.{WorldRows}
-use Rattle.fab_desk_base.specs.Refusals.{Check, plan_state, own_name, records, others, free_ports, no_user, no_volume, not_author, last_in_force, nothing_gone, steps_done, room, few_paths, few_changes, place_of, FailsWith, HasManyPaths, MakesManyPaths, Fails, IsFirstFault, IsDone}
+use Rattle.fab_desk_base.specs.Refusals.{Check, plan_state, own_name, records, others, free_ports, no_user, no_volume, not_author, last_in_force, nothing_gone, steps_done, room, few_paths, few_changes, place_of, FailsWith, HasManyChanges, HasManyPaths, MakesManyPaths, Fails, IsFirstFault, IsDone}
 use Rattle.fab_desk_base.specs.Trying.{IsOfRecords, IsMade}
 use Rattle.fab_desk_base.specs.declared.command.Command.{Command}
 use Rattle.fab_desk_base.specs.declared.command.Command.TheVariants.{Import, PutHolder, PutVolume, DropHolder, DropVolume, Stage, Withdraw, Approve, DryRun, Activate, Rollback, Show}
 use Rattle.fab_desk_base.specs.declared.fault.DeskFault.{DeskFault}
 use Rattle.fab_desk_base.specs.declared.fault.DeskFault.TheVariants as fault
 use Rattle.fab_desk_base.specs.declared.fault.DeskLimit.TheVariants.{Paths, Changes}
-use Rattle.fab_desk_base.specs.Laws.{HasManyChanges}
 use Rattle.fab_desk_base.proofs.OneEffect.{one_effect}
 
 -- ---- the two limits are checked of each command

@@ -1,22 +1,13 @@
 -- Words of the laws of what the desk answers.
-use Rattle.std.specs.Prelude.{ℕ, ◌≡◌, ◌≤◌, ◌↔◌, List, Contains, None, IsSome, true}
+use Rattle.std.specs.Prelude.{ℕ, ◌≡◌, ◌↔◌, List, Contains, None, IsSome}
 use Rattle.fab_policy.specs.fab_policy_base.Policies.{RuleRow, PolicyRows}
 use Rattle.fab_policy.specs.fab_policy_base.declared.policy.Action.{Action}
 use Rattle.fab_policy.specs.fab_policy_base.declared.policy.Action.TheVariants as action
 use Rattle.fab_reach_base.specs.declared.book.Delta.{Delta}
 use Rattle.fab_world.specs.Worlds.{WorldRows}
-use Rattle.fab_world.specs.declared.limits.TheConstants.{MOST_CHANGES}
-use Rattle.fab_desk_base.specs.Commands.{is_counted}
-use Rattle.fab_desk_base.specs.declared.command.Command.{Command}
 use Rattle.fab_desk_base.specs.declared.fault.DeskFault.{DeskFault}
 use Rattle.fab_desk_base.specs.declared.reply.Reply.{Reply}
 use Rattle.fab_desk_base.specs.declared.reply.Reply.TheVariants as reply
-
--- ---- limits
-
--- the revision counts the command, and there were as many changes as there may be
-abbrev pub HasManyChanges : {A : Type 0} → WorldRows → Command A → Type 0
-HasManyChanges w c = (is_counted c ≡ true) × (MOST_CHANGES ≤ w.revision)
 
 -- ---- one answer
 

@@ -113,6 +113,14 @@ HasManyPaths w = MoreThan MOST_PATHS (Reaches (records_of w))
 abbrev pub MakesManyPaths : {A : Type 0} → WorldRows → List ℕ → Command A → Type 0
 MakesManyPaths w caller c = (new : WorldRows) × Makes w caller c new × HasManyPaths new
 
+-- there may be one change more, where the command counts as one
+abbrev pub MayCount : {A : Type 0} → WorldRows → Command A → Type 0
+MayCount w c = is_counted c ≡ true → w.revision < MOST_CHANGES
+
+-- the revision counts the command, and there were as many changes as there may be
+abbrev pub HasManyChanges : {A : Type 0} → WorldRows → Command A → Type 0
+HasManyChanges w c = (is_counted c ≡ true) × (MOST_CHANGES ≤ w.revision)
+
 -- which fault each check of a command gives, where it fails; the caller of this name sends it
 abbrev pub Fails : {A : Type 0} → WorldRows → List ℕ → Command A → Check → DeskFault → Type 0
 Fails w caller (Withdraw n) plan_state = λ r. (s : PlanState) × FailsWith (fault.WrongState s) (IsInOtherState w n state.Staged s) r
@@ -139,7 +147,7 @@ Fails w caller (PutHolder k n t ports) room = FailsWith (fault.Limit Holders) (I
 Fails w caller (PutVolume n x) room = FailsWith (fault.Limit Volumes) (IsFull w.inventory.volumes n most_volumes)
 Fails w caller (Stage n steps) room = FailsWith (fault.Limit Plans) (IsFull w.plans n MOST_PLANS)
 Fails w caller c few_paths = FailsWith (fault.Limit Paths) (MakesManyPaths w caller c)
-Fails w caller c few_changes = FailsWith (fault.Limit Changes) ((is_counted c ≡ true) × (MOST_CHANGES ≤ w.revision))
+Fails w caller c few_changes = FailsWith (fault.Limit Changes) (HasManyChanges w c)
 Fails w caller c _ = λ r. ⊥
 
 -- the first check that fails: it gives this fault, and none before it fails

@@ -13,6 +13,7 @@ use Rattle.fab_desk_commands.specs.Nexts.{next_world, Suits, TellsRows}
 use Rattle.fab_desk_commands.specs.Trials.{IsSoundAfter}
 use Rattle.fab_desk_commands.specs.declared.next.Next.{Next}
 use Rattle.fab_desk_commands.specs.declared.next.Next.TheVariants.{Same, Stock, Staged, Turned, Reconfigured}
+use Rattle.fab_desk_base.specs.Refusals.{MayCount}
 use Rattle.fab_desk_base.specs.Answers.{IsThere}
 use Rattle.fab_desk_base.specs.Commands.{is_counted, tried}
 use Rattle.fab_desk_base.specs.Effects.{counted, staged_plan, with_inventory, with_plan}
@@ -21,7 +22,7 @@ use Rattle.fab_desk_base.specs.declared.command.Command.{Command}
 use Rattle.fab_desk_base.specs.declared.command.Command.TheVariants.{Stage}
 use Rattle.fab_desk_base.specs.declared.fault.DeskFault.{DeskFault}
 use Rattle.fab_desk_commands.proofs.SoundAfter.{sound_serves}
-use Rattle.fab_desk_trials.specs.Trials.{IsStockEffect, IsStockFault, plan_effect, staging_effect, MayCount, IsTried}
+use Rattle.fab_desk_trials.specs.Trials.{IsStockEffect, IsStockFault, plan_effect, staging_effect, IsTried}
 use Rattle.fab_desk_trials.specs.declared.effects.Effect.{Effect}
 use Rattle.fab_desk_trials.specs.declared.effects.Effect.TheVariants.{Parts, NewPlan}
 

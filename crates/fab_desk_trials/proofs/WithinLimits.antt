@@ -4,16 +4,15 @@ use Rattle.fab_world.specs.Soundness.{IsSound}
 use Rattle.fab_world.specs.Worlds.{WorldRows}
 use Rattle.fab_world.specs.declared.limits.TheConstants.{MOST_CHANGES}
 use Rattle.fab_desk_base.specs.Commands.{tried}
-use Rattle.fab_desk_base.specs.Refusals.{HasManyPaths}
+use Rattle.fab_desk_base.specs.Refusals.{HasManyChanges, HasManyPaths, MayCount}
 use Rattle.fab_desk_base.specs.Trying.{IsTryFault}
 use Rattle.fab_desk_base.specs.declared.command.Command.{Command}
 use Rattle.fab_desk_base.specs.declared.fault.DeskFault.{DeskFault}
 use Rattle.fab_desk_base.specs.declared.fault.DeskFault.TheVariants as fault
 use Rattle.fab_desk_base.specs.declared.fault.DeskLimit.TheVariants.{Paths, Changes}
-use Rattle.fab_desk_base.specs.Laws.{HasManyChanges}
 use Rattle.fab_desk_base.proofs.Tried.{done_of, many_paths, many_changes}
 use Rattle.fab_desk_trials.specs.Limits.{IsLimitFault}
-use Rattle.fab_desk_trials.specs.Trials.{effect_world, MayCount, IsTried, HasEffect}
+use Rattle.fab_desk_trials.specs.Trials.{effect_world, IsTried, HasEffect}
 use Rattle.fab_desk_trials.specs.declared.effects.Effect.{Effect}
 
 module _ {A : Type 0} (w : WorldRows) (caller : List ℕ) (c : Command A) (e : Effect A) (h : IsTried w caller c e) where

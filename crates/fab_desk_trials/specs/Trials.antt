@@ -1,5 +1,5 @@
 -- What a command that is tried would make of the world, and when it is ready.
-use Rattle.std.specs.Prelude.{ℕ, ◌≡◌, ◌<◌, ◌⊎◌, List, Option, None, Some, Result, Ok, Err, Bool, true, false}
+use Rattle.std.specs.Prelude.{ℕ, ◌≡◌, ◌⊎◌, List, Option, None, Some, Result, Ok, Err, Bool, true, false}
 use Rattle.std.specs.FinMap as map
 use Rattle.fab_reach_base.specs.fab_inventory.Inventories.{InventoryRows}
 use Rattle.fab_reach_base.specs.Records.{Records}
@@ -7,14 +7,13 @@ use Rattle.fab_store_world.specs.Inventories.{IsInventoryDifference}
 use Rattle.fab_store_world.specs.declared.inventories.InventoryDifference.{InventoryDifference}
 use Rattle.fab_world.specs.Soundness.{IsSound}
 use Rattle.fab_world.specs.Worlds.{WorldRows, records_of}
-use Rattle.fab_world.specs.declared.limits.TheConstants.{MOST_CHANGES}
 use Rattle.fab_desk_commands.specs.Nexts.{next_world, Suits, TellsRows}
 use Rattle.fab_desk_commands.specs.Trials.{IsSoundAfter}
 use Rattle.fab_desk_commands.specs.declared.next.Next.{Next}
 use Rattle.fab_desk_commands.specs.declared.next.Next.TheVariants.{Same, Stock}
-use Rattle.fab_desk_base.specs.Commands.{is_counted, tried}
+use Rattle.fab_desk_base.specs.Commands.{tried}
 use Rattle.fab_desk_base.specs.Effects.{staged_plan, with_plan}
-use Rattle.fab_desk_base.specs.Refusals.{IsEffect}
+use Rattle.fab_desk_base.specs.Refusals.{IsEffect, MayCount}
 use Rattle.fab_desk_base.specs.Trying.{IsMade}
 use Rattle.fab_desk_base.specs.declared.command.Command.{Command}
 use Rattle.fab_desk_base.specs.declared.command.Command.TheVariants.{Stage}
@@ -71,10 +70,6 @@ EffectSuits w c NewPlan = IsNewPlan w c
 abbrev pub EffectTells : {A : Type 0} → WorldRows → Effect A → Type 0
 EffectTells w (Parts next) = TellsRows w next
 EffectTells w NewPlan = Unit {0}
-
--- there may be one change more, where the command counts as one
-abbrev pub MayCount : {A : Type 0} → WorldRows → Command A → Type 0
-MayCount w c = is_counted c ≡ true → w.revision < MOST_CHANGES
 
 -- the command would have the effect, the limits on paths and on changes aside
 pub record IsTried {A : Type 0} (w : WorldRows) (caller : List ℕ) (c : Command A) (e : Effect A) : Type 0 where

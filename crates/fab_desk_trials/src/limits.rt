@@ -3,7 +3,7 @@ ghost use Rattle.std.specs.Prelude.{◌≡◌, OnOk, IfErr};
 ghost use Rattle.fab_desk_base.specs.Commands.{is_counted, tried};
 ghost use Rattle.fab_desk_base.specs.declared.fault.DeskFault.TheVariants as fault;
 ghost use Rattle.fab_desk_base.specs.declared.fault.DeskLimit.TheVariants as limit;
-ghost use Rattle.fab_desk_base.specs.Laws.{HasManyChanges};
+ghost use Rattle.fab_desk_base.specs.Refusals.{HasManyChanges};
 ghost use Rattle.fab_desk_trials.specs.Limits.{IsLimitFault};
 
 use fab_desk_base::{Command, DeskFault, DeskLimit};
