@@ -1,18 +1,27 @@
-//! Tests of plans and texts: names, plan texts, command lines, what a plan makes of a configuration
-//! beside an inventory, and what is kept of its steps. Nothing here is part of the product.
+//! Tests of texts and of what is made of them: addresses and members, plan texts, the bytes that a kept
+//! plan takes, policies with their faults and verdicts, and command lines; and of a zoning by itself:
+//! which ports it joins, its copies, and its active set. Nothing here is part of the product.
 #![tactic(auto)]
 
 #[cfg(test)]
+mod active;
+#[cfg(test)]
+mod copies;
+#[cfg(test)]
+mod cuts;
+#[cfg(test)]
+mod faults;
+#[cfg(test)]
 mod kept;
+#[cfg(test)]
+mod named;
 #[cfg(test)]
 mod names;
 #[cfg(test)]
 mod plans;
 #[cfg(test)]
-mod refusals;
+mod told;
 #[cfg(test)]
-mod rows;
+mod verdicts;
 #[cfg(test)]
 mod words;
-#[cfg(test)]
-mod worlds;

@@ -1,349 +1,284 @@
-//! Command lines, and what they ask for.
+//! Command lines: what each subcommand's words ask for, which words are refused, and what help tells.
 use clap::error::ErrorKind;
+use fab_names::Fabric;
 use fab_program_options::{SUBCOMMANDS, Subcommand, WordsFault, read_words};
-use fab_program_words::Words;
+use fab_program_words::{
+    Access, ActionWord, Check, Deed, ExplainOf, ListKind, ListState, NamedFabrics, Over, WhoOf,
+    Words,
+};
 use std::process::Abort;
 
-/// What words come to.
-#[derive(Clone, Copy)]
-enum Outcome {
-    /// They ask for this.
-    Asks(&'static str),
-    /// A value has not its text form.
-    BadText,
-    /// `clap` refuses them, or tells help.
-    Refused(ErrorKind),
+/// Words behind the program's name, with one space between them: of each subcommand some with a value
+/// for each of its options.
+const ASKED: &[(Subcommand, &str)] = &[
+    (Subcommand::Init, "init --db=d"),
+    (
+        Subcommand::Serve,
+        "serve --count 18446744073709551615 --listen :0 --policy p --db d",
+    ),
+    (Subcommand::Once, "once --db d --now 00349200 --policy p"),
+    (
+        Subcommand::Import,
+        "import --db d --policy p --token t-._~+/= --fabric B --file f.csv --now 7",
+    ),
+    (
+        Subcommand::Paths,
+        "paths --db d --policy p --token t-._~+/= --host db1",
+    ),
+    (
+        Subcommand::Report,
+        "report --db d --policy p --token t-._~+/= --host db1",
+    ),
+    (
+        Subcommand::Export,
+        "export --db d --policy p --token t-._~+/= --fabric B",
+    ),
+    (
+        Subcommand::DryRun,
+        "dryrun --db d --policy p --token t-._~+/= --plan p1 --now 5",
+    ),
+    (
+        Subcommand::Why,
+        "why --db d --policy p --token t-._~+/= --volume v1 --json --host db1",
+    ),
+    (
+        Subcommand::Who,
+        "who --db d --policy p --token t-._~+/= --volume v1 --json",
+    ),
+    (
+        Subcommand::Names,
+        "list --db d --policy p --token t-._~+/= plans --state staged",
+    ),
+    (Subcommand::Check, "check --ports=f.csv"),
+    (
+        Subcommand::Explain,
+        "explain --policy p --caller ada --action rollback --fabric A,B --tenants blue,green --author bob --approved bob@6,dan@05 --revision 6 --now 0",
+    ),
+    (
+        Subcommand::TryImport,
+        "tryimport --json --most-lost 0 --file f.csv --fabric B --token t-._~+/= --policy p --db d",
+    ),
+    (
+        Subcommand::Diff,
+        "diff --plan=p1 --json --db d --policy p --token t-._~+/=",
+    ),
+];
+
+/// The subcommand that the words ask for.
+fn subcommand_of(words: &Words) -> Subcommand {
+    match words {
+        Words::Init(_) => Subcommand::Init,
+        Words::Serve(_) => Subcommand::Serve,
+        Words::Once(_) => Subcommand::Once,
+        Words::Import(_) => Subcommand::Import,
+        Words::Paths(_) => Subcommand::Paths,
+        Words::Report(_) => Subcommand::Report,
+        Words::Export(_) => Subcommand::Export,
+        Words::DryRun(_) => Subcommand::DryRun,
+        Words::Why(_) => Subcommand::Why,
+        Words::Who(_) => Subcommand::Who,
+        Words::Names(_) => Subcommand::Names,
+        Words::Check(_) => Subcommand::Check,
+        Words::Explain(_) => Subcommand::Explain,
+        Words::TryImport(_) => Subcommand::TryImport,
+        Words::Diff(_) => Subcommand::Diff,
+    }
 }
 
-/// Words behind the program's name, with one space between them, and what they come to.
-type Case = (&'static str, Outcome);
+/// Whether the caller and the files are those of each line.
+fn is_access(access: &Access) -> bool {
+    access.db == "d" && access.policy == "p" && access.token == "t-._~+/="
+}
 
-const CASES: &[Case] = &[
-    ("init --db d", Outcome::Asks("Init(Init { db: \"d\" })")),
-    ("init --db=d", Outcome::Asks("Init(Init { db: \"d\" })")),
-    ("init", Outcome::Refused(ErrorKind::MissingRequiredArgument)),
-    ("init --db", Outcome::Refused(ErrorKind::InvalidValue)),
-    (
-        "init --db d --db d",
-        Outcome::Refused(ErrorKind::ArgumentConflict),
-    ),
-    (
-        "init --db d --now 1",
-        Outcome::Refused(ErrorKind::UnknownArgument),
-    ),
-    (
-        "init --db d e",
-        Outcome::Refused(ErrorKind::UnknownArgument),
-    ),
-    (
-        "serve --db d --policy p --listen 127.0.0.1:80",
-        Outcome::Asks(
-            "Serve(Serve { db: \"d\", policy: \"p\", listen: \"127.0.0.1:80\", count: None })",
-        ),
-    ),
-    (
-        "serve --count 18446744073709551615 --listen :0 --policy p --db d",
-        Outcome::Asks(
-            "Serve(Serve { db: \"d\", policy: \"p\", listen: \":0\", count: Some(18446744073709551615) })",
-        ),
-    ),
-    (
-        "serve --db d --policy p --listen :0 --count 18446744073709551616",
-        Outcome::BadText,
-    ),
-    (
-        "serve --db d --policy p --listen :0 --count x",
-        Outcome::BadText,
-    ),
-    (
-        "serve --db d --policy p --listen :0 --count=",
-        Outcome::BadText,
-    ),
-    (
-        "serve --db d --policy p --listen :0 --count 000000000000000000001",
-        Outcome::BadText,
-    ),
+/// Whether the request is answered over the database.
+fn is_database(over: &Over) -> bool {
+    match over {
+        Over::Database { policy, db } => *policy == "p" && *db == "d",
+        _ => false,
+    }
+}
+
+/// Whether it is asked who reaches the volume.
+fn is_volume(of: &WhoOf) -> bool {
+    match of {
+        WhoOf::Volume { volume } => volume.as_str() == "v1",
+        WhoOf::Port { .. } => false,
+    }
+}
+
+/// Whether the port list is looked at.
+fn is_port_list(check: &Check) -> bool {
+    match check {
+        Check::Ports { path } => *path == "f.csv",
+        _ => false,
+    }
+}
+
+/// Whether the command is the rollback that touches both fabrics.
+fn is_rollback(deed: &Deed) -> bool {
+    match (deed.action, deed.fabrics) {
+        (ActionWord::Rollback, Some(NamedFabrics::Both)) => true,
+        _ => false,
+    }
+}
+
+/// Whether it is asked about a command, with all that it may tell.
+fn is_deed(of: &ExplainOf) -> bool {
+    match of {
+        ExplainOf::Rules => false,
+        ExplainOf::Deed(deed) => {
+            deed.caller.as_str() == "ada"
+                && is_rollback(deed)
+                && deed.tenants == Some("blue,green")
+                && deed.author.is_some_and(|name| name.as_str() == "bob")
+                && deed.approved == Some("bob@6,dan@05")
+                && deed.revision == Some(6)
+                && deed.now == Some(0)
+        }
+    }
+}
+
+/// Whether plans are listed, and the staged ones alone.
+fn are_staged_plans(kind: ListKind, state: Option<ListState>) -> bool {
+    match state {
+        Some(ListState::Staged) => kind == ListKind::Plans,
+        _ => false,
+    }
+}
+
+/// Whether what is asked of a database by a caller has the values of its line.
+fn is_asked_at(words: &Words) -> bool {
+    match words {
+        Words::Import(it) => {
+            is_access(&it.access)
+                && it.fabric == Fabric::B
+                && it.file == "f.csv"
+                && it.now == Some(7)
+        }
+        Words::Paths(it) | Words::Report(it) => is_access(&it.access) && it.host.as_str() == "db1",
+        Words::Export(it) => is_access(&it.access) && it.fabric == Fabric::B,
+        Words::DryRun(it) => {
+            is_access(&it.access) && it.plan.as_str() == "p1" && it.now == Some(5)
+        }
+        Words::Why(it) => {
+            is_access(&it.access)
+                && it.host.as_str() == "db1"
+                && it.volume.as_str() == "v1"
+                && it.is_json
+        }
+        Words::Who(it) => is_access(&it.access) && is_volume(&it.of) && it.is_json,
+        Words::Names(it) => {
+            is_access(&it.access) && are_staged_plans(it.kind, it.state) && !it.is_json
+        }
+        Words::TryImport(it) => {
+            is_access(&it.access)
+                && it.fabric == Fabric::B
+                && it.file == "f.csv"
+                && it.most_lost == Some(0)
+                && it.is_json
+        }
+        Words::Diff(it) => is_access(&it.access) && it.plan.as_str() == "p1" && it.is_json,
+        _ => false,
+    }
+}
+
+/// Whether what is asked has the values of its line.
+fn is_asked(words: &Words) -> bool {
+    match words {
+        Words::Init(it) => it.db == "d",
+        Words::Serve(it) => {
+            it.db == "d"
+                && it.policy == "p"
+                && it.listen == ":0"
+                && it.count == Some(18446744073709551615)
+        }
+        Words::Once(it) => is_database(&it.over) && it.now == Some(349200),
+        Words::Check(it) => is_port_list(it),
+        Words::Explain(it) => it.policy == "p" && is_deed(&it.of),
+        _ => is_asked_at(words),
+    }
+}
+
+/// Whether the line asks for the subcommand, with its values.
+fn asks(rt: &(impl Abort + AllocGlobal), line: &str, subcommand: Subcommand) -> bool {
+    let words = words_of(rt, line);
+    match read_words(rt.alloc(), &words) {
+        Ok(asked) => subcommand_of(&asked) == subcommand && is_asked(&asked),
+        Err(_) => false,
+    }
+}
+
+#[test]
+fn lines_ask(rt: HostRuntime) {
+    for &(subcommand, line) in ASKED {
+        assert!(rt; asks(&rt, line, subcommand));
+    }
+}
+
+/// Words that `clap` refuses, or for which it tells help.
+const REFUSED: &[(&str, ErrorKind)] = &[
+    ("init", ErrorKind::MissingRequiredArgument),
+    ("init --db", ErrorKind::InvalidValue),
+    ("init --db d --db d", ErrorKind::ArgumentConflict),
+    ("init --db d --now 1", ErrorKind::UnknownArgument),
+    ("init --db d e", ErrorKind::UnknownArgument),
     (
         "serve --db d --policy p --listen :0 --now 1",
-        Outcome::Refused(ErrorKind::UnknownArgument),
+        ErrorKind::UnknownArgument,
     ),
     (
         "serve --db d --listen :0",
-        Outcome::Refused(ErrorKind::MissingRequiredArgument),
+        ErrorKind::MissingRequiredArgument,
     ),
-    (
-        "once",
-        Outcome::Asks("Once(Once { over: Trial, now: None })"),
-    ),
-    (
-        "once --now 00349200",
-        Outcome::Asks("Once(Once { over: Trial, now: Some(349200) })"),
-    ),
-    (
-        "once --policy p",
-        Outcome::Asks("Once(Once { over: Memory { policy: \"p\" }, now: None })"),
-    ),
-    (
-        "once --db d --now 0 --policy p",
-        Outcome::Asks("Once(Once { over: Database { policy: \"p\", db: \"d\" }, now: Some(0) })"),
-    ),
-    ("once --db d", Outcome::BadText),
-    (
-        "once --now -1",
-        Outcome::Refused(ErrorKind::UnknownArgument),
-    ),
-    ("once --now=-1", Outcome::BadText),
-    ("once --now +1", Outcome::BadText),
-    (
-        "import --db d --policy p --token t-ada --fabric A --file f.csv",
-        Outcome::Asks(
-            "Import(Import { access: Access { db: \"d\", policy: \"p\", token: \"t-ada\" }, fabric: A, file: \"f.csv\", now: None })",
-        ),
-    ),
-    (
-        "import --db d --policy p --token aZ09-._~+/= --fabric B --file f.csv --now 7",
-        Outcome::Asks(
-            "Import(Import { access: Access { db: \"d\", policy: \"p\", token: \"aZ09-._~+/=\" }, fabric: B, file: \"f.csv\", now: Some(7) })",
-        ),
-    ),
-    (
-        "import --db d --policy p --token t --fabric a --file f.csv",
-        Outcome::BadText,
-    ),
-    (
-        "import --db d --policy p --token t, --fabric A --file f.csv",
-        Outcome::BadText,
-    ),
-    (
-        "import --db d --policy p --token= --fabric A --file f.csv",
-        Outcome::BadText,
-    ),
+    ("once --now -1", ErrorKind::UnknownArgument),
     (
         "import --db d --policy p --token t --fabric A",
-        Outcome::Refused(ErrorKind::MissingRequiredArgument),
-    ),
-    (
-        "paths --db d --policy p --token t --host db1",
-        Outcome::Asks(
-            "Paths(Paths { access: Access { db: \"d\", policy: \"p\", token: \"t\" }, host: \"db1\" })",
-        ),
-    ),
-    (
-        "paths --db d --policy p --token t --host 1db",
-        Outcome::BadText,
+        ErrorKind::MissingRequiredArgument,
     ),
     (
         "paths --db d --policy p --token t",
-        Outcome::Refused(ErrorKind::MissingRequiredArgument),
-    ),
-    (
-        "report --db d --policy p --token t --host db1",
-        Outcome::Asks(
-            "Report(Paths { access: Access { db: \"d\", policy: \"p\", token: \"t\" }, host: \"db1\" })",
-        ),
+        ErrorKind::MissingRequiredArgument,
     ),
     (
         "report --db d --policy p --token t --host db1 --now 3",
-        Outcome::Refused(ErrorKind::UnknownArgument),
+        ErrorKind::UnknownArgument,
     ),
-    (
-        "export --db d --policy p --token t --fabric B",
-        Outcome::Asks(
-            "Export(Export { access: Access { db: \"d\", policy: \"p\", token: \"t\" }, fabric: B })",
-        ),
-    ),
-    (
-        "export --db d --policy p --token t --fabric C",
-        Outcome::BadText,
-    ),
-    (
-        "dryrun --db d --policy p --token t --plan p1 --now 5",
-        Outcome::Asks(
-            "DryRun(DryRun { access: Access { db: \"d\", policy: \"p\", token: \"t\" }, plan: \"p1\", now: Some(5) })",
-        ),
-    ),
-    (
-        "dryrun --db d --policy p --token t --plan p/1",
-        Outcome::BadText,
-    ),
-    (
-        "who --db d --policy p --token t --volume v1 --json",
-        Outcome::Asks(
-            "Who(Who { access: Access { db: \"d\", policy: \"p\", token: \"t\" }, of: Volume { volume: \"v1\" }, is_json: true })",
-        ),
-    ),
-    ("who --db d --policy p --token t", Outcome::BadText),
-    (
-        "who --db d --policy p --token t --volume v1 --port 1000000000000001",
-        Outcome::BadText,
-    ),
-    (
-        "who --db d --policy p --token t --port 1000000000000000g",
-        Outcome::BadText,
-    ),
-    (
-        "list --db d --policy p --token t plans --state staged",
-        Outcome::Asks(
-            "Names(Names { access: Access { db: \"d\", policy: \"p\", token: \"t\" }, kind: Plans, state: Some(Staged), is_json: false })",
-        ),
-    ),
-    (
-        "list --db d --policy p --token t plans --state done",
-        Outcome::BadText,
-    ),
-    (
-        "list --db d --policy p --token t hosts --state staged",
-        Outcome::BadText,
-    ),
-    (
-        "check --policy p",
-        Outcome::Asks("Check(Policy { path: \"p\" })"),
-    ),
-    (
-        "check --plan p",
-        Outcome::Asks("Check(Plan { path: \"p\" })"),
-    ),
-    (
-        "check --ports=f.csv",
-        Outcome::Asks("Check(Ports { path: \"f.csv\" })"),
-    ),
-    ("check", Outcome::BadText),
-    ("check --policy p --plan q", Outcome::BadText),
-    ("check --plan p --ports q", Outcome::BadText),
-    ("check --ports p --policy q", Outcome::BadText),
-    ("check --policy p --plan q --ports r", Outcome::BadText),
-    ("check --db d", Outcome::Refused(ErrorKind::UnknownArgument)),
-    (
-        "explain --policy p --rules",
-        Outcome::Asks("Explain(Explain { policy: \"p\", of: Rules })"),
-    ),
-    (
-        "explain --policy p --caller ada --action stage",
-        Outcome::Asks(
-            "Explain(Explain { policy: \"p\", of: Deed(Deed { caller: \"ada\", action: Stage, fabrics: None, tenants: None, author: None, approved: None, revision: None, now: None }) })",
-        ),
-    ),
-    (
-        "explain --policy p --caller ada --action rollback --fabric A,B --tenants blue,green --author bob --approved bob@6,dan@05 --revision 6 --now 0",
-        Outcome::Asks(
-            "Explain(Explain { policy: \"p\", of: Deed(Deed { caller: \"ada\", action: Rollback, fabrics: Some(Both), tenants: Some(\"blue,green\"), author: Some(\"bob\"), approved: Some(\"bob@6,dan@05\"), revision: Some(6), now: Some(0) }) })",
-        ),
-    ),
-    ("explain --policy p", Outcome::BadText),
-    ("explain --policy p --caller ada", Outcome::BadText),
-    (
-        "explain --policy p --caller ada --action stage --rules",
-        Outcome::BadText,
-    ),
-    (
-        "explain --policy p --caller ada --action stage --fabric B,A",
-        Outcome::BadText,
-    ),
-    (
-        "explain --policy p --caller ada --action stage --tenants blue,",
-        Outcome::BadText,
-    ),
-    (
-        "explain --policy p --caller ada --action stage --tenants=",
-        Outcome::BadText,
-    ),
-    (
-        "explain --policy p --caller ada --action stage --approved bob@6,@7",
-        Outcome::BadText,
-    ),
-    (
-        "explain --policy p --caller ada --action stage --approved bob@18446744073709551616",
-        Outcome::BadText,
-    ),
+    ("check --db d", ErrorKind::UnknownArgument),
     (
         "explain --caller ada --action stage",
-        Outcome::Refused(ErrorKind::MissingRequiredArgument),
-    ),
-    (
-        "tryimport --db d --policy p --token t --fabric A --file f.csv",
-        Outcome::Asks(
-            "TryImport(TryImport { access: Access { db: \"d\", policy: \"p\", token: \"t\" }, fabric: A, file: \"f.csv\", most_lost: None, is_json: false })",
-        ),
-    ),
-    (
-        "tryimport --json --most-lost 0 --file f.csv --fabric B --token t --policy p --db d",
-        Outcome::Asks(
-            "TryImport(TryImport { access: Access { db: \"d\", policy: \"p\", token: \"t\" }, fabric: B, file: \"f.csv\", most_lost: Some(0), is_json: true })",
-        ),
-    ),
-    (
-        "tryimport --db d --policy p --token t --fabric A --file f.csv --most-lost=18446744073709551615",
-        Outcome::Asks(
-            "TryImport(TryImport { access: Access { db: \"d\", policy: \"p\", token: \"t\" }, fabric: A, file: \"f.csv\", most_lost: Some(18446744073709551615), is_json: false })",
-        ),
-    ),
-    (
-        "tryimport --db d --policy p --token t --fabric A --file f.csv --most-lost 18446744073709551616",
-        Outcome::BadText,
-    ),
-    (
-        "tryimport --db d --policy p --token t --fabric A --file f.csv --most-lost=-1",
-        Outcome::BadText,
-    ),
-    (
-        "tryimport --db d --policy p --token t --fabric A --file f.csv --most-lost=",
-        Outcome::BadText,
-    ),
-    (
-        "tryimport --db d --policy p --token t --fabric C --file f.csv",
-        Outcome::BadText,
+        ErrorKind::MissingRequiredArgument,
     ),
     (
         "tryimport --db d --policy p --token t --fabric A --file f.csv --most-lost",
-        Outcome::Refused(ErrorKind::InvalidValue),
+        ErrorKind::InvalidValue,
     ),
     (
         "tryimport --db d --policy p --token t --fabric A",
-        Outcome::Refused(ErrorKind::MissingRequiredArgument),
+        ErrorKind::MissingRequiredArgument,
     ),
     (
         "tryimport --db d --policy p --token t --fabric A --file f.csv --now 7",
-        Outcome::Refused(ErrorKind::UnknownArgument),
+        ErrorKind::UnknownArgument,
     ),
     (
         "import --db d --policy p --token t --fabric A --file f.csv --most-lost 0",
-        Outcome::Refused(ErrorKind::UnknownArgument),
-    ),
-    (
-        "diff --db d --policy p --token t --plan p1",
-        Outcome::Asks(
-            "Diff(Diff { access: Access { db: \"d\", policy: \"p\", token: \"t\" }, plan: \"p1\", is_json: false })",
-        ),
-    ),
-    (
-        "diff --plan=p1 --json --db d --policy p --token t",
-        Outcome::Asks(
-            "Diff(Diff { access: Access { db: \"d\", policy: \"p\", token: \"t\" }, plan: \"p1\", is_json: true })",
-        ),
-    ),
-    (
-        "diff --db d --policy p --token t --plan p/1",
-        Outcome::BadText,
-    ),
-    (
-        "diff --db d --policy p --token= --plan p1",
-        Outcome::BadText,
+        ErrorKind::UnknownArgument,
     ),
     (
         "diff --db d --policy p --token t",
-        Outcome::Refused(ErrorKind::MissingRequiredArgument),
+        ErrorKind::MissingRequiredArgument,
     ),
     (
         "diff --db d --policy p --token t --plan p1 --now 5",
-        Outcome::Refused(ErrorKind::UnknownArgument),
+        ErrorKind::UnknownArgument,
     ),
-    ("", Outcome::Refused(ErrorKind::MissingSubcommand)),
-    ("serv", Outcome::Refused(ErrorKind::InvalidSubcommand)),
-    ("--db d", Outcome::Refused(ErrorKind::UnknownArgument)),
-    ("help", Outcome::Refused(ErrorKind::DisplayHelp)),
-    ("help init", Outcome::Refused(ErrorKind::DisplayHelp)),
-    ("--help", Outcome::Refused(ErrorKind::DisplayHelp)),
-    ("dryrun -h", Outcome::Refused(ErrorKind::DisplayHelp)),
+    ("", ErrorKind::MissingSubcommand),
+    ("serv", ErrorKind::InvalidSubcommand),
+    ("--db d", ErrorKind::UnknownArgument),
+    ("help", ErrorKind::DisplayHelp),
+    ("help init", ErrorKind::DisplayHelp),
+    ("--help", ErrorKind::DisplayHelp),
+    ("dryrun -h", ErrorKind::DisplayHelp),
 ];
 
 /// A text of the test's own.
@@ -363,34 +298,20 @@ fn words_of(rt: &(impl Abort + AllocGlobal), line: &str) -> Vec<String> {
     words
 }
 
-/// Whether words are refused for this.
-fn is_refused(fault: &WordsFault, kind: ErrorKind) -> bool {
-    match fault {
-        WordsFault::Refused(error) => error.kind() == kind,
-        WordsFault::BadText | WordsFault::Memory => false,
-    }
-}
-
-/// Whether what is asked for is told so.
-fn is_told(rt: &(impl Abort + AllocGlobal), words: &Words, text: &str) -> bool {
-    let told = format!(in rt.alloc(); "{words:?}").expect(rt, "memory");
-    told.as_str() == text
-}
-
-/// Whether the words come to this.
-fn is_outcome(rt: &(impl Abort + AllocGlobal), words: &[String], outcome: Outcome) -> bool {
-    match (read_words(rt.alloc(), words), outcome) {
-        (Ok(words), Outcome::Asks(text)) => is_told(rt, &words, text),
-        (Err(WordsFault::BadText), Outcome::BadText) => true,
-        (Err(fault), Outcome::Refused(kind)) => is_refused(&fault, kind),
+/// Whether the line is refused for this.
+fn is_refused(rt: &(impl Abort + AllocGlobal), line: &str, kind: ErrorKind) -> bool {
+    let words = words_of(rt, line);
+    match read_words(rt.alloc(), &words) {
+        Err(WordsFault::Refused(error)) => error.kind() == kind,
         _ => false,
     }
 }
 
-/// Whether the line comes to what it should.
-fn is_right(rt: &(impl Abort + AllocGlobal), case: &Case) -> bool {
-    let words = words_of(rt, case.0);
-    is_outcome(rt, &words, case.1)
+#[test]
+fn lines_are_refused(rt: HostRuntime) {
+    for &(line, kind) in REFUSED {
+        assert!(rt; is_refused(&rt, line, kind));
+    }
 }
 
 /// Whether the help that the words ask for has all of these texts.
@@ -445,48 +366,9 @@ fn lists_all(rt: &(impl Abort + AllocGlobal)) -> bool {
 }
 
 #[test]
-fn lines_ask(rt: HostRuntime) {
-    for case in CASES {
-        assert!(rt; is_right(&rt, case));
-    }
-}
-
-#[test]
 fn help_teaches(rt: HostRuntime) {
     for subcommand in &SUBCOMMANDS {
         assert!(rt; teaches(&rt, *subcommand));
     }
     assert!(rt; lists_all(&rt));
-}
-
-/// The words before a token.
-const BEFORE: &str = "export --db d --policy p --fabric A --token";
-
-/// The words of an export whose token has 128 characters, and these behind them.
-fn export_by(rt: &(impl Abort + AllocGlobal), more: &str) -> Vec<String> {
-    let mut token = "0123456789abcdef"
-        .repeat(rt.alloc(), 8)
-        .expect(rt, "memory");
-    token.push_str(more).expect(rt, "memory");
-    let mut words = words_of(rt, BEFORE);
-    words.push(token).expect(rt, "memory");
-    words
-}
-
-/// Whether a token of 128 characters is one.
-fn is_token(rt: &(impl Abort + AllocGlobal)) -> bool {
-    let words = export_by(rt, "");
-    read_words(rt.alloc(), &words).is_ok()
-}
-
-/// Whether one of 129 is none.
-fn is_no_token(rt: &(impl Abort + AllocGlobal)) -> bool {
-    let words = export_by(rt, "0");
-    is_outcome(rt, &words, Outcome::BadText)
-}
-
-#[test]
-fn tokens_end(rt: HostRuntime) {
-    assert!(rt; is_token(&rt));
-    assert!(rt; is_no_token(&rt));
 }

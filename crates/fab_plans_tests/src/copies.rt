@@ -1,76 +1,75 @@
 //! A copy of a zoning, and the rows of an active set, stay as they are when the zoning changes.
-use crate::inventory::named;
+use crate::named::named;
 use fab_names::{Fabric, Member, Name, Place, Wwn};
 use fab_zoning::{DefaultFlag, Zoning};
 use std::alloc::Global;
-use std::collections::BTreeSet;
 use std::process::Abort;
 
-/// Whether each of the one is among the other.
-fn are_among<T: Ord>(one: &BTreeSet<T, Global>, other: &BTreeSet<T, Global>) -> bool {
-    for item in one {
-        if !other.contains(item) {
-            return false;
+/// What may be seen of a zoning.
+#[derive(Clone, Copy)]
+enum Kind {
+    /// An alias of a port.
+    Alias,
+    /// A zone,
+    Zone,
+    /// and one in the active set.
+    Active,
+    /// A zone set,
+    Set,
+    /// and one that is active.
+    ActiveSet,
+}
+
+/// All that is in the zoning of the test, and what is active in it.
+const SEEN: &[(Kind, &str)] = &[
+    (Kind::Alias, "disk"),
+    (Kind::Zone, "z1"),
+    (Kind::Zone, "z2"),
+    (Kind::Active, "z1"),
+    (Kind::Active, "z2"),
+    (Kind::Set, "s1"),
+    (Kind::Set, "s2"),
+    (Kind::ActiveSet, "s1"),
+];
+
+/// Whether there is one of this name.
+fn has(zoning: &Zoning<Global>, kind: Kind, name: &Name) -> bool {
+    match kind {
+        Kind::Alias => match zoning.alias(name) {
+            Some(members) => members.contains(&Member::Port(Wwn::new(1))),
+            None => false,
+        },
+        Kind::Zone => zoning.zone(name).is_some(),
+        Kind::Active => {
+            zoning.has_active(name, &Member::Port(Wwn::new(1)))
+                || zoning.has_active(name, &Member::Node(Wwn::new(2)))
+        }
+        Kind::Set => zoning.zone_set(name).is_some(),
+        Kind::ActiveSet => zoning.active() == Some(*name),
+    }
+}
+
+/// The first that is seen in one of both alone.
+fn first_other(
+    rt: &impl Abort,
+    one: &Zoning<Global>,
+    other: &Zoning<Global>,
+) -> Option<&'static str> {
+    for &(kind, text) in SEEN {
+        let name = named(rt, text);
+        if has(one, kind, &name) != has(other, kind, &name) {
+            return Some(text);
         }
     }
-    true
+    None
 }
 
-/// Whether both have the same items, or neither is there.
-fn are_equal<T: Ord>(
-    one: Option<&BTreeSet<T, Global>>,
-    other: Option<&BTreeSet<T, Global>>,
-) -> bool {
-    match (one, other) {
-        (Some(one), Some(other)) => one.len() == other.len() && are_among(one, other),
-        (None, None) => true,
-        _ => false,
-    }
-}
-
-/// Whether both have the same alias, zone and zone set of the name.
-fn have_same(one: &Zoning<Global>, other: &Zoning<Global>, name: &Name) -> bool {
-    are_equal(one.alias(name), other.alias(name))
-        && are_equal(one.zone(name), other.zone(name))
-        && are_equal(one.zone_set(name), other.zone_set(name))
-}
-
-/// Whether they do of each name of the test.
-fn have_same_of_each(rt: &impl Abort, one: &Zoning<Global>, other: &Zoning<Global>) -> bool {
-    for text in NAMES {
-        if !have_same(one, other, &named(rt, text)) {
-            return false;
-        }
-    }
-    true
-}
-
-/// Whether both have as many aliases, zones and zone sets.
-fn have_as_many(one: &Zoning<Global>, other: &Zoning<Global>) -> bool {
-    one.aliases().count() == other.aliases().count()
-        && one.zones().count() == other.zones().count()
-        && one.zone_sets().count() == other.zone_sets().count()
-}
-
-/// Whether the same set is active in both, with the same rows, under the same default zone.
-fn are_active_alike(rt: &impl Abort, one: &Zoning<Global>, other: &Zoning<Global>) -> bool {
-    let rows = one.active_rows().expect(rt, "memory");
-    let others = other.active_rows().expect(rt, "memory");
-    one.fabric() == other.fabric()
-        && one.active() == other.active()
-        && one.flag() == other.flag()
-        && are_equal(Some(&rows), Some(&others))
-}
-
-/// Whether both are equal, where no alias, zone or set has a name but those of the test.
+/// Whether both are of one fabric, under the same default zone, with the same parts.
 fn is_equal(rt: &impl Abort, one: &Zoning<Global>, other: &Zoning<Global>) -> bool {
-    have_as_many(one, other)
-        && have_same_of_each(rt, one, other)
-        && are_active_alike(rt, one, other)
+    one.fabric() == other.fabric()
+        && one.flag() == other.flag()
+        && first_other(rt, one, other).is_none()
 }
-
-/// The names of an alias, of two zones and of two sets.
-const NAMES: &[&str] = &["disk", "z1", "z2", "s1", "s2"];
 
 /// Puts a set of both zones, and one of the second.
 fn put_sets(rt: &impl Abort, zoning: &mut Zoning<Global>) {

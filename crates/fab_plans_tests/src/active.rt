@@ -1,5 +1,5 @@
 //! Ports that an inventory knows, and rows that are made the active ones.
-use crate::inventory::named;
+use crate::named::named;
 use fab_inventory::{Inventory, Port, PortRow};
 use fab_names::{Fabric, Member, Place, Wwn};
 use fab_zoning::{Why, Zoning};

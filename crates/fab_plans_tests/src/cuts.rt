@@ -3,7 +3,7 @@ use fab_policy_base::{Policy, PolicyFault, TRIAL_POLICY};
 use std::process::Abort;
 
 /// The worked policy.
-const WORKED: &str = r#"[[callers]]
+pub const WORKED: &str = r#"[[callers]]
 name = "ada"
 token = "t-ada"
 roles = ["operator"]
