@@ -1,363 +1,181 @@
-//! Books that ask about pairs: what they list, and how many questions a step is.
+//! Books that ask about pairs: how many questions a step is, and what it gains and loses.
 
-ghost use Rattle.fab_reach_base.specs.Serving.{IsServing};
-ghost use Rattle.fab_reach_base.specs.Views.{seen};
-
-use crate::books::assert_delta;
-use crate::steps::{Act, Item, change, empty};
-use crate::stock::{
-    DB2, DISK, FIRST_INITIATOR, FIRST_TARGET, G1, G2, G3, HOSTS1, HOSTS2, Listed, S1, S2,
-    SECOND_INITIATOR, SECOND_TARGET, THIRD_INITIATOR, V2, Z1, Z2, Z3, list_all, stock,
+use crate::books::led;
+use crate::steps::{
+    Act, Deed, FIRST_PLAN, Item, NOTHING, OTHER_GROUP, PORTS_GONE, SECOND_PLAN, config_after,
+    empty, inventory_after,
 };
-use crate::ways::Ways;
+use crate::stock::{FIRST_INITIATOR, FIRST_TARGET, SECOND_INITIATOR, SECOND_TARGET, UNTOLD, stock};
+use crate::ways::{
+    NONE, ONE, OTHER_TARGET, OTHER_VOLUME, SECOND, SECOND_FAR, SECOND_NEAR_AND_FAR, THIRD, Ways,
+};
 use fab_inventory::Inventory;
 use fab_names::Fabric;
 use fab_reach::IndexBook;
 use fab_reach_base::{Config, View};
-use fab_reach_books::{PathBook, ViewSight, row_diff};
+use fab_reach_books::PathBook;
 use std::alloc::Global;
 use std::process::Abort;
 
-/// What is done: a fabric lists ports, or acts are carried out.
-#[derive(Clone, Copy)]
-enum Deed {
-    Listed(Fabric, &'static [Listed]),
-    Acts(&'static [Act]),
-}
-
-/// A step, how many pairs a book asks about by it, how many it affects, and what it gains and loses.
-#[derive(Clone, Copy)]
-struct Turn {
-    deed: Deed,
-    asked: u64,
-    affected: u64,
-    gained: Ways,
-    lost: Ways,
-}
+/// A step; how many pairs a book asks about by it, and how many it affects; what it gains and what it loses.
+type Turn = (Deed, (u64, u64), (Ways, Ways));
 
 /// The first plan.
-const FIRST: Turn = Turn {
-    deed: Deed::Acts(&[Act::First]),
-    asked: 1,
-    affected: 4,
-    gained: Ways::One,
-    lost: Ways::None,
-};
+const FIRST: Turn = (FIRST_PLAN, (1, 4), (ONE, NONE));
 
-/// What is active is a copy, until it is activated again.
-const ACTIVE_IS_A_COPY: &[Turn] = &[
-    FIRST,
-    Turn {
-        deed: Deed::Acts(&[Act::Alias(DISK, SECOND_TARGET)]),
-        asked: 0,
-        affected: 0,
-        gained: Ways::None,
-        lost: Ways::None,
-    },
-    Turn {
-        deed: Deed::Acts(&[Act::Activate(S1)]),
-        asked: 1,
-        affected: 6,
-        gained: Ways::None,
-        lost: Ways::One,
-    },
-];
+/// The alias of the target is another's.
+const OTHER_ALIAS: Deed = Deed::Acts(&[Act::Alias("disk", SECOND_TARGET)]);
 
-/// Zones overlap, and one of them is enough.
-const ZONES_OVERLAP: &[Turn] = &[
-    FIRST,
-    Turn {
-        deed: Deed::Acts(&[
-            Act::Zone(Z2, Item::Port(FIRST_INITIATOR), Item::Port(FIRST_TARGET)),
-            Act::Set(S1, Z1, Z2),
-            Act::Activate(S1),
-        ]),
-        asked: 1,
-        affected: 4,
-        gained: Ways::None,
-        lost: Ways::None,
-    },
-    Turn {
-        deed: Deed::Acts(&[Act::Set(S2, Z2, Z2), Act::Activate(S2)]),
-        asked: 1,
-        affected: 4,
-        gained: Ways::None,
-        lost: Ways::None,
-    },
-];
+/// The set is activated again.
+const AGAIN: Deed = Deed::Acts(&[Act::Activate("s1")]);
 
-/// A port that is in a zone is not in the default zone.
-const DEFAULT_ZONE: &[Turn] = &[
-    FIRST,
-    Turn {
-        deed: Deed::Acts(&[Act::Permit, Act::Target(G1, SECOND_TARGET)]),
-        asked: 1,
-        affected: 6,
-        gained: Ways::None,
-        lost: Ways::None,
-    },
-    Turn {
-        deed: Deed::Acts(&[
-            Act::Zone(Z1, Item::Alias(DISK), Item::Alias(DISK)),
-            Act::Activate(S1),
-        ]),
-        asked: 2,
-        affected: 2,
-        gained: Ways::OtherTarget,
-        lost: Ways::One,
-    },
-];
+/// A second zone of the same ports is in the set.
+const BOTH_ZONES: Deed = Deed::Acts(&[
+    Act::Zone("z2", Item::Port(FIRST_INITIATOR), Item::Port(FIRST_TARGET)),
+    Act::Set("s1", "z1", "z2"),
+    Act::Activate("s1"),
+]);
 
-/// A place stands for all ports that are logged in there; and an equal world.
-const PLACE: &[Turn] = &[
-    FIRST,
-    Turn {
-        deed: Deed::Acts(&[Act::Second]),
-        asked: 3,
-        affected: 5,
-        gained: Ways::Second,
-        lost: Ways::None,
-    },
-    Turn {
-        deed: Deed::Acts(&[Act::Copied]),
-        asked: 0,
-        affected: 0,
-        gained: Ways::None,
-        lost: Ways::None,
-    },
-];
+/// The second of the zones is active alone.
+const SECOND_ZONE: Deed = Deed::Acts(&[Act::Set("s2", "z2", "z2"), Act::Activate("s2")]);
 
-/// Another volume at the host's unit, by another group.
-const ANOTHER_VOLUME: &[Turn] = &[
-    FIRST,
-    Turn {
-        deed: Deed::Acts(&[
-            Act::Group(G3, HOSTS1),
-            Act::Target(G3, FIRST_TARGET),
-            Act::Map(G3, 0, V2),
-            Act::Expose(G3),
-            Act::Unmap(G1, 0),
-        ]),
-        asked: 1,
-        affected: 1,
-        gained: Ways::OtherVolume,
-        lost: Ways::One,
-    },
-];
+/// The default zone permits, and the storage group has the other target too.
+const PERMITTED: Deed = Deed::Acts(&[Act::Permit, Act::Target("g1", SECOND_TARGET)]);
 
-/// An empty list takes all ports of its fabric out.
-const PORTS_GONE: &[Turn] = &[
-    FIRST,
-    Turn {
-        deed: Deed::Listed(Fabric::A, &[]),
-        asked: 1,
-        affected: 6,
-        gained: Ways::None,
-        lost: Ways::One,
-    },
-];
+/// The initiator is in no zone any more.
+const NO_INITIATOR: Deed = Deed::Acts(&[
+    Act::Zone("z1", Item::Alias("disk"), Item::Alias("disk")),
+    Act::Activate("s1"),
+]);
 
-/// The initiator of a zone is told by its address, which port lists tell, tell again in another way, change
-/// and leave out; then the zone is as it was.
-const BY_ADDRESS: &[Turn] = &[
-    FIRST,
-    Turn {
-        deed: Deed::Listed(
-            Fabric::A,
-            &[
-                (FIRST_INITIATOR, Some("010100")),
-                (SECOND_INITIATOR, None),
-                (THIRD_INITIATOR, None),
-                (FIRST_TARGET, None),
-                (SECOND_TARGET, None),
-            ],
-        ),
-        asked: 1,
-        affected: 2,
-        gained: Ways::None,
-        lost: Ways::None,
-    },
-    Turn {
-        deed: Deed::Listed(
-            Fabric::A,
-            &[
-                (FIRST_INITIATOR, Some("0x010100")),
-                (SECOND_INITIATOR, None),
-                (THIRD_INITIATOR, None),
-                (FIRST_TARGET, None),
-                (SECOND_TARGET, None),
-            ],
-        ),
-        asked: 0,
-        affected: 0,
-        gained: Ways::None,
-        lost: Ways::None,
-    },
-    Turn {
-        deed: Deed::Acts(&[
-            Act::Zone(Z1, Item::Address("010100"), Item::Alias(DISK)),
-            Act::Activate(S1),
-        ]),
-        asked: 0,
-        affected: 0,
-        gained: Ways::None,
-        lost: Ways::None,
-    },
-    Turn {
-        deed: Deed::Listed(
-            Fabric::A,
-            &[
-                (FIRST_INITIATOR, Some("010101")),
-                (SECOND_INITIATOR, None),
-                (THIRD_INITIATOR, None),
-                (FIRST_TARGET, None),
-                (SECOND_TARGET, None),
-            ],
-        ),
-        asked: 1,
-        affected: 2,
-        gained: Ways::None,
-        lost: Ways::One,
-    },
-    Turn {
-        deed: Deed::Listed(
-            Fabric::A,
-            &[
-                (FIRST_INITIATOR, None),
-                (SECOND_INITIATOR, None),
-                (THIRD_INITIATOR, None),
-                (FIRST_TARGET, None),
-                (SECOND_TARGET, None),
-            ],
-        ),
-        asked: 1,
-        affected: 2,
-        gained: Ways::None,
-        lost: Ways::None,
-    },
-    Turn {
-        deed: Deed::Acts(&[
-            Act::Zone(Z1, Item::Port(FIRST_INITIATOR), Item::Alias(DISK)),
-            Act::Activate(S1),
-        ]),
-        asked: 1,
-        affected: 2,
-        gained: Ways::One,
-        lost: Ways::None,
-    },
-];
+/// The initiator of the zone is told by its address.
+const BY_ADDRESS: Deed = Deed::Acts(&[
+    Act::Zone("z1", Item::Address("010100"), Item::Alias("disk")),
+    Act::Activate("s1"),
+]);
 
-/// Two ports have one address; then another has it in the place of one of them, and the last of them has it
-/// in the other fabric.
-const SHARED: &[Turn] = &[
-    FIRST,
-    Turn {
-        deed: Deed::Listed(
-            Fabric::A,
-            &[
-                (FIRST_INITIATOR, Some("010100")),
-                (SECOND_INITIATOR, Some("ef0001")),
-                (THIRD_INITIATOR, Some("ef0001")),
-                (FIRST_TARGET, Some("020200")),
-                (SECOND_TARGET, None),
-            ],
-        ),
-        asked: 1,
-        affected: 6,
-        gained: Ways::None,
-        lost: Ways::None,
-    },
-    Turn {
-        deed: Deed::Acts(&[
-            Act::Zone(Z3, Item::Address("ef0001"), Item::Address("020200")),
-            Act::Set(S1, Z1, Z3),
-            Act::Activate(S1),
-            Act::Hosts(HOSTS2, DB2),
-            Act::Group(G2, HOSTS2),
-            Act::Target(G2, FIRST_TARGET),
-            Act::Target(G2, SECOND_TARGET),
-            Act::Map(G2, 0, V2),
-            Act::Expose(G2),
-        ]),
-        asked: 5,
-        affected: 5,
-        gained: Ways::Second,
-        lost: Ways::None,
-    },
-    Turn {
-        deed: Deed::Listed(
-            Fabric::A,
-            &[
-                (FIRST_INITIATOR, Some("010100")),
-                (SECOND_INITIATOR, Some("ef0001")),
-                (THIRD_INITIATOR, None),
-                (FIRST_TARGET, Some("020200")),
-                (SECOND_TARGET, Some("ef0001")),
-            ],
-        ),
-        asked: 3,
-        affected: 4,
-        gained: Ways::SecondFar,
-        lost: Ways::Third,
-    },
-    Turn {
-        deed: Deed::Listed(Fabric::B, &[(SECOND_INITIATOR, Some("ef0001"))]),
-        asked: 2,
-        affected: 2,
-        gained: Ways::None,
-        lost: Ways::SecondNearAndFar,
-    },
-];
+/// The initiator of the zone is told by its name.
+const BY_NAME: Deed = Deed::Acts(&[
+    Act::Zone("z1", Item::Port(FIRST_INITIATOR), Item::Alias("disk")),
+    Act::Activate("s1"),
+]);
+
+/// A zone by addresses is in the set, and the second host has the second volume at both targets.
+const SHARED_ZONE: Deed = Deed::Acts(&[
+    Act::Zone("z3", Item::Address("ef0001"), Item::Address("020200")),
+    Act::Set("s1", "z1", "z3"),
+    Act::Activate("s1"),
+    Act::Hosts("hosts2", "db2"),
+    Act::Group("g2", "hosts2"),
+    Act::Target("g2", FIRST_TARGET),
+    Act::Target("g2", SECOND_TARGET),
+    Act::Map("g2", 0, "v2"),
+    Act::Expose("g2"),
+]);
+
+/// All ports of fabric A, with an address of the first initiator.
+const TOLD: Deed = Deed::Listed(
+    Fabric::A,
+    FIRST_INITIATOR,
+    &[Some("010100"), None, None, None, None],
+);
+
+/// The same, and the address is written in another way.
+const TOLD_AGAIN: Deed = Deed::Listed(
+    Fabric::A,
+    FIRST_INITIATOR,
+    &[Some("0x010100"), None, None, None, None],
+);
+
+/// The same ports, with another address of the first.
+const CHANGED: Deed = Deed::Listed(
+    Fabric::A,
+    FIRST_INITIATOR,
+    &[Some("010101"), None, None, None, None],
+);
+
+/// The same ports, and no address is told.
+const LEFT_OUT: Deed = Deed::Listed(Fabric::A, FIRST_INITIATOR, UNTOLD);
+
+/// Two ports have one address.
+const TWO_OF_ONE: Deed = Deed::Listed(
+    Fabric::A,
+    FIRST_INITIATOR,
+    &[
+        Some("010100"),
+        Some("ef0001"),
+        Some("ef0001"),
+        Some("020200"),
+        None,
+    ],
+);
+
+/// Another port has it in the place of one of them.
+const IN_ITS_PLACE: Deed = Deed::Listed(
+    Fabric::A,
+    FIRST_INITIATOR,
+    &[
+        Some("010100"),
+        Some("ef0001"),
+        None,
+        Some("020200"),
+        Some("ef0001"),
+    ],
+);
+
+/// The other of them has it in fabric B.
+const ELSEWHERE: Deed = Deed::Listed(Fabric::B, SECOND_INITIATOR, &[Some("ef0001")]);
 
 /// Steps from an empty configuration on, table by table.
 const TABLES: &[&[Turn]] = &[
-    ACTIVE_IS_A_COPY,
-    ZONES_OVERLAP,
-    DEFAULT_ZONE,
-    PLACE,
-    ANOTHER_VOLUME,
-    PORTS_GONE,
-    BY_ADDRESS,
-    SHARED,
+    // What is active is a copy, until it is activated again.
+    &[
+        FIRST,
+        (OTHER_ALIAS, (0, 0), (NONE, NONE)),
+        (AGAIN, (1, 6), (NONE, ONE)),
+    ],
+    // Zones overlap, and one of them is enough.
+    &[
+        FIRST,
+        (BOTH_ZONES, (1, 4), (NONE, NONE)),
+        (SECOND_ZONE, (1, 4), (NONE, NONE)),
+    ],
+    // A port that is in a zone is not in the default zone.
+    &[
+        FIRST,
+        (PERMITTED, (1, 6), (NONE, NONE)),
+        (NO_INITIATOR, (2, 2), (OTHER_TARGET, ONE)),
+    ],
+    // A place stands for all ports that are logged in there; and an equal world.
+    &[
+        FIRST,
+        (SECOND_PLAN, (3, 5), (SECOND, NONE)),
+        (NOTHING, (0, 0), (NONE, NONE)),
+    ],
+    // Another volume at the host's unit, by another group.
+    &[FIRST, (OTHER_GROUP, (1, 1), (OTHER_VOLUME, ONE))],
+    &[FIRST, (PORTS_GONE, (1, 6), (NONE, ONE))],
+    // The initiator of a zone is told by its address, which port lists tell, tell again in another way,
+    // change and leave out; then the zone is as it was.
+    &[
+        FIRST,
+        (TOLD, (1, 2), (NONE, NONE)),
+        (TOLD_AGAIN, (0, 0), (NONE, NONE)),
+        (BY_ADDRESS, (0, 0), (NONE, NONE)),
+        (CHANGED, (1, 2), (NONE, ONE)),
+        (LEFT_OUT, (1, 2), (NONE, NONE)),
+        (BY_NAME, (1, 2), (ONE, NONE)),
+    ],
+    // Two ports have one address; then another has it in the place of one of them, and the last of them
+    // has it in the other fabric.
+    &[
+        FIRST,
+        (TWO_OF_ONE, (1, 6), (NONE, NONE)),
+        (SHARED_ZONE, (5, 5), (SECOND, NONE)),
+        (IN_ITS_PLACE, (3, 4), (SECOND_FAR, THIRD)),
+        (ELSEWHERE, (2, 2), (NONE, SECOND_NEAR_AND_FAR)),
+    ],
 ];
-
-/// A book that stands at the first world makes the step to the second ready, and drops it.
-pub fn assert_tried<B: PathBook<Global>>(
-    rt: &(impl Abort + AllocGlobal),
-    book: &mut B,
-    before: &View<'_, Global>,
-    after: &View<'_, Global>,
-    lists: (Ways, Ways),
-)
-    requires stands { B.stands book.old (seen before.now) }
-    requires sound { IsServing (seen after.now) }
-    ensures { B.stands book.new (seen before.now) }
-{
-    let diff = row_diff(rt.alloc(), before, after).expect(rt, "a difference");
-    let mut sight = ViewSight::new(rt.alloc(), *after);
-    let ready = book.prepare(before, &diff, &mut sight).expect(rt, "a step");
-    assert!(rt; book.has_few(&ready));
-    assert_delta(rt, book.delta(&ready), lists);
-}
-
-/// A book that is opened at the first world is led to the second: the step is tried first. Gives how
-/// many questions each of both was.
-fn questions<B: PathBook<Global>>(
-    rt: &(impl Abort + AllocGlobal),
-    before: &View<'_, Global>,
-    after: &View<'_, Global>,
-    lists: (Ways, Ways),
-) -> (u64, u64) {
-    assert!(rt; before.is_serving());
-    assert!(rt; after.is_serving());
-    let mut book = B::open(rt.alloc(), before).expect(rt, "a book");
-    assert!(rt; book.asked() == 0);
-    assert_tried(rt, &mut book, before, after, lists);
-    let tried = book.asked();
-    let delta = book.advance(before, after).expect(rt, "a step");
-    assert_delta(rt, &delta, lists);
-    (tried, book.asked())
-}
 
 /// The step of the turn asks about as many pairs as the turn says, where it is tried and where it is
 /// taken.
@@ -367,69 +185,24 @@ fn assert_turn(
     after: &View<'_, Global>,
     turn: &Turn,
 ) {
-    let lists = (turn.gained, turn.lost);
-    let asked = questions::<IndexBook<Global>>(rt, before, after, lists);
-    assert!(rt; asked.0 == turn.asked);
-    assert!(rt; asked.1 == turn.asked.saturating_add(turn.asked));
-    assert!(rt; asked.0 <= turn.affected);
-}
-
-/// The inventory after the deed.
-fn inventory_after(
-    rt: &(impl Abort + AllocGlobal),
-    inventory: &Inventory<Global>,
-    deed: Deed,
-) -> Inventory<Global> {
-    let mut after = inventory.copy().expect(rt, "a copy");
-    if let Deed::Listed(fabric, ports) = deed {
-        list_all(&mut after, rt, fabric, ports);
-    }
-    after
-}
-
-/// The configuration after these acts.
-fn changed(
-    rt: &(impl Abort + AllocGlobal),
-    inventory: &Inventory<Global>,
-    config: &Config<Global>,
-    acts: &[Act],
-) -> Config<Global> {
-    let mut config = config.copy().expect(rt, "a copy");
-    for act in acts {
-        change(&mut config, rt, inventory, *act);
-    }
-    config
-}
-
-/// The configuration after the deed.
-fn config_after(
-    rt: &(impl Abort + AllocGlobal),
-    inventory: &Inventory<Global>,
-    config: &Config<Global>,
-    deed: Deed,
-) -> Config<Global> {
-    let acts: &[Act] = match deed {
-        Deed::Listed(..) => &[],
-        Deed::Acts(acts) => acts,
-    };
-    changed(rt, inventory, config, acts)
+    let (asked, affected) = turn.1;
+    let (book, tried) = led::<IndexBook<Global>>(rt, before, after, turn.2);
+    assert!(rt; tried == asked);
+    assert!(rt; book.asked() == asked.saturating_add(asked));
+    assert!(rt; asked <= affected);
 }
 
 /// A book is led through a turn. Gives what is after it.
-fn led(
+fn turned(
     rt: &(impl Abort + AllocGlobal),
     inventory: &Inventory<Global>,
     config: &Config<Global>,
     turn: &Turn,
 ) -> (Inventory<Global>, Config<Global>) {
-    let new_config = config_after(rt, inventory, config, turn.deed);
-    let new_inventory = inventory_after(rt, inventory, turn.deed);
-    assert_turn(
-        rt,
-        &View::of(inventory, config),
-        &View::of(&new_inventory, &new_config),
-        turn,
-    );
+    let new_config = config_after(rt, inventory, config, turn.0);
+    let new_inventory = inventory_after(rt, inventory, turn.0);
+    let after = View::of(&new_inventory, &new_config);
+    assert_turn(rt, &View::of(inventory, config), &after, turn);
     (new_inventory, new_config)
 }
 
@@ -438,7 +211,7 @@ fn assert_turns(rt: &(impl Abort + AllocGlobal), turns: &[Turn]) {
     let mut inventory = stock(rt);
     let mut config = empty(rt.alloc());
     for turn in turns {
-        let (new_inventory, new_config) = led(rt, &inventory, &config, turn);
+        let (new_inventory, new_config) = turned(rt, &inventory, &config, turn);
         inventory = new_inventory;
         config = new_config;
     }

@@ -1,5 +1,5 @@
-//! Tests of books of paths, of how many pairs a step asks about, of the limit on paths, of the links of a
-//! way, and of who reaches a volume, over worlds that are built call by call. What is said by requests and
+//! Tests of books of paths, of how many pairs a step asks about, of the limit on paths, and of the places
+//! that a step makes in an index, over worlds that are built call by call. What is said by requests and
 //! answers alone is recorded in `fab_wire_conformance`. Nothing here is part of the product.
 #![tactic(auto)]
 
@@ -10,11 +10,7 @@ mod counted;
 #[cfg(test)]
 mod limits;
 #[cfg(test)]
-mod links;
-#[cfg(test)]
 mod places;
-#[cfg(test)]
-mod reachers;
 #[cfg(test)]
 mod steps;
 #[cfg(test)]

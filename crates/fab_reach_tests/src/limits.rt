@@ -1,14 +1,13 @@
 //! As many paths as there may be, and more.
 
 use crate::steps::empty;
-use crate::stock::{named, place, wwn};
+use crate::stock::{name, place, wwn};
 use fab_inventory::{HolderKind, Inventory, PortRow};
 use fab_mapping::Mapping;
 use fab_names::{Fabric, Wwn};
 use fab_reach::IndexBook;
 use fab_reach_base::{Config, PathsFault, View, few_paths, plain_paths};
 use fab_reach_books::{Limited, PathBook, ViewSight, row_diff};
-use fab_reach_plain::PlainBook;
 use fab_zoning::DefaultFlag;
 use std::alloc::Global;
 use std::process::Abort;
@@ -34,20 +33,14 @@ fn row(rt: &impl Abort, number: u64) -> PortRow {
     PortRow::plain(wwn(rt, number), wwn(rt, 1), place(rt, 1, 1))
 }
 
-/// The fabric lists the ports of these numbers.
-fn list(
-    inventory: &mut Inventory<Global>,
-    rt: &(impl Abort + AllocGlobal),
-    fabric: Fabric,
-    first: u64,
-    end: u64,
-) {
+/// Fabric A lists the ports 1 to 96.
+fn list(inventory: &mut Inventory<Global>, rt: &(impl Abort + AllocGlobal)) {
     let mut rows = Vec::new(rt.alloc());
-    for number in first..end {
+    for number in 1..97 {
         rows.push(row(rt, number)).expect(rt, "a row");
     }
     inventory
-        .import(fabric, rows.as_slice())
+        .import(Fabric::A, rows.as_slice())
         .expect(rt, "a port list");
 }
 
@@ -60,7 +53,7 @@ fn hold(
     first: u64,
     end: u64,
 ) {
-    let (holder, tenant) = (named(rt, holder), named(rt, "blue"));
+    let (holder, tenant) = (name(rt, holder), name(rt, "blue"));
     let ports = ports(rt, first, end);
     inventory
         .put_holder(holder, kind, tenant, ports.as_slice())
@@ -69,10 +62,10 @@ fn hold(
 
 /// All volumes, of the array.
 fn volumes(inventory: &mut Inventory<Global>, rt: &impl Abort) {
-    let (array, tenant) = (named(rt, "arr1"), named(rt, "blue"));
-    for &name in VOLUMES {
+    let (array, tenant) = (name(rt, "arr1"), name(rt, "blue"));
+    for &volume in VOLUMES {
         inventory
-            .put_volume(named(rt, name), array, tenant, 1)
+            .put_volume(name(rt, volume), array, tenant, 1)
             .expect(rt, "a volume");
     }
 }
@@ -84,7 +77,7 @@ fn world(rt: &(impl Abort + AllocGlobal), count: u64) -> Inventory<Global> {
         panic!(rt; "ports");
     }
     let mut inventory = Inventory::new(rt.alloc());
-    list(&mut inventory, rt, Fabric::A, 1, 97);
+    list(&mut inventory, rt);
     hold(&mut inventory, rt, HolderKind::Array, "arr1", 65, 97);
     volumes(&mut inventory, rt);
     hold(&mut inventory, rt, HolderKind::Host, "h", 1, count + 1);
@@ -93,12 +86,12 @@ fn world(rt: &(impl Abort + AllocGlobal), count: u64) -> Inventory<Global> {
 
 /// A group `g` of the array, for a host group of the host.
 fn group(mapping: &mut Mapping<Global>, rt: &impl Abort, inventory: &Inventory<Global>) {
-    let (group, hosts, tenant) = (named(rt, "g"), named(rt, "hosts"), named(rt, "blue"));
+    let (group, hosts, tenant) = (name(rt, "g"), name(rt, "hosts"), name(rt, "blue"));
     mapping
-        .put_host_group(hosts, tenant, &[named(rt, "h")], inventory)
+        .put_host_group(hosts, tenant, &[name(rt, "h")], inventory)
         .expect(rt, "a host group");
     mapping
-        .new_group(group, tenant, named(rt, "arr1"), inventory)
+        .new_group(group, tenant, name(rt, "arr1"), inventory)
         .expect(rt, "a group");
     mapping.add_hosts(&group, &hosts).expect(rt, "hosts");
 }
@@ -109,7 +102,7 @@ fn targets(
     rt: &(impl Abort + AllocGlobal),
     inventory: &Inventory<Global>,
 ) {
-    let group = named(rt, "g");
+    let group = name(rt, "g");
     let ports = ports(rt, 65, 97);
     for port in &ports {
         mapping
@@ -125,11 +118,11 @@ fn units(
     inventory: &Inventory<Global>,
     count: u16,
 ) {
-    let group = named(rt, "g");
+    let group = name(rt, "g");
     for unit in 0..count {
         let volume = VOLUMES.get(usize::from(unit)).expect(rt, "volume");
         mapping
-            .map(&group, unit, &named(rt, volume), inventory)
+            .map(&group, unit, &name(rt, volume), inventory)
             .expect(rt, "a unit");
     }
 }
@@ -145,7 +138,7 @@ fn offer(
     targets(mapping, rt, inventory);
     units(mapping, rt, inventory, count);
     mapping
-        .expose(&named(rt, "g"))
+        .expose(&name(rt, "g"))
         .expect(rt, "an exposed group");
 }
 
@@ -184,23 +177,6 @@ const CASES: &[Case] = &[
     (63, 33, 66_528, None),
 ];
 
-/// A book that stands at a world without paths makes the step to the second ready, and tells whether
-/// there are few paths then.
-fn assert_step<B: PathBook<Global>>(
-    rt: &(impl Abort + AllocGlobal),
-    before: &View<'_, Global>,
-    after: &View<'_, Global>,
-    few: bool,
-) {
-    assert!(rt; before.is_serving());
-    assert!(rt; after.is_serving());
-    let mut book = B::open(rt.alloc(), before).expect(rt, "a book");
-    let diff = row_diff(rt.alloc(), before, after).expect(rt, "a difference");
-    let mut sight = ViewSight::new(rt.alloc(), *after);
-    let ready = book.prepare(before, &diff, &mut sight).expect(rt, "a step");
-    assert!(rt; book.has_few(&ready) == few);
-}
-
 /// Over a sight that stops past the limit the step is made ready just where there are few paths.
 fn assert_stop<B: PathBook<Global>>(
     rt: &(impl Abort + AllocGlobal),
@@ -218,8 +194,8 @@ fn assert_stop<B: PathBook<Global>>(
     assert!(rt; sight.is_over() != few);
 }
 
-/// It is told whether there are few paths after the step from the world of the host without a group to
-/// this one: by a sight that stops, and by the plain book.
+/// A sight that stops tells whether there are few paths after the step from the world of the host without a
+/// group to this one.
 fn assert_told(
     rt: &(impl Abort + AllocGlobal),
     inventory: &Inventory<Global>,
@@ -229,12 +205,9 @@ fn assert_told(
     let bare = empty(rt.alloc());
     let worlds = (View::of(inventory, &bare), View::of(inventory, config));
     assert_stop::<IndexBook<Global>>(rt, &worlds.0, &worlds.1, few);
-    if !few {
-        assert_step::<PlainBook<Global>>(rt, &worlds.0, &worlds.1, few);
-    }
 }
 
-/// Both calls list so many paths, and the books tell whether there may be.
+/// Both calls list so many paths, and a sight that stops tells whether there may be.
 fn assert_case(rt: &(impl Abort + AllocGlobal), case: Case) {
     let inventory = world(rt, case.0);
     let config = permitting(rt, &inventory, case.1);
@@ -248,59 +221,5 @@ fn assert_case(rt: &(impl Abort + AllocGlobal), case: Case) {
 fn paths_limit(rt: HostRuntime) {
     for &case in CASES {
         assert_case(&rt, case);
-    }
-}
-
-/// A book that stands at as many paths as there may be tells of the step that the turn makes whether
-/// there are few paths then.
-fn assert_full(rt: &(impl Abort + AllocGlobal), act: Turn, few: bool) {
-    let inventory = world(rt, 64);
-    let before = permitting(rt, &inventory, 32);
-    let mut after = before.copy().expect(rt, "a copy");
-    make_turn(&mut after, rt, &inventory, act);
-    let worlds = (View::of(&inventory, &before), View::of(&inventory, &after));
-    assert_step::<IndexBook<Global>>(rt, &worlds.0, &worlds.1, few);
-}
-
-/// What is done to a world that has as many paths as there may be.
-#[derive(Clone, Copy)]
-enum Turn {
-    /// One volume more is mapped.
-    More,
-    /// One volume takes the place of another.
-    Swap,
-}
-
-/// Turns, each with whether there are few paths then.
-const TURNS: &[(Turn, bool)] = &[(Turn::More, false), (Turn::Swap, true)];
-
-/// Makes the turn.
-fn make_turn(
-    config: &mut Config<Global>,
-    rt: &impl Abort,
-    inventory: &Inventory<Global>,
-    turn: Turn,
-) {
-    let group = named(rt, "g");
-    let other = named(rt, "v32");
-    match turn {
-        Turn::More => config
-            .mapping
-            .map(&group, 32, &other, inventory)
-            .expect(rt, "a unit"),
-        Turn::Swap => {
-            config.mapping.unmap(&group, 0).expect(rt, "a unit");
-            config
-                .mapping
-                .map(&group, 0, &other, inventory)
-                .expect(rt, "a unit");
-        }
-    }
-}
-
-#[test]
-fn full_book_is_led(rt: HostRuntime) {
-    for &(turn, few) in TURNS {
-        assert_full(&rt, turn, few);
     }
 }

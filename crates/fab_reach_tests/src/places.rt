@@ -1,6 +1,6 @@
 //! Places that a step makes in an index: those that stay empty are taken out, and no others.
 
-use crate::stock::{DB1, G1, name};
+use crate::stock::name;
 use fab_reach_index::Index;
 use std::alloc::Global;
 use std::collections::BTreeSet;
@@ -17,10 +17,10 @@ struct Noted {
 fn one_set(rt: &(impl Abort + AllocGlobal), is_empty: bool) -> Index<Global> {
     let mut groups = BTreeSet::new(rt.alloc());
     if !is_empty {
-        groups.insert(name(rt, G1)).expect(rt, "a group");
+        groups.insert(name(rt, "g1")).expect(rt, "a group");
     }
     let mut index = Index::empty(rt.alloc());
-    let added: Result<_, _> = index.groups.insert(name(rt, DB1), groups);
+    let added: Result<_, _> = index.groups.insert(name(rt, "db1"), groups);
     added.expect(rt, "a set");
     index
 }
@@ -32,7 +32,7 @@ fn with_room(rt: &(impl Abort + AllocGlobal), patch: &Index<Global>) -> Noted {
     index
         .make_room(rt.alloc(), &mut noted, patch)
         .expect(rt, "room");
-    assert!(rt; index.groups.contains_key(&name(rt, DB1)));
+    assert!(rt; index.groups.contains_key(&name(rt, "db1")));
     Noted { index, noted }
 }
 
@@ -40,7 +40,7 @@ fn with_room(rt: &(impl Abort + AllocGlobal), patch: &Index<Global>) -> Noted {
 fn a_place_of_a_step_that_is_not_taken_goes(rt: HostRuntime) {
     let Noted { mut index, noted } = with_room(&rt, &one_set(&rt, false));
     index.clear(&noted);
-    assert!(rt; !index.groups.contains_key(&name(&rt, DB1)));
+    assert!(rt; !index.groups.contains_key(&name(&rt, "db1")));
 }
 
 #[test]
@@ -49,7 +49,7 @@ fn a_place_that_a_step_empties_goes(rt: HostRuntime) {
     let Noted { mut index, noted } = with_room(&rt, &patch);
     index.take(patch);
     index.clear(&noted);
-    assert!(rt; !index.groups.contains_key(&name(&rt, DB1)));
+    assert!(rt; !index.groups.contains_key(&name(&rt, "db1")));
 }
 
 #[test]
@@ -58,5 +58,5 @@ fn a_place_that_a_step_fills_stays(rt: HostRuntime) {
     let Noted { mut index, noted } = with_room(&rt, &patch);
     index.take(patch);
     index.clear(&noted);
-    assert!(rt; index.groups.contains_key(&name(&rt, DB1)));
+    assert!(rt; index.groups.contains_key(&name(&rt, "db1")));
 }

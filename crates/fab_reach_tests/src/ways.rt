@@ -1,8 +1,7 @@
 //! Paths that are expected.
 
 use crate::stock::{
-    FIRST_INITIATOR, FIRST_TARGET, SECOND_INITIATOR, SECOND_TARGET, THIRD_INITIATOR, V1, V2, name,
-    port,
+    FIRST_INITIATOR, FIRST_TARGET, SECOND_INITIATOR, SECOND_TARGET, THIRD_INITIATOR, name, port,
 };
 use fab_names::Fabric;
 use fab_reach_base::Path;
@@ -10,53 +9,47 @@ use std::alloc::Global;
 use std::process::Abort;
 
 /// A path in fabric A: initiator, target, volume, unit.
-type Way = (usize, usize, usize, u16);
+pub type Way = (usize, usize, &'static str, u16);
 
-/// The path of the first host to the first volume.
-const ONE: Way = (FIRST_INITIATOR, FIRST_TARGET, V1, 0);
+/// All paths that are there, in order.
+pub type Ways = &'static [Way];
 
-/// All paths that are there.
-#[derive(Clone, Copy)]
-pub enum Ways {
-    None,
-    /// That of the first host to the first volume.
-    One,
-    /// The same by the other target.
-    OtherTarget,
-    /// The same to the other volume.
-    OtherVolume,
-    /// Those of the second host to the second volume.
-    Second,
-    /// That of the second host from its first port to the second target.
-    SecondFar,
-    /// That of the second host from its other port to the first target.
-    Third,
-    /// Those of the second host from its first port to both targets.
-    SecondNearAndFar,
-    /// That of the first host to the first volume at unit 5.
-    UnitFive,
-    /// Those of the first host to the first volume at units 0 and 5.
-    TwoUnits,
-}
+/// No path.
+pub const NONE: Ways = &[];
 
-/// The path of this number, if there are so many.
-fn way(ways: Ways, number: usize) -> Option<Way> {
-    match (ways, number) {
-        (Ways::One | Ways::TwoUnits, 0) => Some(ONE),
-        (Ways::OtherTarget, 0) => Some((FIRST_INITIATOR, SECOND_TARGET, V1, 0)),
-        (Ways::OtherVolume, 0) => Some((FIRST_INITIATOR, FIRST_TARGET, V2, 0)),
-        (Ways::Second | Ways::SecondNearAndFar, 0) => Some((SECOND_INITIATOR, FIRST_TARGET, V2, 0)),
-        (Ways::SecondFar, 0) | (Ways::SecondNearAndFar, 1) => Some((
-            SECOND_INITIATOR,
-            SECOND_TARGET,
-            V2,
-            0,
-        )),
-        (Ways::Third, 0) | (Ways::Second, 1) => Some((THIRD_INITIATOR, FIRST_TARGET, V2, 0)),
-        (Ways::UnitFive, 0) | (Ways::TwoUnits, 1) => Some((FIRST_INITIATOR, FIRST_TARGET, V1, 5)),
-        _ => None,
-    }
-}
+/// That of the first host to the first volume.
+pub const ONE: Ways = &[(FIRST_INITIATOR, FIRST_TARGET, "v1", 0)];
+
+/// The same by the other target.
+pub const OTHER_TARGET: Ways = &[(FIRST_INITIATOR, SECOND_TARGET, "v1", 0)];
+
+/// The same to the other volume.
+pub const OTHER_VOLUME: Ways = &[(FIRST_INITIATOR, FIRST_TARGET, "v2", 0)];
+
+/// Those of the second host to the second volume.
+pub const SECOND: Ways = &[
+    (SECOND_INITIATOR, FIRST_TARGET, "v2", 0),
+    (THIRD_INITIATOR, FIRST_TARGET, "v2", 0),
+];
+
+/// Those of all initiators to the second volume.
+pub const ALL: Ways = &[
+    (FIRST_INITIATOR, FIRST_TARGET, "v2", 0),
+    (SECOND_INITIATOR, FIRST_TARGET, "v2", 0),
+    (THIRD_INITIATOR, FIRST_TARGET, "v2", 0),
+];
+
+/// That of the second host from its first port to the second target.
+pub const SECOND_FAR: Ways = &[(SECOND_INITIATOR, SECOND_TARGET, "v2", 0)];
+
+/// That of the second host from its other port to the first target.
+pub const THIRD: Ways = &[(THIRD_INITIATOR, FIRST_TARGET, "v2", 0)];
+
+/// Those of the second host from its first port to both targets.
+pub const SECOND_NEAR_AND_FAR: Ways = &[
+    (SECOND_INITIATOR, FIRST_TARGET, "v2", 0),
+    (SECOND_INITIATOR, SECOND_TARGET, "v2", 0),
+];
 
 /// The path.
 fn path(rt: &impl Abort, way: Way) -> Path {
@@ -71,9 +64,9 @@ fn path(rt: &impl Abort, way: Way) -> Path {
 
 /// The paths are these, in this order.
 pub fn assert_ways(rt: &impl Abort, paths: &Vec<Path, Global>, ways: Ways) {
+    assert_eq!(rt; paths.len(), ways.len());
     for (number, found) in paths.iter().enumerate() {
-        let way = way(ways, number).expect(rt, "no more paths");
-        assert!(rt; path(rt, way) == *found);
+        let way = ways.get(number).expect(rt, "no more paths");
+        assert!(rt; path(rt, *way) == *found);
     }
-    assert!(rt; way(ways, paths.len()).is_none());
 }
