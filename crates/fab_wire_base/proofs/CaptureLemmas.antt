@@ -32,11 +32,6 @@ wild (b ∷ lits) t len token at h k =
     ∙ wild lits t len (token + 1) (at + 1) h.1 (omega arith)
     ∙ ap₂ (λ (x y : ℕ). (x, y)) a e
 
--- behind a part stands nothing, or a slash
-abbrev pub EndsPart : List ℕ → List ℕ → Type 0
-EndsPart [] rest = rest ≡ []
-EndsPart (x ∷ t) rest = (x ≡ 47) × ((more : List ℕ) × (rest ≡ 47 ∷ more))
-
 segment-part : (part more : List ℕ) → has_slash part ≡ false → length (segment (part ++ 47 ∷ more)) ≡ length part + 1
 segment-part [] more h = refl
 segment-part (b ∷ part) more h = segment-part-at (b == 47) b part more (segment-part part more) h

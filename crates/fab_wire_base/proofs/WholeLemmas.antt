@@ -1,9 +1,12 @@
 -- What a beginning tells of an input.
-use Rattle.std.proofs.Common.{rules, ◌≡◌, ℕ, ◌+◌, ◌-◌, ◌<◌, ◌≤◌, inl, inr, List, [], ◌∷◌, ◌++◌, length, take, drop, Option, Some, None, refl, sym, subst, ap, Bool, true, false, arith, map, length-append, append_assoc}
-use Rattle.std.specs.Prelude.{nat_le, if◌then◌else◌, IfNone}
+use Rattle.std.proofs.Common.{rules, ◌≡◌, ℕ, ◌+◌, ◌-◌, ◌<◌, ◌≤◌, inl, inr, List, [], ◌∷◌, ◌++◌, length, take, drop, Option, Some, None, refl, sym, subst, ap, Bool, true, false, arith, map, length-append, append_assoc, append-nil, get_or, lit<, lit≤, suc, zero}
+use Rattle.std.specs.Prelude.{nat_le, if◌then◌else◌}
 use Rattle.std.proofs.lemmas.Bool.Decides.{nat_tests}
 use Rattle.std.proofs.lemmas.List.{take-append-le, length-drop}
-use Rattle.httparse.specs.Grammar.{HasNoRequest, print_request}
+use Rattle.std.proofs.lemmas.List.Elements.{All-cons, All-nil}
+use Rattle.std.proofs.lemmas.Str.{IsUtf8-from_ascii}
+use Rattle.std.specs.Prelude.{IsTrue}
+use Rattle.httparse.specs.Grammar.{HasNoRequest, IsField, IsRequestHead, lf, MayBecomeRequest, RequestHead, is_token_byte, is_uri_byte, print_request}
 use Rattle.httparse.specs.Spans.{IsRequestOf, RequestOverflows, span_bytes, name_and_value}
 use Rattle.httparse.proofs.GrammarLemmas.{ReadsRequest-append}
 use Rattle.httparse.specs.declared.spans.HeaderSpan.{HeaderSpan}
@@ -24,10 +27,6 @@ use Rattle.fab_wire_base.proofs.HeadLemmas.{full-refused, head-refused}
 use Rattle.fab_wire_base.proofs.HearLemmas.{spells-read, behind-whole}
 use Rattle.fab_wire_base.proofs.SpellingLemmas.{head-some, spells_one}
 use Rattle.fab_wire_base.specs.Whole.{IsWhole, Lacks, BeginningsTell}
-
-pub IfNone-map : {X : Type 0} (o : Option X) (P Q : Type 0) → (P → Q) → IfNone o P → IfNone o Q
-IfNone-map None P Q f h = f h
-IfNone-map (Some x) P Q f h = tt
 
 -- what a beginning spells that is whole, each input spells that begins so
 pub beginnings-tell : BeginningsTell
@@ -108,12 +107,35 @@ body-lacks knows got behind headers spans token k size (h, at) small within asks
 pub none-empty : (got : List ℕ) → length got ≡ 0 → HasNoRequest got
 none-empty got e h rest k = absurd (omega (arith, e, head-some got h rest k))
 
--- no head begins the bytes, and there is room for more
-pub head-lacks : (knows : List ℕ → Bool) (got behind : List ℕ) → length got < most_head → length behind ≡ 0 → HasNoRequest got → Lacks knows (got ++ behind) (length got + 1)
-head-lacks knows got [] small e n =
+-- a short head: G / HTTP/1.1 and an empty line
+abbrev short_head : RequestHead
+short_head = record { blank = []; method = 71 ∷ []; target = 47 ∷ []; minor = 1; line_end = lf; fields = []; last = lf }
+
+slash-ascii : (i : ℕ) → get_or (47 ∷ []) i 0 < 128
+slash-ascii zero = lit< tt
+slash-ascii (suc i) = lit< tt
+
+is-short_head : IsRequestHead short_head
+unfolding is_token_byte
+is-short_head = record {
+  method = (lit< tt, All-cons (λ b. IsTrue (is_token_byte b)) 71 [] refl (All-nil (λ b. IsTrue (is_token_byte b))));
+  target = (lit< tt, All-cons (λ b. IsTrue (is_uri_byte b)) 47 [] refl (All-nil (λ b. IsTrue (is_uri_byte b))));
+  target_text = IsUtf8-from_ascii (47 ∷ []) slash-ascii;
+  minor = lit≤ tt;
+  fields = All-nil IsField;
+}
+
+-- bytes may follow no bytes that make a head
+pub empty-may : (got : List ℕ) → length got ≡ 0 → MayBecomeRequest got
+empty-may [] e = inl (print_request short_head, short_head, (is-short_head, sym (append-nil (print_request short_head))))
+empty-may (b ∷ got) e = absurd (omega (arith, e))
+
+-- no head begins the bytes, more of them may make one, and there is room for more
+pub head-lacks : (knows : List ℕ → Bool) (got behind : List ℕ) → length got < most_head → length behind ≡ 0 → HasNoRequest got → MayBecomeRequest got → Lacks knows (got ++ behind) (length got + 1)
+head-lacks knows got [] small e n may =
     let same : got ++ [] ≡ got = search rules in
-    rw same (inl ((λ head rest k. n head rest k.0), small, refl))
-head-lacks knows got (b ∷ behind) small e n = absurd (omega (arith, e))
+    rw same (inl ((λ head rest k. n head rest k.0), may, small, refl))
+head-lacks knows got (b ∷ behind) small e n may = absurd (omega (arith, e))
 
 -- a body that is asked for has a limit
 abbrev SizeFits : Asking → Type 0

@@ -2,7 +2,7 @@
 use Rattle.std.specs.Prelude.{ℕ, ◌≡◌, ◌<◌, ◌≤◌, List, [], length, take, Option, IfSome}
 use Rattle.std.specs.Io.KnownBytes.{Consumes}
 use Rattle.httparse.specs.Spans.{IsRequestOf, IsRequestWithin, RequestOverflows}
-use Rattle.httparse.specs.Grammar.{HasNoRequest}
+use Rattle.httparse.specs.Grammar.{HasNoRequest, MayBecomeRequest}
 use Rattle.httparse.specs.declared.spans.HeaderSpan.{HeaderSpan}
 use Rattle.fab_wire_streams.specs.Failures.{one_more}
 use Rattle.fab_wire_base.specs.Limits.{most_lines}
@@ -27,8 +27,8 @@ failures_after_head BadHead before = before
 failures_after_head Empty before = before
 failures_after_head ReadFailed before = one_more before
 
--- the bytes so far begin with a head, or with none yet, or can't begin with one of few enough lines
+-- the bytes so far begin with a head, or with none yet though they may become one, or can't begin with one of few enough lines
 abbrev pub IsParsed : List ℕ → List HeaderSpan → Parsed → Type 0
 IsParsed got headers (Whole spans) = IsRequestOf got headers spans × IsRequestWithin got headers spans
-IsParsed got headers Partial = HasNoRequest got
+IsParsed got headers Partial = HasNoRequest got × MayBecomeRequest got
 IsParsed got headers Never = RequestOverflows most_lines got

@@ -1,6 +1,6 @@
 -- When the beginning of an input tells what all of it spells.
 use Rattle.std.specs.Prelude.{ℕ, ◌≡◌, ◌<◌, ◌+◌, ◌⊎◌, List, ◌++◌, Bool, Some, length, map}
-use Rattle.httparse.specs.Grammar.{RequestHead, print_request}
+use Rattle.httparse.specs.Grammar.{MayBecomeRequest, RequestHead, print_request}
 use Rattle.httparse.specs.Spans.{name_and_value}
 use Rattle.fab_wire_base.specs.Limits.{most_head}
 use Rattle.fab_wire_base.specs.Heads.{IsHead, HasNoHead}
@@ -12,10 +12,10 @@ use Rattle.fab_wire_base.specs.declared.kinds.Kind.{Kind}
 abbrev pub IsWhole : (List ℕ → Bool) → List ℕ → Type 0
 IsWhole knows bytes = (spelling : Spelling) × ((more : List ℕ) → Spells knows (bytes ++ more) spelling)
 
--- the bytes have no head yet, and there is room for more of one; or their head asks for a body of which some is lacking: so many bytes have to be there
+-- the bytes have no head yet, and more bytes may make them one, for which there is room; or their head asks for a body of which some is lacking: so many bytes have to be there
 abbrev pub Lacks : (List ℕ → Bool) → List ℕ → ℕ → Type 0
 Lacks knows bytes size =
-    (HasNoHead bytes × (length bytes < most_head) × (size ≡ length bytes + 1))
+    (HasNoHead bytes × MayBecomeRequest bytes × (length bytes < most_head) × (size ≡ length bytes + 1))
     ⊎ ((head : RequestHead) × (rest : List ℕ) × (token : List ℕ) × (kind : Kind) × (body : ℕ)
     × IsHead bytes head rest × HeadAsks knows head.method head.target (map name_and_value head.fields) (asks token kind (Some body))
     × (length rest < body) × (size ≡ length (print_request head) + body))

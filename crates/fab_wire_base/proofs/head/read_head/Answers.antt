@@ -13,7 +13,7 @@ returns-in-Whole-clause-head g c = (
 pub loop-filled-preserved : goal.loop-filled-preserved
 loop-filled-preserved g c = (
   omega (arith, c.in-Ok.ensures.bytes.0, length-drop c.loop-filled.filled c.read_at.new.buf),
-  read-more _ _ _ _ _ _ c.loop-filled.filled c.in-Ok.given _ _ c.loop-filled.invariant.1 c.in-Ok.ensures.front c.in-Ok.ensures.bytes.1 c.in-Ok.ensures.count c.in-Partial.ensures,
+  read-more _ _ _ _ _ _ c.loop-filled.filled c.in-Ok.given _ _ c.loop-filled.invariant.1 c.in-Ok.ensures.front c.in-Ok.ensures.bytes.1 c.in-Ok.ensures.count c.in-Partial.ensures.0,
 )
 
 pub returns-in-Never-clause-head : goal.returns-in-Never-clause-head
