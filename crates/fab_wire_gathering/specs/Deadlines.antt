@@ -8,6 +8,14 @@ use Rattle.fab_wire_gathering.specs.declared.deadline.Timed.{Timed}
 abbrev pub end_after : ℕ → ℕ → ℕ
 end_after start most = if nat_lt (start + most) (2 ^ 63 * 1_000_000_000) then start + most else start
 
+-- how long bytes that nobody reads are taken behind an answer at most, in nanoseconds: a second
+abbrev pub most_lingering : ℕ
+most_lingering = 1_000_000_000
+
+-- how many bytes are read at most before it is known how many there have to be
+abbrev pub most_first : ℕ
+most_first = 8192
+
 -- when the connection ends at the latest
 abbrev pub end_of : Deadline → ℕ
 end_of d = instant_nanos d.end

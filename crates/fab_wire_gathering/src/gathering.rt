@@ -412,12 +412,11 @@ impl Gathering {
         &mut self,
         poll: &Poll,
         place: usize,
-        guest: Guest,
+        mut guest: Guest,
         answer: Vec<u8>,
         number: u64,
         deadline: Deadline,
     ) {
-        let mut guest = guest;
         guest.answer(answer, number, deadline);
         if guest.stream().set_nonblocking(true).is_err() {
             guest.give_up();

@@ -1,8 +1,9 @@
 //! One connection that is never waited for: what it has sent, and what it has taken of its answer.
 
-ghost use Rattle.std.specs.Prelude.{◌≡◌, ◌++◌, ◌⊎◌, ◌≤◌, ℕ, List, [], length};
+ghost use Rattle.std.specs.Prelude.{◌≡◌, ◌≢◌, ◌++◌, ◌-◌, ◌⊎◌, ◌≤◌, ◌<◌, ℕ, List, [], true, false, length, max};
 ghost use Rattle.std.specs.Duration.{as_nanos};
-ghost use Rattle.fab_wire_gathering.specs.Deadlines.{end_of, end_after};
+ghost use Rattle.std.specs.Time.{instant_nanos};
+ghost use Rattle.fab_wire_gathering.specs.Deadlines.{end_of, end_after, seen_by, most_lingering, most_first};
 ghost use Rattle.fab_wire_gathering.specs.Guests.{WaitsSo};
 ghost use Rattle.fab_wire_gathering.specs.declared.guest.Ending.TheVariants as ending;
 ghost use Rattle.fab_wire_gathering.specs.declared.guest.Stage.TheVariants as stage;
@@ -15,17 +16,18 @@ use std::io::Read;
 use std::net::{Shutdown, TcpStream};
 use std::time::{Duration, Instant};
 
-/// How many bytes are read at most before it is known how many there have to be: those of a head.
-pub const FIRST: usize = 8192;
+/// How many bytes are read at most before it is known how many there have to be: those of a head. So many
+/// of those that nobody reads are taken at once.
+pub const MOST_FIRST: usize = 8192;
 
 /// How many pieces are read or written before others have their turn.
 const MOST_PIECES: usize = 32;
 
 /// How many pieces are taken behind a request.
-const MOST_TAKINGS: usize = 4096;
+pub const MOST_TAKINGS: usize = 4096;
 
 /// How long bytes that nobody reads are taken behind an answer, in seconds.
-const LINGERING_SECONDS: u64 = 1;
+pub const LINGERING_SECONDS: u64 = 1;
 
 /// How the bytes of a request ended.
 #[derive(Clone, Copy, PartialEq, Eq)]
@@ -81,6 +83,7 @@ impl Guest {
     pub fn new(alloc: Global, stream: TcpStream, now: Instant, deadline: Deadline) -> Self
         ensures sends { result.stage ≡ stage.Sends }
         ensures none { result.bytes.items ≡ [] }
+        ensures deadline { result.deadline ≡ deadline }
     {
         Guest {
             stream,
@@ -97,7 +100,8 @@ impl Guest {
 
     /// The same, whose request is not gathered: all of it is still to be read, in its turn.
     pub fn carried(alloc: Global, stream: TcpStream, now: Instant, deadline: Deadline) -> Self
-        ensures { WaitsSo ending.Starved result }
+        ensures waits { WaitsSo ending.Starved result }
+        ensures deadline { result.deadline ≡ deadline }
     {
         let mut guest = Guest::new(alloc, stream, now, deadline);
         guest.wait(Ending::Starved);
@@ -131,27 +135,41 @@ impl Guest {
     }
 
     /// Its place among those that began to wait, and once it is answered the number of its turn.
-    pub fn number(&self) -> u64 {
+    pub fn number(&self) -> u64
+        ensures { result ≡ self.now.number }
+    {
         self.number
     }
 
     /// It is the one of this number.
-    pub fn be_number(&mut self, number: u64) {
+    pub fn be_number(&mut self, number: u64)
+        ensures { self.new ≡ record self.old { number = number } }
+    {
         self.number = number;
     }
 
     /// When it is given up, on the monotonic clock.
-    pub fn end(&self) -> Instant {
+    pub fn end(&self) -> Instant
+        ensures { instant_nanos result ≡ end_of self.now.deadline }
+    {
         self.deadline.end()
     }
 
     /// When something was last heard of it.
-    pub fn heard(&self) -> Instant {
+    pub fn heard(&self) -> Instant
+        ensures { result ≡ self.now.heard }
+    {
         self.heard
     }
 
-    /// Whether its time is up at a reading of the clock.
-    pub fn is_late(&mut self, now: Instant) -> bool {
+    /// Whether its time is up at a reading of the clock, or was at an earlier one.
+    pub fn is_late(&mut self, now: Instant) -> bool
+        ensures late { result ≡ true → end_of self.new.deadline ≤ seen_by self.new.deadline }
+        ensures early { result ≡ false → seen_by self.new.deadline < end_of self.new.deadline }
+        ensures end { end_of self.new.deadline ≡ end_of self.old.deadline }
+        ensures seen { seen_by self.new.deadline ≡ max (seen_by self.old.deadline) (instant_nanos now) }
+        ensures rest { self.new ≡ record self.old { deadline = self.new.deadline } }
+    {
         self.deadline.left(now).is_none()
     }
 
@@ -166,6 +184,7 @@ impl Guest {
     fn wait(&mut self, ending: Ending)
         ensures waits { WaitsSo ending self.new }
         ensures bytes { self.new.bytes ≡ self.old.bytes }
+        ensures rest { self.new ≡ record self.old { stage = stage.Waits; ending = ending } }
     {
         self.ending = ending;
         self.stage = Stage::Waits;
@@ -186,9 +205,11 @@ impl Guest {
     }
 
     /// How many bytes may be read: as many as a head has at most, or as are wanted.
-    fn lacking(&self) -> usize {
+    fn lacking(&self) -> usize
+        ensures { result ≡ max 1 (max self.now.wanted most_first - length self.now.bytes.items) }
+    {
         self.wanted
-            .max(FIRST)
+            .max(MOST_FIRST)
             .saturating_sub(self.bytes.len())
             .max(1)
     }
@@ -253,6 +274,7 @@ impl Guest {
     /// Sends what is left of the answer. It says whether something may be left that the socket takes.
     pub fn send(&mut self) -> bool
         ensures bytes { self.new.bytes ≡ self.old.bytes }
+        ensures number { self.new.number ≡ self.old.number }
         ensures taken { self.old.stage ≡ stage.Takes → self.new.stage ≡ stage.Taken → length self.new.bytes.items ≤ self.new.sent }
     {
         for _ in 0..MOST_PIECES {
@@ -278,7 +300,7 @@ impl Guest {
         let Stage::Leaves(left) = self.stage else {
             return false;
         };
-        match Went::of((&self.stream).read(room_in(piece, FIRST))) {
+        match Went::of((&self.stream).read(room_in(piece, MOST_FIRST))) {
             Went::Some(_) => {
                 self.stage = if left > 0 {
                     Stage::Leaves(left - 1)
@@ -296,7 +318,12 @@ impl Guest {
     }
 
     /// Gives it up: its request has failed to come, or its answer is not sent, or it is gone.
-    pub fn give_up(&mut self) {
+    pub fn give_up(&mut self)
+        ensures failed { self.old.stage ≡ stage.Sends → WaitsSo ending.Failed self.new }
+        ensures unsent { self.old.stage ≡ stage.Takes → self.new.stage ≡ stage.Unsent }
+        ensures gone { (left : ℕ) → self.old.stage ≡ stage.Leaves left → self.new.stage ≡ stage.Gone }
+        ensures rest { self.new ≡ record self.old { stage = self.new.stage; ending = self.new.ending } }
+    {
         match self.stage {
             Stage::Sends => self.wait(Ending::Failed),
             Stage::Takes => self.stage = Stage::Unsent,
@@ -306,7 +333,10 @@ impl Guest {
     }
 
     /// How many bytes are kept of an answer that it has not taken whole.
-    pub fn kept(&self) -> usize {
+    pub fn kept(&self) -> usize
+        ensures takes { self.now.stage ≡ stage.Takes → result ≡ length self.now.bytes.items }
+        ensures none { self.now.stage ≢ stage.Takes → result ≡ 0 }
+    {
         match self.stage {
             Stage::Takes => self.bytes.len(),
             _ => 0,
@@ -318,6 +348,8 @@ impl Guest {
         ensures bytes { self.new.bytes ≡ answer }
         ensures none { self.new.sent ≡ 0 }
         ensures takes { self.new.stage ≡ stage.Takes }
+        ensures number { self.new.number ≡ number }
+        ensures deadline { self.new.deadline ≡ deadline }
     {
         self.bytes = answer;
         self.sent = 0;
@@ -336,8 +368,12 @@ impl Guest {
         };
     }
 
-    /// Nothing more is sent, and what it still sends is taken for a while (RFC 9112, section 9.6).
-    pub fn leave(&mut self, now: Instant) {
+    /// Nothing more is sent, and what it still sends is taken for a second (RFC 9112, section 9.6).
+    pub fn leave(&mut self, now: Instant)
+        ensures end { end_of self.new.deadline ≡ end_after (instant_nanos now) most_lingering }
+        ensures leaves { (self.new.stage ≡ stage.Leaves MOST_TAKINGS) ⊎ (self.new.stage ≡ stage.Gone) }
+        ensures rest { self.new ≡ record self.old { deadline = self.new.deadline; stage = self.new.stage } }
+    {
         self.deadline = Deadline::after(now, Duration::from_secs(LINGERING_SECONDS));
         self.stage = if self.stream.shutdown(Shutdown::Write).is_ok() {
             Stage::Leaves(MOST_TAKINGS)
