@@ -1,5 +1,5 @@
 -- What serving connections comes to.
-use Rattle.std.specs.Prelude.{ℕ, ◌≡◌, ◌<◌, ◌*◌, ◌⊎◌, ⊤, List, length, Option, Some, None, Result, Ok, Err, OnOk, OnErr}
+use Rattle.std.specs.Prelude.{ℕ, ◌≡◌, ◌<◌, ◌⊎◌, ⊤, List, length, Option, Some, None, Result, Ok, Err, OnOk, OnErr}
 use Rattle.std.specs.declared.alloc.Global.{Global}
 use Rattle.std.specs.declared.net.TcpListener.{TcpListener}
 use Rattle.fab_policy_base.specs.Policies.{PolicyRows}
@@ -12,6 +12,7 @@ use Rattle.fab_program_outside.specs.declared.faults.Fault.TheVariants as fault
 use Rattle.fab_program_outside.specs.declared.files.Files as files
 use Rattle.fab_wire_streams.specs.Counting.{inner_of}
 use Rattle.fab_wire_streams.specs.declared.counted.Counted.{Counted}
+use Rattle.fab_wire_log.specs.Lasting.{most_lasting}
 use Rattle.fab_wire_serving.specs.Turns.{AreTurns, most_turns}
 use Rattle.fab_wire_serving.specs.declared.server.Server as server
 use Rattle.fab_wire_serving.specs.declared.serving.ServeFault.{ServeFault}
@@ -40,9 +41,9 @@ EndsFrom Serves None came = came ≡ Err fault.Listen
 abbrev pub IsServedAt : (Option TcpListener → Type 0) → (Result (Unit {0}) ServeFault → Type 0) → Result End Fault → Type 0
 IsServedAt Listens Serves came = (listener : Option TcpListener) × Listens listener × EndsFrom Serves listener came
 
--- how long a connection is given, in nanoseconds: 27 seconds
+-- how long a connection is given, in nanoseconds
 abbrev pub connection_time : ℕ
-connection_time = 27 * 1_000_000_000
+connection_time = most_lasting
 
 -- a front over a store; the log; what is answered where the store of a halted desk is to be opened anew; the moments that
 -- are given; and how many connections are asked for

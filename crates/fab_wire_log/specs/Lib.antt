@@ -1,3 +1,4 @@
+pub mod Lasting
 pub mod Lines
 pub mod Numbers
 pub mod Pending

@@ -10,4 +10,4 @@ pub mod shown;
 pub mod watch;
 
 pub use shown::Shown;
-pub use watch::{MOST_SECONDS, Watch};
+pub use watch::Watch;

@@ -1,10 +1,11 @@
 //! By which clock connections are watched, how long each may last, and where its line goes.
 
-ghost use Rattle.std.specs.Prelude.{◌≡◌, ◌*◌, ℕ};
+ghost use Rattle.std.specs.Prelude.{◌≡◌, ℕ};
 ghost use Rattle.std.specs.Duration.{as_nanos};
 ghost use Rattle.std.specs.Time.{instant_nanos};
 ghost use Rattle.fab_wire_streams.specs.Counting.{inner_of, failures_of};
 ghost use Rattle.fab_wire_log.specs.Shown.{shown_text};
+ghost use Rattle.fab_wire_log.specs.Lasting.{most_lasting};
 ghost use Rattle.fab_wire_log.specs.Lines.{line_text, Notes, Lasted};
 
 use crate::line::put_line;
@@ -19,7 +20,7 @@ use std::time::{Duration, Instant};
 /// How many seconds a connection is given for its request, however slowly it sends bytes, and then for
 /// its answer, however slowly it takes them. Timers of a system may come two seconds late, and none is to
 /// be there for more than 30 with either.
-pub const MOST_SECONDS: u64 = 27;
+const MOST_SECONDS: u64 = 27;
 
 /// The clock that connections are watched by, how long each may last, and the log.
 #[derive(Drop)]
@@ -38,11 +39,11 @@ pub struct Watch<'c, C: Ticks, W: Write> {
 }
 
 impl<'c, C: Ticks, W: Write> Watch<'c, C, W> {
-    /// Requests and answers take `MOST_SECONDS` at most by this clock, and connections have their lines in
+    /// Requests and answers take 27 seconds at most by this clock, and connections have their lines in
     /// this log.
     pub fn new(alloc: Global, clock: &'c C, log: W, poll: Option<Poll>) -> Self
         ensures clock { result.clock.now ≡ clock.entry.now }
-        ensures most { as_nanos result.most ≡ 27 * 1_000_000_000 }
+        ensures most { as_nanos result.most ≡ most_lasting }
         ensures log { inner_of result.log ≡ log }
         ensures failures { failures_of result.log ≡ 0 }
         ensures poll { result.poll ≡ poll }
@@ -91,6 +92,5 @@ impl<'c, C: Ticks, W: Write> Watch<'c, C, W> {
         ensures line { Notes W.contents self.old.log self.new.log (line_text moment (shown_text shown) milliseconds) }
     {
         put_line(&mut self.log, moment, shown, milliseconds);
-        let _ = self.log.flush();
     }
 }
