@@ -6,6 +6,7 @@ mod answers;
 mod clocks;
 mod connections;
 mod desks;
+mod earlier;
 mod fabrics;
 mod faults;
 mod growth;
