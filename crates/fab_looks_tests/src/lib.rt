@@ -1,8 +1,8 @@
-//! Tests of looks, over the worked world with paths over both fabrics: that what is another's is told as
-//! what is not there, which names are listed, what imports and plans would do, and looks for which there is no
-//! memory. Tests of what the program prints: texts of lists, reports and active sets, and JSON strings; and of
-//! printing and hearing where a stream or memory fails. What is heard of which request is recorded in
-//! `fab_wire_conformance`. Nothing here is part of the product.
+//! Tests of looks, of what the program prints and hears, and of the machine: looks for which there is no memory;
+//! texts of paths and reports as wide as their columns and wider, and JSON strings; printing and hearing where a
+//! stream fails, and the longest body; each request for memory of a command refused in turn, and the spare
+//! configuration. What looks and trials tell is run by `fab_program`, and what is said by requests and answers
+//! alone is recorded in `fab_wire_conformance`. Nothing here is part of the product.
 #![tactic(auto)]
 
 #[cfg(test)]
@@ -10,24 +10,18 @@ mod escapes;
 #[cfg(test)]
 mod growth;
 #[cfg(test)]
-mod imports;
-#[cfg(test)]
 mod limits;
-#[cfg(test)]
-mod lists;
 #[cfg(test)]
 mod memory;
 #[cfg(test)]
-mod plans;
-#[cfg(test)]
 mod prints;
 #[cfg(test)]
-mod steps;
+mod small;
 #[cfg(test)]
-mod stock;
+mod spares;
+#[cfg(test)]
+mod steps;
 #[cfg(test)]
 mod streams;
 #[cfg(test)]
 mod texts;
-#[cfg(test)]
-mod told;

@@ -1,23 +1,20 @@
 //! Want of memory: each request of a look is refused in turn, and it tells that or the whole answer.
 
-use crate::stock::{caller, made, name};
+use crate::small::{Heap, named, read_policy};
 use fab_inventory::HolderKind;
 use fab_looks::{Kind, list, list_ports, told, who_told};
 use fab_looks_base::Why;
 use fab_looks_ways::{Reacher, pairs_told, reachers_told};
-use fab_names::{Fabric, Name, Wwn};
+use fab_names::{Fabric, Wwn};
 use fab_plans::trial;
 use fab_plans_text::read_plan;
 use fab_policy::{CallerId, Policy};
 use fab_test_alloc::Refusing;
-use fab_test_machine::{ADA, policy};
+use fab_test_machine::ADA;
 use fab_wire_requests::port_list::read_ports;
 use fab_world::World;
-use std::alloc::{AllocError, Global};
+use std::alloc::AllocError;
 use std::process::Abort;
-
-/// Memory of which one request may be refused.
-type Heap<'a> = &'a Refusing<Global>;
 
 /// Two initiators and two targets.
 const PORTS: &str = "port_name,node_name,domain,port
@@ -81,7 +78,7 @@ fn ports_of<'a>(rt: &impl Abort, alloc: Heap<'a>, numbers: &[u64]) -> Vec<Wwn, H
 
 /// Puts the host, the array and the volume.
 fn put_all<'a>(rt: &impl Abort, alloc: Heap<'a>, world: &mut World<Heap<'a>>) {
-    let (blue, db1, arr1) = (name(rt, "blue"), name(rt, "db1"), name(rt, "arr1"));
+    let (blue, db1, arr1) = (named(rt, "blue"), named(rt, "db1"), named(rt, "arr1"));
     let initiators = ports_of(rt, alloc, INITIATORS);
     let targets = ports_of(rt, alloc, TARGETS);
     let inventory = &mut world.inventory;
@@ -97,7 +94,7 @@ fn put_all<'a>(rt: &impl Abort, alloc: Heap<'a>, world: &mut World<Heap<'a>>) {
     );
     assert!(rt;
         inventory
-            .put_volume(name(rt, "v1"), arr1, blue, 512)
+            .put_volume(named(rt, "v1"), arr1, blue, 512)
             .is_ok()
     );
 }
@@ -150,7 +147,7 @@ fn told_of<'a>(
     id: CallerId,
     look: Look,
 ) -> Result<usize, AllocError> {
-    let (host, volume) = (name(rt, "db1"), name(rt, "v1"));
+    let (host, volume) = (named(rt, "db1"), named(rt, "v1"));
     let count = match look {
         Look::Why => paths_in(&told(alloc, policy, world, id, &host, &volume)?),
         Look::Who => who_told(alloc, policy, world, id, &volume)?.len(),
@@ -205,9 +202,9 @@ fn is_refused_at_each<'a>(
 /// Each look is refused at each of its requests.
 fn assert_refused(rt: &(impl Abort + AllocGlobal)) {
     let refusing = Refusing::new(rt.alloc());
-    let policy = made(rt, policy(rt.alloc()), "policy");
+    let policy = read_policy(rt);
     let world = world_over(rt, &refusing);
-    let id = caller(rt, &policy, ADA);
+    let id = policy.caller(ADA).expect(rt, "a caller");
     for case in LOOKS {
         assert!(rt; is_refused_at_each(rt, &refusing, &policy, &world, id, *case));
     }

@@ -1,12 +1,9 @@
-//! Texts of lists of paths, and of active sets.
-use fab_desk_base::ZoneMembers;
-use fab_files::{active_text, paths_csv, report};
-use fab_names::{Fabric, Member, Name, Wwn};
+//! Texts of lists of paths and of reports, with names as wide as their columns and wider.
+use fab_files::{paths_csv, report};
+use fab_names::{Fabric, Name, Wwn};
 use fab_reach_base::Path;
 use fab_wire_streams::counted::Counted;
 use fab_wire_streams::sink::Size;
-use fab_zoning::DefaultFlag;
-use std::alloc::Global;
 use std::process::Abort;
 
 /// A path: its fabric, initiator, target, volume and unit.
@@ -27,48 +24,30 @@ const AS_WIDE: &str = "volume-of-24-characters-";
 
 const WIDER: &str = "volume-of-25-characters--";
 
-/// No path; one path; paths of both fabrics, with the least and the greatest unit.
+/// No path; paths of both fabrics, with the least and the greatest unit.
 const CSV: &[Lines] = &[
     ("db1", &[], "fabric,host,initiator,target,volume,lun\n"),
     (
-        "db1",
-        &[("A", INITIATOR, TARGET, "v1", 0)],
-        "fabric,host,initiator,target,volume,lun\n\
-         A,db1,10:00:00:00:00:00:00:01,50:00:00:00:00:00:00:01,v1,0\n",
-    ),
-    (
         LONGEST,
         &[
-            ("A", "0x00000000000000ff", "ABCDEF0123456789", "v1", 7),
+            ("A", "0x00000000000000ff", "ABCDEF0123456789", "v1", 0),
             ("B", "ffffffffffffffff", TARGET, "V$^_-9", 16383),
         ],
         "fabric,host,initiator,target,volume,lun\n\
          A,h234567890123456789012345678901234567890123456789012345678901234,\
-         00:00:00:00:00:00:00:ff,ab:cd:ef:01:23:45:67:89,v1,7\n\
+         00:00:00:00:00:00:00:ff,ab:cd:ef:01:23:45:67:89,v1,0\n\
          B,h234567890123456789012345678901234567890123456789012345678901234,\
          ff:ff:ff:ff:ff:ff:ff:ff,50:00:00:00:00:00:00:01,V$^_-9,16383\n",
     ),
 ];
 
-/// No path; one path, over A or over B; paths of three volumes that do not stand together, of which
-/// one is reached over both fabrics; names as wide as their columns and wider.
+/// No path; paths of three volumes that do not stand together, of which two are reached over both
+/// fabrics; names as wide as their columns and wider.
 const REPORTS: &[Lines] = &[
     (
         "db1",
         &[],
         "HOST                     VOLUME                        A      B STATE\n",
-    ),
-    (
-        "db1",
-        &[("A", INITIATOR, TARGET, "v1", 0)],
-        "HOST                     VOLUME                        A      B STATE\n\
-         db1                      v1                            1      0 ONE\n",
-    ),
-    (
-        "db1",
-        &[("B", INITIATOR, TARGET, "v1", 0)],
-        "HOST                     VOLUME                        A      B STATE\n\
-         db1                      v1                            0      1 ONE\n",
     ),
     (
         "db1",
@@ -98,49 +77,6 @@ const REPORTS: &[Lines] = &[
          h234567890123456789012345678901234567890123456789012345678901234 \
          volume-of-25-characters--      0      1 ONE\n",
     ),
-];
-
-/// An active set: its fabric, its name if there is one, what the default zone does, and its zones,
-/// each with its members; and its text.
-struct Active {
-    fabric: Fabric,
-    set: Option<&'static str>,
-    flag: DefaultFlag,
-    zones: &'static [(&'static str, &'static [&'static str])],
-    text: &'static str,
-}
-
-const ACTIVE: &[Active] = &[
-    Active {
-        fabric: Fabric::A,
-        set: None,
-        flag: DefaultFlag::Deny,
-        zones: &[],
-        text: "fabric A\nactive -\ndefault deny\n",
-    },
-    Active {
-        fabric: Fabric::B,
-        set: Some("s1"),
-        flag: DefaultFlag::Permit,
-        zones: &[
-            (
-                "z1",
-                &[
-                    "wwpn=1000000000000001",
-                    "wwnn=0xABCDEF0000000002",
-                    "dp=012,0",
-                    "dp=239,4095",
-                ],
-            ),
-            ("z2", &["alias=disk"]),
-        ],
-        text: "fabric B\nactive s1\ndefault permit\n\
-               z1 wwpn=10:00:00:00:00:00:00:01\n\
-               z1 wwnn=ab:cd:ef:00:00:00:00:02\n\
-               z1 dp=12,0\n\
-               z1 dp=239,4095\n\
-               z2 alias=disk\n",
-    },
 ];
 
 /// Paths from their texts.
@@ -180,46 +116,6 @@ fn report_is_right(rt: &(impl Abort + AllocGlobal), case: &Lines) -> bool {
         && size.bytes() == case.2.len() as u64
 }
 
-/// A zone from its texts.
-fn zone_of(rt: &(impl Abort + AllocGlobal), name: &str, texts: &[&str]) -> ZoneMembers<Global> {
-    let name = Name::read(name).expect(rt, "a name");
-    let mut members = Vec::new(rt.alloc());
-    for text in texts {
-        let member = Member::read(text).expect(rt, "a member");
-        members.push(member).expect(rt, "memory");
-    }
-    ZoneMembers { name, members }
-}
-
-/// Zones from their texts.
-fn zones_of(
-    rt: &(impl Abort + AllocGlobal),
-    zones: &[(&'static str, &'static [&'static str])],
-) -> Vec<ZoneMembers<Global>> {
-    let mut list = Vec::new(rt.alloc());
-    for (name, texts) in zones {
-        list.push(zone_of(rt, name, texts)).expect(rt, "memory");
-    }
-    list
-}
-
-/// The name of a set, if there is one.
-fn set_of(rt: &impl Abort, text: Option<&str>) -> Option<Name> {
-    match text {
-        Some(text) => Some(Name::read(text).expect(rt, "a name")),
-        None => None,
-    }
-}
-
-/// Whether the active set has this text.
-fn active_is_right(rt: &(impl Abort + AllocGlobal), case: &Active) -> bool {
-    let zones = zones_of(rt, case.zones);
-    let mut writer = Counted::new(Vec::new(rt.alloc()));
-    let set = set_of(rt, case.set);
-    let done = active_text(&mut writer, case.fabric, set, case.flag, zones.as_slice()).is_ok();
-    done && writer.into_inner().as_slice() == case.text.as_bytes()
-}
-
 #[test]
 fn paths_are_listed(rt: HostRuntime) {
     for case in CSV {
@@ -231,12 +127,5 @@ fn paths_are_listed(rt: HostRuntime) {
 fn volumes_are_reported(rt: HostRuntime) {
     for case in REPORTS {
         assert!(rt; report_is_right(&rt, case));
-    }
-}
-
-#[test]
-fn active_sets_are_shown(rt: HostRuntime) {
-    for case in ACTIVE {
-        assert!(rt; active_is_right(&rt, case));
     }
 }

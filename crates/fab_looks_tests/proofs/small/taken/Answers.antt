@@ -1,6 +1,6 @@
 use Rattle.std.proofs.Common.{sym, subst}
 use Rattle.fab_desk_machine.proofs.Rooms.{same_records, room_for, ready_there}
-use Rattle.fab_desk_machine_tests.proofs.small.taken.Goals as goal
+use Rattle.fab_looks_tests.proofs.small.taken.Goals as goal
 
 pub take_over-reply-requires-clause-room : goal.take_over-reply-requires-clause-room
 take_over-reply-requires-clause-room g c = room_for c.args.world.now c.make_room.new.world c.args.change.next c.in-Ok.ensures.ok c.requires.suits

@@ -83,7 +83,7 @@ pub const STAGED: &[Order] = &[
 ];
 
 /// The name of this text.
-fn named(rt: &impl Abort, text: &str) -> Name {
+pub fn named(rt: &impl Abort, text: &str) -> Name {
     Name::read(text).expect(rt, "a name")
 }
 

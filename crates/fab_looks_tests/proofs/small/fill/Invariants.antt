@@ -1,6 +1,6 @@
 use Rattle.fab_world.specs.Soundness.{IsSound}
 use Rattle.fab_world.specs.Worlds.{records_of}
-use Rattle.fab_desk_machine_tests.proofs.small.fill.Given as goal
+use Rattle.fab_looks_tests.proofs.small.fill.Given as goal
 
 abbrev pub invariant-loop-order : goal.invariant-loop-order
 invariant-loop-order g l = record {
