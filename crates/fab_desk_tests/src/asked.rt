@@ -1,44 +1,43 @@
-//! How many pairs a desk asks about: just those whose paths a command may move, for a dry run as for its
-//! activation.
+//! A list of requests that is answered at once, and how many pairs the desk asks about for it: just those
+//! whose paths a command may move, for a dry run as for its activation.
 
-use crate::desks::{ask_all, opened};
+use crate::desks::{DeskOver, made, opened};
 use crate::lists::{List, all_turns};
 use crate::memory::tables;
+use fab_desk::handle_all;
+use fab_store::Store;
+use fab_test_machine::{Turn, are_told, requests};
+use std::alloc::Global;
 use std::process::Abort;
 
-/// How many pairs a new desk has asked about once it has answered the lists.
-fn asked_after(rt: &(impl Abort + AllocGlobal), lists: &[List]) -> u64 {
-    let turns = all_turns(rt, lists, &[]);
-    let mut desk = opened(rt, tables(rt));
-    ask_all(rt, &mut desk, turns.as_slice());
+/// Whether the desk answers the list of the turns as they say.
+fn answers<S: Store<Global>>(
+    rt: &(impl Abort + AllocGlobal),
+    desk: &mut DeskOver<S>,
+    turns: &[Turn],
+) -> bool {
+    let requests = made(rt, requests(rt.alloc(), turns), "requests");
+    let replies = handle_all(rt.alloc(), desk, requests).expect(rt, "memory");
+    made(
+        rt,
+        are_told(rt.alloc(), replies.as_slice(), turns),
+        "memory",
+    )
+}
+
+/// How many pairs a desk over the store has asked about once it has answered the list of the turns.
+fn asked_over<S: Store<Global>>(rt: &(impl Abort + AllocGlobal), store: S, turns: &[Turn]) -> u64 {
+    let mut desk = opened(rt, store);
+    assert!(rt; answers(rt, &mut desk, turns));
     desk.pairs_asked()
 }
 
-/// Lists, and how many pairs are asked about for all of them: none for the worked world, one for the dry
-/// run of the first plan and one for its activation, three for the second plan; and what the rows after
-/// them add.
-const ASKED: &[(&[List], u64)] = &[
-    (&[List::World], 0),
-    (&[List::World, List::First], 2),
-    (&[List::World, List::First, List::Second], 5),
-    // The ports of the one pair that is offered are logged out.
-    (&[List::World, List::First, List::Row3], 3),
-    // An alias moves nothing, and a set that is activated anew one target for another.
-    (&[List::World, List::First, List::Row6], 3),
-    // A second zone of the pair, and then the first one left, as it is tried and as it is done.
-    (&[List::World, List::First, List::Row7], 5),
-    // A target more, and then an initiator that leaves its last zone.
-    (&[List::World, List::First, List::Row8], 5),
-    // A zone of a node: both targets move.
-    (&[List::World, List::First, List::Second, List::Row9], 8),
-    // A group more, and a unit less.
-    (&[List::World, List::First, List::Row14], 3),
-    (&[List::World, List::First, List::Unmapped], 3),
-];
+/// None for the worked world, one for the dry run of the first plan and one for its activation, three for
+/// the second plan, and three for the zone of a node: both targets move.
+const LISTS: &[List] = &[List::World, List::First, List::Second, List::Row9];
 
 #[test]
 fn pairs_are_asked_about_whose_paths_may_move(rt: HostRuntime) {
-    for wanted in ASKED {
-        assert_eq!(rt; asked_after(&rt, wanted.0), wanted.1);
-    }
+    let turns = all_turns(&rt, LISTS, &[]);
+    assert_eq!(rt; asked_over(&rt, tables(&rt), turns.as_slice()), 8);
 }

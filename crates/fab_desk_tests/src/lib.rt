@@ -8,8 +8,6 @@
 #[cfg(test)]
 mod asked;
 #[cfg(test)]
-mod at_once;
-#[cfg(test)]
 mod damaged;
 #[cfg(test)]
 mod desks;

@@ -1,12 +1,13 @@
 //! The worked lists of turns, by name: a table of names is cheaper to prove than one of lists.
 
+use fab_inventory::HolderKind::Array;
 use fab_names::Fabric;
 use fab_test_machine::rows::{
     ACTIVE_IS_A_COPY, APPROVALS, DEFAULT_ZONE, FREEZING, LATE, NO_APPROVAL, PLACE_AND_NODE,
     PORTS_GONE, REFUSED_PLAN, SHUT, SIGNED, STAGED, THAWED, UNDONE, UNIT_CLASH, UNMAPPED,
     VOLUME_GONE, ZONES_OVERLAP,
 };
-use fab_test_machine::{ADA, Ask, FIRST, SECOND, See, Turn, WORLD};
+use fab_test_machine::{ADA, Ask, FIRST, FIRST_TARGET, SECOND, SECOND_TARGET, See, Turn, WORLD};
 use std::process::Abort;
 
 /// A worked list of turns.
@@ -40,8 +41,15 @@ pub enum List {
     Row15,
     /// Both plans are undone.
     Undone,
-    /// A zone of an address, which is another's for a while, and then nobody's.
+    /// The second target goes to another array.
+    Moved,
+    /// A zone of an address.
     Addressed,
+    /// The address is another's for a while, and then nobody's.
+    Readdressed,
+    /// The plans of row 9 are undone, the last one first, and those of row 14.
+    Row9Undone,
+    Row14Undone,
     /// An approval, and another by the same caller at a later revision.
     SignedAgain,
 }
@@ -73,6 +81,22 @@ const OTHER_ADDRESS: &str = "port_name,node_name,domain,port,address
 50:00:00:00:00:00:00:02,50:00:00:00:00:00:00:00,1,3,
 ";
 
+/// The second target goes to another array.
+const MOVED: &[Turn] = &[
+    (
+        ADA,
+        0,
+        Ask::Put(Array, "arr1", "store", &[FIRST_TARGET]),
+        "changed at 8",
+    ),
+    (
+        ADA,
+        0,
+        Ask::Put(Array, "arr2", "store", &[SECOND_TARGET]),
+        "changed at 9",
+    ),
+];
+
 /// The zone's path is there while its member's address is.
 const ADDRESSED: &[Turn] = &[
     (ADA, 0, Ask::Import(Fabric::A, ONE_ADDRESS), "changed at 8"),
@@ -83,6 +107,10 @@ const ADDRESSED: &[Turn] = &[
         "staged p2 of 2",
     ),
     (ADA, 0, Ask::Activate("p2"), "done p2 at 9"),
+];
+
+/// It goes with the address, and comes back with the zone of before.
+const READDRESSED: &[Turn] = &[
     (
         ADA,
         0,
@@ -98,6 +126,45 @@ const ADDRESSED: &[Turn] = &[
         Ask::Rollback("p2"),
         "done p2 at 12
 +A 10:00:00:00:00:00:00:01 50:00:00:00:00:00:00:01 v1 0",
+    ),
+];
+
+/// The plans of row 9 are undone.
+const ROW_9_UNDONE: &[Turn] = &[
+    (ADA, 0, Ask::Rollback("p3"), "done p3 at 10"),
+    (
+        ADA,
+        0,
+        Ask::Rollback("p2"),
+        "done p2 at 11
+-A 10:00:00:00:00:00:00:02 50:00:00:00:00:00:00:01 v2 0
+-A 10:00:00:00:00:00:00:03 50:00:00:00:00:00:00:01 v2 0",
+    ),
+    (
+        ADA,
+        0,
+        Ask::Rollback("p1"),
+        "done p1 at 12
+-A 10:00:00:00:00:00:00:01 50:00:00:00:00:00:00:01 v1 0",
+    ),
+];
+
+/// The plans of row 14 are undone.
+const ROW_14_UNDONE: &[Turn] = &[
+    (
+        ADA,
+        0,
+        Ask::Rollback("p3"),
+        "done p3 at 9
++A 10:00:00:00:00:00:00:01 50:00:00:00:00:00:00:01 v1 0
+-A 10:00:00:00:00:00:00:01 50:00:00:00:00:00:00:01 v2 0",
+    ),
+    (
+        ADA,
+        0,
+        Ask::Rollback("p1"),
+        "done p1 at 10
+-A 10:00:00:00:00:00:00:01 50:00:00:00:00:00:00:01 v1 0",
     ),
 ];
 
@@ -132,7 +199,11 @@ pub fn turns_of(list: List) -> &'static [Turn] {
         List::Unmapped => UNMAPPED,
         List::Row15 => VOLUME_GONE,
         List::Undone => UNDONE,
+        List::Moved => MOVED,
         List::Addressed => ADDRESSED,
+        List::Readdressed => READDRESSED,
+        List::Row9Undone => ROW_9_UNDONE,
+        List::Row14Undone => ROW_14_UNDONE,
         List::SignedAgain => SIGNED_AGAIN,
     }
 }

@@ -1,11 +1,12 @@
 //! Tables of schema 1: a desk is not opened over them, and after a migration it is, with the same rows.
 //! And what a migration answers of other tables.
 
-use crate::desks::{is_counted, refusals};
-use crate::lists::List;
-use crate::memory::{Tables, changed, tables_after, tables_then};
+use crate::desks::{is_counted, refusals, store_after};
+use crate::lists::{List, turns_of};
+use crate::memory::{Tables, changed, tables_after};
 use crate::worlds::are_kept;
 use fab_store::{OpenFault, RefusingStore, Store, Table};
+use fab_test_machine::Turn;
 use std::alloc::Global;
 use std::process::Abort;
 
@@ -15,21 +16,27 @@ pub const EARLIER: &str = "DROP TABLE addresses; UPDATE meta SET value = '1' WHE
 /// Leaves the tables of schema 2.
 const PRESENT: &str = "";
 
+/// Leaves no table.
+const NOTHING: &str =
+    "DROP TABLE meta; DROP TABLE ports; DROP TABLE addresses; DROP TABLE holders; DROP TABLE volumes; DROP TABLE zoning; DROP TABLE active; DROP TABLE groups; DROP TABLE group_parts; DROP TABLE plans; DROP TABLE approvals; DROP TABLE undo; DROP TABLE paths";
+
 /// The worked world and the first plan.
 pub const BEFORE: &[List] = &[List::World, List::First];
 
-/// The same, and the requests of a desk that is opened over them.
-const SERVED: &[List] = &[List::World, List::First, List::Row6];
-
-/// The tables after the first plan and these statements, and then these.
-fn tables_of_schema(rt: &(impl Abort + AllocGlobal), schema: &str, statements: &str) -> Tables {
-    let tables = changed(rt, tables_after(rt, BEFORE, &[]), schema);
+/// The tables after the lists and these statements, and then these.
+fn tables_of_schema(
+    rt: &(impl Abort + AllocGlobal),
+    before: &[List],
+    schema: &str,
+    statements: &str,
+) -> Tables {
+    let tables = changed(rt, tables_after(rt, before, &[]), schema);
     changed(rt, tables, statements)
 }
 
-/// The tables of schema 1 after the first plan.
-fn earlier_tables(rt: &(impl Abort + AllocGlobal)) -> Tables {
-    tables_of_schema(rt, EARLIER, "")
+/// The tables of schema 1 after the lists.
+fn earlier_tables(rt: &(impl Abort + AllocGlobal), before: &[List]) -> Tables {
+    tables_of_schema(rt, before, EARLIER, "")
 }
 
 /// Whether the tables are of schema 1, and are told to be.
@@ -46,24 +53,110 @@ pub fn answer<S: Store<Global>>(rt: &impl Abort, store: &mut S) -> Result<bool, 
     came
 }
 
+/// What is done with tables.
+#[derive(Clone, Copy)]
+enum Do {
+    /// They are loaded, and have the machine's world or not.
+    Load,
+    /// They are migrated.
+    Migrate,
+}
+
+/// What is done with tables, and what comes of it.
+type Step = (Do, Result<bool, OpenFault>);
+
+/// Tables of schema 1.
+const MIGRATED: &[Step] = &[
+    (Do::Load, Err(OpenFault::OldSchema(1))),
+    (Do::Migrate, Ok(true)),
+    (Do::Load, Ok(true)),
+    (Do::Migrate, Ok(false)),
+];
+
+/// The same, of which the first call is refused.
+const REFUSED: &[Step] = &[
+    (Do::Migrate, Err(OpenFault::Store)),
+    (Do::Load, Err(OpenFault::OldSchema(1))),
+    (Do::Migrate, Ok(true)),
+    (Do::Load, Ok(true)),
+];
+
+/// Whether tables have the machine's world after the lists, or why they are not loaded.
+fn loaded<S: Store<Global>>(
+    rt: &(impl Abort + AllocGlobal),
+    store: &mut S,
+    lists: &[List],
+) -> Result<bool, OpenFault> {
+    match store.load(rt.alloc()) {
+        Ok(_) => Ok(are_kept(rt, store, lists, &[])),
+        Err(fault) => Err(fault),
+    }
+}
+
+/// What comes of a step with tables after the lists.
+fn came<S: Store<Global>>(
+    rt: &(impl Abort + AllocGlobal),
+    store: &mut S,
+    lists: &[List],
+    step: Do,
+) -> Result<bool, OpenFault> {
+    match step {
+        Do::Load => loaded(rt, store, lists),
+        Do::Migrate => answer(rt, store),
+    }
+}
+
+/// Ends the test where something else comes of a step.
+fn take<S: Store<Global>>(
+    rt: &(impl Abort + AllocGlobal),
+    store: &mut S,
+    lists: &[List],
+    steps: &[Step],
+) {
+    for (place, step) in steps.iter().enumerate() {
+        assert!(rt; came(rt, store, lists, step.0) == step.1, "{place}");
+    }
+}
+
+/// What tables were asked before a migration, and what a desk is asked that is opened after it. It answers
+/// as without one.
+const SERVED: &[(&[List], List)] = &[
+    (&[], List::World),
+    (BEFORE, List::Row6),
+    (BEFORE, List::Addressed),
+    (
+        &[List::World, List::First, List::Second, List::Row9],
+        List::Row9Undone,
+    ),
+    (&[List::World, List::First, List::Row14], List::Row14Undone),
+];
+
+/// Whether tables of schema 1 are migrated, and have the machine's world once a desk over them has answered
+/// the turns.
+fn is_served<S: Store<Global>>(
+    rt: &(impl Abort + AllocGlobal),
+    store: S,
+    before: &[List],
+    turns: &[Turn],
+) -> bool {
+    let mut store = store;
+    take(rt, &mut store, before, MIGRATED);
+    let mut store = store_after(rt, store, &[], turns);
+    are_kept(rt, &mut store, before, turns)
+}
+
 #[test]
 fn schema_1_is_opened_after_a_migration(rt: HostRuntime) {
-    let mut tables = earlier_tables(&rt);
-    assert!(rt; is_earlier(&rt, &mut tables));
-    assert!(rt; answer(&rt, &mut tables) == Ok(true));
-    assert!(rt; are_kept(&rt, &mut tables, BEFORE, &[]));
-    assert!(rt; answer(&rt, &mut tables) == Ok(false));
-    let mut tables = tables_then(&rt, tables, &[List::Row6], &[]);
-    assert!(rt; are_kept(&rt, &mut tables, SERVED, &[]));
+    for (before, after) in SERVED {
+        let tables = earlier_tables(&rt, before);
+        assert!(rt; is_served(&rt, tables, before, turns_of(*after)));
+    }
 }
 
 #[test]
 fn a_refused_migration_is_made_later(rt: HostRuntime) {
-    let mut store = RefusingStore::new(earlier_tables(&rt), 0);
-    assert!(rt; answer(&rt, &mut store) == Err(OpenFault::Store));
-    assert!(rt; is_earlier(&rt, &mut store));
-    assert!(rt; answer(&rt, &mut store) == Ok(true));
-    assert!(rt; are_kept(&rt, &mut store, BEFORE, &[]));
+    let mut store = RefusingStore::new(earlier_tables(&rt, BEFORE), 0);
+    take(&rt, &mut store, BEFORE, REFUSED);
 }
 
 const NO_SCHEMA: Result<bool, OpenFault> = Err(OpenFault::Damaged(Table::Meta));
@@ -151,6 +244,12 @@ const ANSWERS: &[(&str, &str, Result<bool, OpenFault>)] = &[
     ),
     (PRESENT, "DROP TABLE meta", Err(OpenFault::Store)),
     (EARLIER, "DROP TABLE meta", Err(OpenFault::Store)),
+    (NOTHING, "", Err(OpenFault::Store)),
+    (
+        NOTHING,
+        "CREATE TABLE x (x TEXT) STRICT",
+        Err(OpenFault::Store),
+    ),
 ];
 
 /// What a migration answers of the tables after these statements.
@@ -159,7 +258,7 @@ fn answer_after(
     schema: &str,
     statements: &str,
 ) -> Result<bool, OpenFault> {
-    let mut tables = tables_of_schema(rt, schema, statements);
+    let mut tables = tables_of_schema(rt, BEFORE, schema, statements);
     answer(rt, &mut tables)
 }
 

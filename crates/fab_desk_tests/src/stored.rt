@@ -62,6 +62,7 @@ enum Before {
     Staging,
     Signing,
     Unmapping,
+    Addressing,
 }
 
 /// The lists of turns that come before.
@@ -74,6 +75,7 @@ fn lists_of(before: Before) -> &'static [List] {
         Before::Staging => &[List::World, List::Staged],
         Before::Signing => &[List::World, List::Staged, List::Signed],
         Before::Unmapping => &[List::World, List::First, List::Unmapped],
+        Before::Addressing => &[List::World, List::First, List::Addressed],
     }
 }
 
@@ -136,9 +138,15 @@ const CASES: &[Case] = &[
     ("row_15", Before::Unmapping, List::Row15, ""),
     ("row_15, undone", Before::Unmapping, List::Undone, ""),
     (
-        "the rows of addresses",
+        "the zone of an address",
         Before::FirstPlan,
         List::Addressed,
+        FIRST_PATH,
+    ),
+    (
+        "the rows of addresses",
+        Before::Addressing,
+        List::Readdressed,
         FIRST_PATH,
     ),
     (

@@ -7,26 +7,20 @@ use fab_store_rows::{
 };
 use std::process::Abort;
 
-/// A row: settings of a fabric; items and active rows of fabric A, and a port of a zone of fabric B;
-/// groups and parts, each group of the tenant `blue`, or `green`, and each storage group on `arr1`, or
-/// on the host `db1`.
+/// A row: settings of a fabric; items and active rows of fabric A; groups and parts, each group of the
+/// tenant `blue`, and each storage group on `arr1`.
 #[derive(Clone, Copy)]
 pub enum Line {
     NoActiveSet(Fabric),
     ActiveSet(Fabric, &'static str),
     DefaultZone(Fabric, bool),
     Alias(&'static str, u64),
-    AliasAlias(&'static str, &'static str),
     ZonePort(&'static str, u64),
     ZoneAlias(&'static str, &'static str),
-    OtherZone(&'static str, u64),
     Set(&'static str, &'static str),
     Active(&'static str, u64),
-    ActiveAlias(&'static str, &'static str),
     HostGroup(&'static str),
     Group(&'static str, bool),
-    GreenGroup(&'static str),
-    Elsewhere(&'static str),
     Host(&'static str, &'static str),
     Serves(&'static str, &'static str),
     Target(&'static str, u64),
@@ -46,16 +40,17 @@ pub fn name(rt: &impl Abort, text: &str) -> Name {
     Name::read(text).expect(rt, "a name")
 }
 
-fn item(fabric: Fabric, item: ZoningItem) -> ConfigRow {
+fn item(item: ZoningItem) -> ConfigRow {
+    let fabric = Fabric::A;
     ConfigRow::Zoning(ZoningRow { fabric, item })
 }
 
 fn alias(rt: &impl Abort, alias: &str, member: Member) -> ConfigRow {
-    item(Fabric::A, ZoningItem::Alias(name(rt, alias), member))
+    item(ZoningItem::Alias(name(rt, alias), member))
 }
 
-fn zone(rt: &impl Abort, fabric: Fabric, zone: &str, member: Member) -> ConfigRow {
-    item(fabric, ZoningItem::Zone(name(rt, zone), member))
+fn zone(rt: &impl Abort, zone: &str, member: Member) -> ConfigRow {
+    item(ZoningItem::Zone(name(rt, zone), member))
 }
 
 /// A member that names a port.
@@ -81,18 +76,11 @@ fn host_group(rt: &impl Abort, group: &str) -> ConfigRow {
     ConfigRow::Group(GroupRow::Host(HostGroupRow { name, tenant }))
 }
 
-/// A storage group on what has this name.
-fn storage_group(
-    rt: &impl Abort,
-    array: &str,
-    group: &str,
-    tenant: &str,
-    exposed: bool,
-) -> ConfigRow {
+fn storage_group(rt: &impl Abort, group: &str, exposed: bool) -> ConfigRow {
     ConfigRow::Group(GroupRow::Storage(StorageGroupRow {
         name: name(rt, group),
-        tenant: name(rt, tenant),
-        array: name(rt, array),
+        tenant: name(rt, "blue"),
+        array: name(rt, "arr1"),
         exposed,
     }))
 }
@@ -105,9 +93,7 @@ fn part(rt: &impl Abort, group: &str, part: StoragePart) -> ConfigRow {
 fn mapping_row(rt: &impl Abort, line: Line) -> ConfigRow {
     match line {
         Line::HostGroup(group) => host_group(rt, group),
-        Line::Group(group, exposed) => storage_group(rt, "arr1", group, "blue", exposed),
-        Line::GreenGroup(group) => storage_group(rt, "arr1", group, "green", true),
-        Line::Elsewhere(group) => storage_group(rt, "db1", group, "db1", false),
+        Line::Group(group, exposed) => storage_group(rt, group, exposed),
         Line::Host(group, host) => ConfigRow::Part(PartRow::Host(name(rt, group), name(rt, host))),
         Line::Serves(group, hosts) => part(rt, group, StoragePart::HostGroup(name(rt, hosts))),
         Line::Target(group, number) => part(rt, group, StoragePart::Target(port(rt, number))),
@@ -122,13 +108,10 @@ fn mapping_row(rt: &impl Abort, line: Line) -> ConfigRow {
 fn item_row(rt: &impl Abort, line: Line) -> ConfigRow {
     match line {
         Line::Alias(name, number) => alias(rt, name, a_port(rt, number)),
-        Line::AliasAlias(name, other) => alias(rt, name, an_alias(rt, other)),
-        Line::ZonePort(name, number) => zone(rt, Fabric::A, name, a_port(rt, number)),
-        Line::ZoneAlias(name, alias) => zone(rt, Fabric::A, name, an_alias(rt, alias)),
-        Line::OtherZone(name, number) => zone(rt, Fabric::B, name, a_port(rt, number)),
-        Line::Set(set, zone) => item(Fabric::A, ZoningItem::Set(name(rt, set), name(rt, zone))),
+        Line::ZonePort(name, number) => zone(rt, name, a_port(rt, number)),
+        Line::ZoneAlias(name, alias) => zone(rt, name, an_alias(rt, alias)),
+        Line::Set(set, zone) => item(ZoningItem::Set(name(rt, set), name(rt, zone))),
         Line::Active(zone, number) => active(rt, zone, a_port(rt, number)),
-        Line::ActiveAlias(zone, alias) => active(rt, zone, an_alias(rt, alias)),
         _ => mapping_row(rt, line),
     }
 }

@@ -1,7 +1,6 @@
 //! Rows of plans and approvals as plain data.
 
 use crate::lines::name;
-use fab_names::Name;
 use fab_store_rows::{ApprovalRow, PlanRow, PlanState};
 use std::alloc::Global;
 use std::process::Abort;
@@ -31,23 +30,4 @@ pub fn approval_row(rt: &impl Abort, line: ApprovalLine) -> ApprovalRow {
         caller: name(rt, line.1),
         revision: line.2,
     }
-}
-
-/// The rows of these plans.
-pub fn plan_rows(rt: &(impl Abort + AllocGlobal), lines: &[PlanLine]) -> Vec<PlanRow<Global>> {
-    let mut rows = Vec::new(rt.alloc());
-    for line in lines {
-        rows.push(plan_row(rt, *line)).expect(rt, "memory");
-    }
-    rows
-}
-
-/// Whether the names are those of these texts, in this order.
-pub fn are(rt: &impl Abort, names: &[Name], texts: &[&str]) -> bool {
-    for (place, text) in texts.iter().enumerate() {
-        if names.get(place) != Some(&name(rt, text)) {
-            return false;
-        }
-    }
-    names.len() == texts.len()
 }

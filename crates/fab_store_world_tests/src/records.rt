@@ -6,13 +6,6 @@ use fab_names::Fabric::{A, B};
 use fab_store_rows::{ConfigRow, Sign, UndoRow};
 use std::process::Abort;
 
-/// How many rows of a configuration there are, and how many changed ones: behind those of the lines
-/// there are some that equal the last.
-const ROWS: usize = 20;
-
-/// The last of the lines.
-const LAST: Line = Line::Unit("g1", 0, "v1");
-
 /// The rows of the configuration, in their order.
 const CONFIG: &[Line] = &[
     Line::ActiveSet(A, "s1"),
@@ -54,9 +47,8 @@ const CHANGES: &[(Sign, Line)] = &[
 /// The rows of the configuration.
 pub fn config_rows(rt: &(impl Abort + AllocGlobal)) -> Vec<ConfigRow> {
     let mut rows = Vec::new(rt.alloc());
-    for place in 0..ROWS {
-        let line = CONFIG.get(place).copied().unwrap_or(LAST);
-        rows.push(row(rt, line)).expect(rt, "memory");
+    for line in CONFIG {
+        rows.push(row(rt, *line)).expect(rt, "memory");
     }
     rows
 }
@@ -69,19 +61,17 @@ pub fn set_row(rt: &impl Abort, rows: &mut Vec<ConfigRow>, place: usize, line: L
     *there = row(rt, line);
 }
 
-/// A changed row of a plan.
-pub fn undo_row(rt: &impl Abort, plan: &str, sign: Sign, line: Line) -> UndoRow {
-    let (plan, row) = (name(rt, plan), row(rt, line));
+/// A changed row of the plan.
+fn undo_row(rt: &impl Abort, sign: Sign, line: Line) -> UndoRow {
+    let (plan, row) = (name(rt, "p1"), row(rt, line));
     UndoRow { plan, sign, row }
 }
 
 /// The changed rows.
 pub fn undo_rows(rt: &(impl Abort + AllocGlobal)) -> Vec<UndoRow> {
     let mut rows = Vec::new(rt.alloc());
-    for place in 0..ROWS {
-        let (sign, line) = CHANGES.get(place).copied().unwrap_or((Sign::Added, LAST));
-        rows.push(undo_row(rt, "p1", sign, line))
-            .expect(rt, "memory");
+    for (sign, line) in CHANGES {
+        rows.push(undo_row(rt, *sign, *line)).expect(rt, "memory");
     }
     rows
 }

@@ -4,7 +4,6 @@ use crate::edits::{Edit, apply_all};
 use crate::lines::Line;
 use crate::stock::FIRST_TARGET;
 use crate::tables::tables;
-use fab_inventory::HolderKind::Host;
 use fab_names::Fabric::B;
 use fab_store_rows::TableRows;
 use fab_store_world::world_of;
@@ -16,16 +15,16 @@ use std::process::Abort;
 /// Changes of the rows, each of which leads to a world of its own.
 const WORLDS: &[&[Edit]] = &[
     &[],
-    &[Edit::Counts(2, 1_000_000_000)],
+    &[Edit::Revision(1_000_000_000)],
     &[Edit::Address(FIRST_TARGET)],
     &[Edit::NoAddress],
-    &[Edit::Holder("db9", Host)],
+    &[Edit::Host("db9")],
     &[Edit::Volume("arr1")],
     &[Edit::Config(3, Line::DefaultZone(B, true))],
-    &[Edit::Plan("deactivate A\n", 0)],
-    &[Edit::Plan("deactivate B\n", 0)],
-    &[Edit::Plan("deactivate A\n", 0), Edit::Approval("p2", 6)],
-    &[Edit::Plan("deactivate A\n", 0), Edit::Approval("p2", 7)],
+    &[Edit::Plan("deactivate A\n")],
+    &[Edit::Plan("deactivate B\n")],
+    &[Edit::Plan("deactivate A\n"), Edit::Approval("p2", 6)],
+    &[Edit::Plan("deactivate A\n"), Edit::Approval("p2", 7)],
 ];
 
 /// The world of the rows.

@@ -19,7 +19,7 @@ const THIRD_INITIATOR: u64 = 0x1000_0000_0000_0003;
 pub const FIRST_TARGET: u64 = 0x5000_0000_0000_0001;
 
 /// The other port of the array, of the same node.
-pub const SECOND_TARGET: u64 = 0x5000_0000_0000_0002;
+const SECOND_TARGET: u64 = 0x5000_0000_0000_0002;
 
 /// A port, its node and its place, and its address or none.
 type Row = (u64, u64, u8, u16, Option<&'static str>);

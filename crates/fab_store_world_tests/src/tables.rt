@@ -13,7 +13,7 @@ use std::alloc::Global;
 use std::process::Abort;
 
 /// The printed form of the plan.
-pub const TEXT: &str = "alias.put A disk wwpn=50:00:00:00:00:00:00:01
+const TEXT: &str = "alias.put A disk wwpn=50:00:00:00:00:00:00:01
 zone.put A z1 wwpn=10:00:00:00:00:00:00:01 alias=disk
 set.put A s1 z1
 activate A s1
@@ -50,10 +50,10 @@ pub fn put_approval(rt: &impl Abort, tables: &mut TableRows<Global>, line: Appro
     tables.approvals.push(approval).expect(rt, "memory");
 }
 
-/// A path of the first host to the first volume.
-pub fn put_path(rt: &impl Abort, tables: &mut TableRows<Global>, host: &str, target: u64) {
-    let (host, volume) = (name(rt, host), name(rt, "v1"));
-    let (initiator, target) = (port(rt, FIRST_INITIATOR), port(rt, target));
+/// The path of the first host to the first volume.
+fn put_path(rt: &impl Abort, tables: &mut TableRows<Global>) {
+    let (host, volume) = (name(rt, "db1"), name(rt, "v1"));
+    let (initiator, target) = (port(rt, FIRST_INITIATOR), port(rt, FIRST_TARGET));
     let path = Path {
         fabric: Fabric::A,
         initiator,
@@ -103,6 +103,6 @@ pub fn tables(rt: &(impl Abort + AllocGlobal)) -> TableRows<Global> {
     put_counts(rt, &mut tables, SCHEMA, 7);
     put_plan(rt, &mut tables, ("p1", TEXT, PlanState::Active, 1));
     put_approval(rt, &mut tables, ("p1", "bob", 6));
-    put_path(rt, &mut tables, "db1", FIRST_TARGET);
+    put_path(rt, &mut tables);
     tables
 }

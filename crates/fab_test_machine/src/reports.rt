@@ -2,7 +2,7 @@
 
 use crate::replies::tell_paths;
 use fab_desk_base::{Joint, Shown};
-use fab_names::{Fabric, Place};
+use fab_names::{Address, Fabric, Place};
 use std::alloc::{AllocError, Global};
 
 fn tell_reason(text: &mut String, joint: Joint) -> Result<(), AllocError> {
@@ -26,6 +26,13 @@ fn tell_place(text: &mut String, at: Option<(Fabric, Place)>) -> Result<(), Allo
     }
 }
 
+fn tell_address(text: &mut String, address: Option<Address>) -> Result<(), AllocError> {
+    match address {
+        Some(address) => write!(text, " {address}"),
+        None => Ok(()),
+    }
+}
+
 /// Writes what a read shows, of what tests ask for.
 ///
 /// # Errors
@@ -37,9 +44,15 @@ pub fn tell_shown(text: &mut String, shown: &Shown<Global>) -> Result<(), AllocE
             tell_paths(text, "", paths.as_slice())
         }
         Shown::Joined(joint) => tell_joint(text, *joint),
-        Shown::Port { name, node, at, .. } => {
+        Shown::Port {
+            name,
+            node,
+            at,
+            address,
+        } => {
             write!(text, "port {name} {node}")?;
-            tell_place(text, *at)
+            tell_place(text, *at)?;
+            tell_address(text, *address)
         }
         _ => write!(text, "shown"),
     }
