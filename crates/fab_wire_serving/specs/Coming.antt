@@ -1,7 +1,7 @@
 -- What came of a connection over a stream.
 use Rattle.std.specs.Prelude.{ℕ, ◌≡◌, ◌<◌, ◌≤◌, ◌⊎◌, List, Option, codes}
 use Rattle.std.specs.Io.KnownBytes.{Keeps}
-use Rattle.fab_wire_gathering.specs.Deadlines.{clock_of, stream_of, end_at, seen_at, IsHastened}
+use Rattle.fab_wire_gathering.specs.Deadlines.{clock_of, stream_of, end_at, seen_at, IsHastened, most_lingering}
 use Rattle.fab_wire_gathering.specs.declared.deadline.Timed.{Timed}
 use Rattle.fab_wire_serving.specs.Sides.{Side, Sides}
 use Rattle.fab_wire_serving.specs.declared.connection.Came.{Came}
@@ -27,10 +27,6 @@ ComesSo {O} P sent Unsent = (outcome : O) × ((after : Sides) × P outcome after
 abbrev pub came_text : {O : Type 0} → (O → List ℕ) → Came O → List ℕ
 came_text text (Served outcome) = text outcome
 came_text text Unsent = codes "unsent"
-
--- how long bytes that nobody reads are taken behind an answer at most, in nanoseconds: a second
-abbrev pub most_lingering : ℕ
-most_lingering = 1_000_000_000
 
 -- a connection is let go of at once: the clock could not be read, or its time was up
 abbrev pub IsLate : {C S : Type 0} → (C → Type 0) → Timed C S → Timed C S → Type 0

@@ -47,10 +47,7 @@ fn next_connection<C: Ticks, L: Listens, N: FnMut() -> Option<u64>>(
 pub(crate) fn begun<C: Ticks>(clock: &C, came: Instant) -> Instant
     ensures { C.tells clock.now (instant_nanos result) ⊎ (C.fails clock.now × (result ≡ came)) }
 {
-    match clock.reading() {
-        Ok(now) => now,
-        Err(_) => came,
-    }
+    clock.reading().unwrap_or(came)
 }
 
 /// Serves the next connection: a server that is halted is opened anew before, if it can be. What that

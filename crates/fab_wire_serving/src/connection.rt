@@ -4,14 +4,15 @@ ghost use Rattle.std.specs.Prelude.{◌≡◌, ◌≤◌, ◌<◌, ◌+◌, ◌�
 ghost use Rattle.std.specs.Io.Buffered.{writer_contents};
 ghost use Rattle.std.specs.Io.KnownBytes.{Keeps};
 ghost use Rattle.fab_wire_streams.specs.Counting.{inner_of, failures_of};
-ghost use Rattle.fab_wire_serving.specs.Coming.{ComesSo, IsSent, IsLate, IsLetGo, came_text, most_lingering};
-ghost use Rattle.fab_wire_gathering.specs.Deadlines.{end_of, end_at, clock_of, stream_of};
+ghost use Rattle.fab_wire_serving.specs.Coming.{ComesSo, IsSent, IsLate, IsLetGo, came_text};
+ghost use Rattle.fab_wire_gathering.specs.Deadlines.{end_of, end_at, clock_of, stream_of, most_lingering};
 ghost use Rattle.fab_wire_log.specs.Shown.{shown_text};
 ghost use Rattle.fab_wire_serving.specs.Sides.{begun_sides};
 
 use crate::Server;
 use fab_wire_gathering::clock::Ticks;
 use fab_wire_gathering::deadline::{Deadline, Timed};
+use fab_wire_gathering::guest::{LINGERING_SECONDS, MOST_FIRST, MOST_TAKINGS};
 use fab_wire_gathering::stream::{Sink, Source};
 use fab_wire_log::Shown;
 use fab_wire_streams::counted::Counted;
@@ -21,12 +22,6 @@ use std::time::Duration;
 
 /// How many bytes of an answer are sent at once.
 const MOST_AT_ONCE: usize = 65536;
-
-/// How long bytes that nobody reads are waited for behind an answer, in seconds.
-const LINGERING_SECONDS: u64 = 1;
-
-/// How many times such bytes are taken.
-const MOST_TAKINGS: usize = 4096;
 
 /// What came of a connection over a stream.
 #[derive(Drop)]
@@ -135,7 +130,7 @@ pub fn let_go<C: Ticks, S: Source + Sink>(timed: &mut Timed<'_, C, S>)
 fn take_rest<C: Ticks, S: Source>(timed: &mut Timed<'_, C, S>)
     ensures { end_at timed.new ≡ end_at timed.old }
 {
-    let mut bytes = [0u8; 8192];
+    let mut bytes = [0u8; MOST_FIRST];
     for _ in 0..MOST_TAKINGS {
         match timed.read(&mut bytes) {
             Ok(taken) if taken > 0 => {}

@@ -74,10 +74,7 @@ fn reading<C: Ticks>(clock: &C) -> Option<Instant>
     ensures told { IfSome result (λ now. C.tells clock.now (instant_nanos now)) }
     ensures none { IfNone result (C.fails clock.now) }
 {
-    match clock.reading() {
-        Ok(now) => Some(now),
-        Err(_) => None,
-    }
+    clock.reading().ok()
 }
 
 /// Notes when the connection of a seat was taken up.

@@ -248,10 +248,7 @@ fn serve_room<
 fn turns_of(count: Option<u64>) -> u64
     ensures { result ≡ most_turns count }
 {
-    match count {
-        Some(count) => count,
-        None => u64::MAX,
-    }
+    count.unwrap_or(u64::MAX)
 }
 
 /// A room for the connections of a listener, of which so many are to be taken up; none where there is no
@@ -268,10 +265,7 @@ fn room_for<C: Ticks, W: Write, L: Listens>(
     ensures lines { IfSome result (λ room. room.pending.lines.items ≡ []) }
 {
     let poll = watch.poll.take()?;
-    let room = match Room::new(watch, poll, left) {
-        Ok(room) => room,
-        Err(_) => return None,
-    };
+    let room = Room::new(watch, poll, left).ok()?;
     if room.open(listener).is_err() {
         room.close(listener);
         return None;
