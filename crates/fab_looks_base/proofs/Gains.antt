@@ -1,5 +1,5 @@
 -- Storage groups and paths that are gathered, item by item.
-use Rattle.std.proofs.Common.{◌≡◌, ◌<◌, ℕ, List, [], ◌∷◌, Bor, map, length, get_or, Contains, Option, None, Some, refl, sym, ap, ◌∙◌, subst}
+use Rattle.std.proofs.Common.{◌≡◌, ◌<◌, ℕ, List, [], ◌∷◌, Bor, map, length, get_or, Contains, Some, refl, sym, ap, ◌∙◌, subst}
 use Rattle.std.specs.Ordering.{nat_cmp}
 use Rattle.std.specs.Cmp.{nat_cmp_total}
 use Rattle.std.specs.BTreeSet.{BTreeSet}
@@ -8,27 +8,22 @@ use Rattle.std.specs.FinSet as set
 use Rattle.std.proofs.lemmas.List.{get_or-map, length-map}
 use Rattle.std.proofs.lemmas.Map.Views.{btree_set_contains_iff}
 use Rattle.fab_names.specs.Orders.{name_cmp}
-use Rattle.fab_names.specs.Places.{Position}
 use Rattle.fab_names.specs.declared.fabric.Fabric.{Fabric}
 use Rattle.fab_names.proofs.OrderLaws.{name_total, name_exact}
 use Rattle.fab_inventory.specs.declared.port.Port.{Port}
-use Rattle.fab_inventory.specs.Ports.{port_at}
 use Rattle.fab_lemmas.proofs.SeenSets.{listed_decides}
 use Rattle.fab_lemmas.proofs.SeenEntries.{entry_decides}
-use Rattle.fab_zoning_rows.specs.Holding.{IsLoggedInAt}
 use Rattle.fab_mapping_base.specs.Groups.{StorageGroupRows, MapsVolume}
 use Rattle.fab_mapping.specs.Mappings.{MappingRows}
 use Rattle.fab_reach_base.specs.Adding.{Adds}
 use Rattle.fab_reach_base.specs.Records.{Records}
 use Rattle.fab_reach_base.specs.Orders.{Has}
-use Rattle.fab_reach_base.specs.Reach.{IsPort, IsTarget}
 use Rattle.fab_reach_base.specs.declared.path.Path.{Path}
-use Rattle.fab_reach_base.proofs.Adding.{Before, adds_as, adds_none, from_none}
+use Rattle.fab_reach_base.proofs.Adding.{Before, adds_as, from_none}
 use Rattle.fab_reach_base.specs.PathOrder.{path_total, path_exact}
-use Rattle.fab_reach_base.proofs.Same.{same_some, same_fabric}
 use Rattle.fab_reach_base.proofs.Sets.{none_in}
 use Rattle.fab_looks_base.specs.Links.{IsMappedBy}
-use Rattle.fab_looks_base.specs.Inner.Offers.{AreJust, UnitPath, PairPath, TargetPath, NamedPath, GroupPath, MayPass}
+use Rattle.fab_looks_base.specs.Inner.Offers.{AreJust, UnitPath, NamedPath, GroupPath, MayPass}
 use Rattle.fab_looks_base.proofs.Gathered.{just_as}
 
 -- ---- storage groups
@@ -85,30 +80,7 @@ units_added f p q g volume es old new is = adds_as (Before (ByUnit f p q volume)
     ))
     (λ x w. ((x.unit, volume), subst (λ ys. Contains ys (x.unit, volume)) (sym is) ((entry_decides nat_cmp nat_cmp_total set.nat_cmp-IsAntisymmetric g.units x.unit volume).0 w.4), (refl, λ i. record { fabric = w.0 i; initiator = w.1 i; target = w.2 i; volume = w.3 i; unit = x.unit })))
 
-module _ (g : StorageGroupRows) (volume : List ℕ) (q p : Port) where
-  pub pair_added : (f : Fabric) (old new : Path → Type 0) → IsLoggedInAt f p → IsLoggedInAt f q → Adds (UnitPath f p.name q.name g volume) old new → Adds (PairPath g volume q p) old new
-  pair_added f old new p_at q_at = adds_as (UnitPath f p.name q.name g volume) (PairPath g volume q p) old new
-      (λ x w. (subst (λ h. IsLoggedInAt h p) (sym w.0) p_at, subst (λ h. IsLoggedInAt h q) (sym w.0) q_at, (refl, w.1, w.2, w.3, w.4)))
-      (λ x w. (same_fabric p x.fabric f w.0 p_at, w.2.1, w.2.2, w.2.3, w.2.4))
-
-  pub not_here : (old : Path → Type 0) → p.at ≡ None → Adds (PairPath g volume q p) old old
-  not_here old none = adds_none (PairPath g volume q p) old (λ x w. let e : ◌≡◌ {A = Option (Fabric × Position)} None (Some (x.fabric, w.0.0)) = sym none ∙ w.0.1 in absurd cc)
-
-  pub not_there : (f : Fabric) (old : Path → Type 0) → IsLoggedInAt f p → ¬ IsLoggedInAt f q → Adds (PairPath g volume q p) old old
-  not_there f old p_at none = adds_none (PairPath g volume q p) old (λ x w. none (subst (λ h. IsLoggedInAt h q) (same_fabric p x.fabric f w.0 p_at) w.1))
-
 module _ (w : Records) (ports : List Port) (g : StorageGroupRows) (volume : List ℕ) where
-  pub named_added : (name : ℕ) (q : Port) (old new : Path → Type 0) → IsPort w name q → IsTarget w q → Adds (TargetPath ports g volume q) old new → Adds (NamedPath w ports g volume name) old new
-  named_added name q old new is to = adds_as (TargetPath ports g volume q) (NamedPath w ports g volume name) old new
-      (λ x h. (q, is, to, h))
-      (λ x h. subst (λ y. TargetPath ports g volume y x) (same_some h.1 is) h.3)
-
-  pub no_port : (name : ℕ) (old : Path → Type 0) → port_at w.inventory.ports name ≡ None → Adds (NamedPath w ports g volume name) old old
-  no_port name old none = adds_none (NamedPath w ports g volume name) old (λ x h. let e : ◌≡◌ {A = Option Port} None (Some h.0) = sym none ∙ h.1 in absurd cc)
-
-  pub no_target : (name : ℕ) (q : Port) (old : Path → Type 0) → IsPort w name q → ¬ IsTarget w q → Adds (NamedPath w ports g volume name) old old
-  no_target name q old is none = adds_none (NamedPath w ports g volume name) old (λ x h. none (subst (IsTarget w) (same_some h.1 is) h.2))
-
   pub targets_added : (names : List ℕ) (old new : Path → Type 0) → set.from_list names ≡ g.targets → Adds (Before (NamedPath w ports g volume) names) old new → Adds (GroupPath w ports volume g) old new
   targets_added names old new is = adds_as (Before (NamedPath w ports g volume) names) (GroupPath w ports volume g) old new
       (λ x h. (h.0, sym (ap (λ (s : set.FinSet nat_cmp). set.contains s h.0) is) ∙ (listed_decides nat_cmp_total set.nat_cmp-IsAntisymmetric names h.0).1 h.1, h.2))

@@ -16,7 +16,7 @@ use fab_reach_base::View;
 use std::alloc::{AllocError, Allocator};
 
 /// The port of the name, if it is logged in.
-fn login_of<A: Allocator + Copy>(view: &View<'_, A>, name: &Wwn) -> Option<Port>
+pub fn login_of<A: Allocator + Copy>(view: &View<'_, A>, name: &Wwn) -> Option<Port>
     ensures { MatchOption result ((p : Port) → ¬ IsLoggedIn (seen view.now) name.now p) (IsLoggedIn (seen view.now) name.now) }
 {
     let Some(port) = view.inventory.port(name) else {
@@ -29,7 +29,7 @@ fn login_of<A: Allocator + Copy>(view: &View<'_, A>, name: &Wwn) -> Option<Port>
 }
 
 /// The ports of these names that are logged in.
-fn logged_in<A: Allocator + Copy>(
+pub fn logged_in<A: Allocator + Copy>(
     alloc: A,
     view: &View<'_, A>,
     names: &[Wwn],
@@ -112,8 +112,7 @@ pub fn serving_groups<'a, A: Allocator + Copy>(
     ensures { IfOk result (λ served. AreJust (λ (g : StorageGroupRows). Contains (map (λ r. r.now) groups.now) g × Serves mapping.now g host.now) (map (λ r. r.now) served.items)) }
 {
     let mut served = Vec::new(alloc);
-    for place in 0..groups.len() {
-        let group = groups[place];
+    for &group in groups {
         if serves(mapping, group, host) {
             served.push(group)?;
         }
@@ -129,8 +128,7 @@ pub fn exposed_groups<'a, A: Allocator + Copy>(
     ensures { IfOk result (λ exposed. AreJust (λ (g : StorageGroupRows). Contains (map (λ r. r.now) groups.now) g × (g.exposed ≡ true)) (map (λ r. r.now) exposed.items)) }
 {
     let mut exposed = Vec::new(alloc);
-    for place in 0..groups.len() {
-        let group = groups[place];
+    for &group in groups {
         if group.is_exposed() {
             exposed.push(group)?;
         }

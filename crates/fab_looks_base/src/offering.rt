@@ -122,8 +122,8 @@ pub fn offers<A: Allocator + Copy>(
     ensures { IfOk result (λ paths. (x : Path) → Has paths x ↔ AnyPath (seen view.now) ports.now volume.now (map (λ r. r.now) groups.now) x) }
 {
     let mut paths = BTreeSet::new(alloc);
-    for place in 0..groups.len() {
-        add_group(&mut paths, view, ports, groups[place], volume)?;
+    for group in groups {
+        add_group(&mut paths, view, ports, group, volume)?;
     }
     Ok(paths)
 }

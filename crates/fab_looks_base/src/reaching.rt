@@ -1,23 +1,20 @@
 //! Who reaches a volume.
-ghost use Rattle.std.specs.Prelude.{◌≡◌, map, true, count_by, OnOk, IfOk};
-ghost use Rattle.fab_inventory.specs.Inventories.{IsHost};
-ghost use Rattle.fab_mapping_base.specs.Groups.{StorageGroupRows};
+ghost use Rattle.std.specs.Prelude.{◌≡◌, count_by, OnOk, IfOk};
 ghost use Rattle.fab_reach_base.specs.Orders.{IsListOf};
 ghost use Rattle.fab_reach_base.specs.Views.{seen};
-ghost use Rattle.fab_looks_base.specs.Links.{IsMappedBy, PathTo};
-ghost use Rattle.fab_looks_base.specs.Inner.Offers.{AreJust};
+ghost use Rattle.fab_looks_base.specs.Links.{PathTo};
 ghost use Rattle.fab_looks_base.specs.Inner.Gaining.{AddsHost, AddsHosts};
+ghost use Rattle.fab_looks_base.specs.Inner.Serving.{IsIndexTo, AreLoginsAt, AreLoginsOf};
 ghost use Rattle.fab_looks_base.specs.Reachers.{is_in, AreReachers};
 
-use crate::finding::{exposed_groups, logins, mapping_groups, serving_groups};
+use crate::holding::{logins_of, named_ports};
 use crate::joining::passable;
 use crate::offering::offers;
-use fab_mapping::StorageGroup;
-use fab_mapping_base::is_host;
-use fab_names::{Fabric, Name};
+use crate::serving::{named_groups, served_hosts};
+use fab_names::{Fabric, Name, Wwn};
 use fab_reach_base::{Path, View, listed};
 use std::alloc::{AllocError, Allocator};
-use std::collections::BTreeMap;
+use std::collections::{BTreeMap, BTreeSet};
 
 /// How many paths a host has to a volume, at each fabric.
 #[derive(Clone, Copy, PartialEq, Eq)]
@@ -51,24 +48,26 @@ pub fn count_at(paths: &[Path], fabric: Fabric) -> usize
     paths.iter().filter(|path| is_in(fabric, path)).count()
 }
 
-/// The paths of a host to a volume, in order, by all exposed storage groups that map it.
+/// The paths of a host to a volume, in order, by the storage groups that the index names at the host,
+/// from the ports of these names.
 fn paths_to<A: Allocator + Copy>(
     alloc: A,
     view: &View<'_, A>,
-    groups: &[&StorageGroup<A>],
+    served: &BTreeMap<Name, BTreeSet<Name, A>, A>,
     host: &Name,
+    ports: &BTreeSet<Wwn, A>,
     volume: &Name,
 ) -> Result<Vec<Path, A>, AllocError>
-    requires host { IsHost (seen view.now).inventory.holders host.now }
-    requires groups { AreJust (λ (g : StorageGroupRows). IsMappedBy (seen view.now).config.mapping volume.now g × (g.exposed ≡ true)) (map (λ r. r.now) groups.now) }
+    requires served { IsIndexTo (seen view.now).config.mapping volume.now served.now }
+    requires ports { AreLoginsAt (seen view.now) served.now host.now ports.now }
     ensures { IfOk result (λ paths. IsListOf (PathTo (seen view.now) host.now volume.now) paths.items) }
 {
-    let served = serving_groups(alloc, view.config.mapping(), groups, host)?;
-    if served.is_empty() {
+    let Some(names) = served.get(host) else {
         return Ok(Vec::new(alloc));
-    }
-    let ports = logins(alloc, view, host)?;
-    let offers = offers(alloc, view, &ports, &served, volume)?;
+    };
+    let groups = named_groups(alloc, view.config.mapping(), names)?;
+    let logins = named_ports(alloc, view, ports)?;
+    let offers = offers(alloc, view, &logins, &groups, volume)?;
     let paths = passable(alloc, view, &offers)?;
     let _count = paths.len();
     let items = listed(alloc, &paths)?;
@@ -80,17 +79,16 @@ fn add_host<A: Allocator + Copy>(
     alloc: A,
     reachers: &mut BTreeMap<Name, Counts, A>,
     view: &View<'_, A>,
-    groups: &[&StorageGroup<A>],
+    served: &BTreeMap<Name, BTreeSet<Name, A>, A>,
     host: &Name,
+    ports: &BTreeSet<Wwn, A>,
     volume: &Name,
 ) -> Result<(), AllocError>
-    requires { AreJust (λ (g : StorageGroupRows). IsMappedBy (seen view.now).config.mapping volume.now g × (g.exposed ≡ true)) (map (λ r. r.now) groups.now) }
+    requires served { IsIndexTo (seen view.now).config.mapping volume.now served.now }
+    requires ports { AreLoginsAt (seen view.now) served.now host.now ports.now }
     ensures { OnOk result (AddsHost (seen view.now) volume.now host.now reachers.old reachers.new) }
 {
-    if !is_host(view.inventory, host) {
-        return Ok(());
-    }
-    let paths = paths_to(alloc, view, groups, host, volume)?;
+    let paths = paths_to(alloc, view, served, host, ports, volume)?;
     if paths.is_empty() {
         return Ok(());
     }
@@ -102,24 +100,30 @@ fn add_host<A: Allocator + Copy>(
     Ok(())
 }
 
-/// Adds each host that has a path to the volume.
+/// Adds each host that has a path to the volume. It looks at no host but those whose ports are listed.
 fn add_hosts<A: Allocator + Copy>(
     alloc: A,
     reachers: &mut BTreeMap<Name, Counts, A>,
     view: &View<'_, A>,
-    groups: &[&StorageGroup<A>],
+    served: &BTreeMap<Name, BTreeSet<Name, A>, A>,
+    logins: &BTreeMap<Name, BTreeSet<Wwn, A>, A>,
     volume: &Name,
 ) -> Result<(), AllocError>
-    requires { AreJust (λ (g : StorageGroupRows). IsMappedBy (seen view.now).config.mapping volume.now g × (g.exposed ≡ true)) (map (λ r. r.now) groups.now) }
+    requires served { IsIndexTo (seen view.now).config.mapping volume.now served.now }
+    requires logins { AreLoginsOf (seen view.now) served.now logins.now }
     ensures { OnOk result (AddsHosts (seen view.now) volume.now reachers.old reachers.new) }
 {
-    for (host, _holder) in view.inventory.holders() {
-        add_host(alloc, reachers, view, groups, host, volume)?;
+    for (host, ports) in logins {
+        add_host(alloc, reachers, view, served, host, ports, volume)?;
     }
     Ok(())
 }
 
 /// The hosts that reach the volume, by name, each with how many paths it has there at each fabric.
+///
+/// It walks once through all storage groups and once through all known ports. Beyond that its work
+/// goes by what maps the volume: the exposed storage groups that do, the hosts that they serve, and
+/// those hosts' ports. It holds the paths of one host at a time.
 ///
 /// # Errors
 /// `AllocError` where there is no memory.
@@ -130,9 +134,9 @@ pub fn who_reaches<A: Allocator + Copy>(
 ) -> Result<BTreeMap<Name, Counts, A>, AllocError>
     ensures { IfOk result (AreReachers (seen view.now) volume.now) }
 {
-    let mapped = mapping_groups(alloc, view.config.mapping(), volume)?;
-    let exposed = exposed_groups(alloc, &mapped)?;
+    let served = served_hosts(alloc, view.config.mapping(), volume)?;
+    let logins = logins_of(alloc, view, &served)?;
     let mut reachers = BTreeMap::new(alloc);
-    add_hosts(alloc, &mut reachers, view, &exposed, volume)?;
+    add_hosts(alloc, &mut reachers, view, &served, &logins, volume)?;
     Ok(reachers)
 }

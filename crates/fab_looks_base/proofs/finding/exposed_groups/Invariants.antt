@@ -5,5 +5,5 @@ use Rattle.fab_looks_base.specs.Inner.Offers.{AreJust}
 use Rattle.fab_looks_base.proofs.Gains.{now, Kept}
 use Rattle.fab_looks_base.proofs.finding.exposed_groups.Given as goal
 
-abbrev pub invariant-loop-place : goal.invariant-loop-place
-invariant-loop-place g l = AreJust (Before (Kept (λ (x : StorageGroupRows). x.exposed ≡ true)) (take l.place (map now l.groups))) (map now l.exposed.items)
+abbrev pub invariant-loop-group : goal.invariant-loop-group
+invariant-loop-group g l = AreJust (Before (Kept (λ (x : StorageGroupRows). x.exposed ≡ true)) (take l.group-index (map now l.groups))) (map now l.exposed.items)

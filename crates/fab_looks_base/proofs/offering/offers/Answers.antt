@@ -8,20 +8,20 @@ use Rattle.fab_looks_base.specs.Inner.Offers.{GroupPath}
 use Rattle.fab_looks_base.proofs.Gains.{now, now_at, now_within}
 use Rattle.fab_looks_base.proofs.offering.offers.Goals as goal
 
-pub loop-place-preserved : goal.loop-place-preserved
-loop-place-preserved g c =
-    let i = c.loop-place.invariant in
-    let r = c.index-groups-place.result in (
+pub loop-group-preserved : goal.loop-group-preserved
+loop-group-preserved g c =
+    let i = c.loop-group.invariant in
+    let r = c.group-item.result in (
       i.0,
       i.1,
-      before_next (GroupPath (seen c.args.view.now) c.args.ports.now c.args.volume.now) (map now c.args.groups.now) c.loop-place.place r.now (Has i.0) (Has c.loop-place.paths) (Has c.add_group.new.paths)
-          (now_within c.args.groups.now c.loop-place.place c.loop-place-test.true) (now_at c.args.groups.now c.loop-place.place r c.loop-place-test.true c.index-groups-place.is) i.2 c.in_ok-add_group.ensures,
+      before_next (GroupPath (seen c.args.view.now) c.args.ports.now c.args.volume.now) (map now c.args.groups.now) c.loop-group.group-index r.now (Has i.0) (Has c.loop-group.paths) (Has c.add_group.new.paths)
+          (now_within c.args.groups.now c.loop-group.group-index c.loop-group-test.true) (now_at c.args.groups.now c.loop-group.group-index r c.loop-group-test.true c.group-item.is) i.2 c.in_ok-add_group.ensures,
     )
 
 pub returns : goal.returns
 returns g c =
-    let i = c.loop-place.invariant in
+    let i = c.loop-group.invariant in
     let Q = GroupPath (seen c.args.view.now) c.args.ports.now c.args.volume.now in
     let gs = map now c.args.groups.now in
-    filled (Before Q gs) i.0 c.loop-place.paths i.1
-    (before_last Q gs c.loop-place.place (Has i.0) (Has c.loop-place.paths) (subst (λ n. n ≤ c.loop-place.place) (sym (length-map c.args.groups.now now)) (omega (arith, c.loop-place-test.false))) i.2)
+    filled (Before Q gs) i.0 c.loop-group.paths i.1
+    (before_last Q gs c.loop-group.group-index (Has i.0) (Has c.loop-group.paths) (subst (λ n. n ≤ c.loop-group.group-index) (sym (length-map c.args.groups.now now)) (omega (arith, c.loop-group-test.false))) i.2)

@@ -9,5 +9,5 @@ use Rattle.fab_looks_base.specs.Inner.Offers.{GroupPath}
 use Rattle.fab_looks_base.proofs.Gains.{now}
 use Rattle.fab_looks_base.proofs.offering.offers.Given as goal
 
-abbrev pub invariant-loop-place : goal.invariant-loop-place
-invariant-loop-place g l = (first : BTreeSet Path) × (first.keys ≡ []) × Adds (Before (GroupPath (seen l.view) l.ports l.volume) (take l.place (map now l.groups))) (Has first) (Has l.paths)
+abbrev pub invariant-loop-group : goal.invariant-loop-group
+invariant-loop-group g l = (first : BTreeSet Path) × (first.keys ≡ []) × Adds (Before (GroupPath (seen l.view) l.ports l.volume) (take l.group-index (map now l.groups))) (Has first) (Has l.paths)
