@@ -223,13 +223,14 @@ fn is_verdict(verdict: &Verdict, denied: Option<(usize, &str, Need)>) -> bool {
 fn is_decided(rt: &(impl Abort + AllocGlobal), policy: &Policy, case: &Case) -> bool {
     let touched = tenants_of(rt, case.touched);
     let approvals = approvals_of(rt, case.approvals);
+    let plan = plan_of(rt, case.author, approvals.as_slice());
     let act = Act {
         caller: policy.caller("t-ada").expect(rt, "ada"),
         action: Action::Activate,
         fabrics: case.fabrics,
         touched: touched.as_slice(),
         moment: case.moment,
-        plan: plan_of(rt, case.author, approvals.as_slice()),
+        plan,
         revision: 6,
     };
     is_verdict(&decide(policy, &act), case.denied)
