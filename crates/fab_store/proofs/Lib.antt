@@ -3,4 +3,6 @@ pub mod Told
 pub mod Written
 pub mod PathsTold
 pub mod Names
-pub mod Newer
+pub mod Other
+pub mod NewWorld
+pub mod NewDesk

@@ -1,5 +1,5 @@
 -- The lines of all tables, and tables with the same rows.
-use Rattle.std.proofs.Common.{◌≡◌, ◌↔◌, ◌∙◌, List, map, Contains, IsTrue, false, sym, subst, arith}
+use Rattle.std.proofs.Common.{ℕ, ◌≡◌, ◌↔◌, ◌∙◌, List, map, Contains, IsTrue, false, sym, subst, arith}
 use Rattle.sqlite.specs.Effect.{Database}
 use Rattle.sqlite.specs.Order.{Row}
 use Rattle.sqlite.specs.State.{State, HasCleanDisk, Survives}
@@ -19,6 +19,7 @@ use Rattle.fab_store_base.specs.declared.faults.OpenFault.{OpenFault}
 use Rattle.fab_store_base.specs.declared.faults.OpenFault.TheVariants.{Damaged, NewerSchema, OldSchema, Store, Memory}
 use Rattle.fab_store_tables.specs.Columns.{meta_row, port_row, address_row, holder_row, volume_row, zoning_row, active_row, group_row, part_row, plan_row, approval_row, undo_row, path_row}
 use Rattle.fab_store_tables.specs.Tables.{Tables}
+use Rattle.fab_store_tables.specs.Versions.{TellsVersion}
 use Rattle.fab_world.specs.Worlds.{WorldRows}
 use Rattle.fab_store.specs.Reads.{IsTableOf, HaveSame, OnlyReads, SeesSame, AreTablesOf}
 
@@ -104,12 +105,15 @@ module _ (a b : Tables) (same : HaveSame a b) where
   holds_here : (w : WorldRows) → HoldsWorld a w → HoldsWorld b w
   holds_here w holds t r = (λ there. (holds t r).0 ((same t r).1 there), λ stands. (same t r).0 ((holds t r).1 stands))
 
+  version_there : (n : ℕ) → TellsVersion b n → TellsVersion a n
+  version_there n (l, there, tells) = (l, (same table.Meta (meta_row l)).1 there, tells)
+
+  version_here : (n : ℕ) → TellsVersion a n → TellsVersion b n
+  version_here n (l, there, tells) = (l, (same table.Meta (meta_row l)).0 there, tells)
+
   pub opens_there : (f : OpenFault) → OpensNot b f → OpensNot a f
-  opens_there (Damaged t) not = (
-    λ n told. not.0 n (told.0, (same table.Meta told.0).0 told.1, told.2),
-    λ w is rows holds. not.1 w is rows (holds_here w holds),
-  )
-  opens_there (NewerSchema n) told = ((told.0.0, (same table.Meta told.0.0).1 told.0.1, told.0.2), told.1)
-  opens_there (OldSchema n) told = ((told.0.0, (same table.Meta (meta_row told.0.0)).1 told.0.1, told.0.2), told.1)
+  opens_there (Damaged t) not = (λ n told. not.0 n (version_here n told), λ w is rows holds. not.1 w is rows (holds_here w holds))
+  opens_there (NewerSchema n) told = (version_there n told.0, told.1)
+  opens_there (OldSchema n) told = (version_there n told.0, told.1)
   opens_there Store h = tt
   opens_there Memory h = tt

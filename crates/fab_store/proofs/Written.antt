@@ -1,5 +1,5 @@
 -- Worlds whose rows are written in lines.
-use Rattle.std.proofs.Common.{ℕ, zero, suc, ◌≡◌, ◌<◌, ◌≤◌, List, [], ◌∷◌, slice_get, Some, Contains, refl, sym, ap, ◌∙◌, subst, arith}
+use Rattle.std.proofs.Common.{ℕ, zero, suc, ◌≡◌, ◌<◌, ◌⊎◌, inl, inr, List, [], ◌∷◌, slice_get, Some, Contains, refl, sym, ap, subst}
 use Rattle.std.proofs.lemmas.Option.{slice_get_within, get_or_from_slice_get}
 use Rattle.fab_store_world.specs.Standing.{HaveRows}
 use Rattle.fab_store_columns.specs.MetaLines.{MetaColumns, ShowsMeta}
@@ -17,15 +17,16 @@ use Rattle.fab_store_tables.specs.declared.lines.TableLines.{TableLines}
 use Rattle.fab_store_rows.specs.declared.config_row.ConfigRow.TheVariants as config
 use Rattle.fab_store_rows.specs.declared.table_rows.CountRow.TheVariants.{Schema, Revision}
 use Rattle.fab_store_rows.specs.declared.table_rows.TheConstants.{SCHEMA}
-use Rattle.fab_store_base.specs.Calls.{OpensNot, TellsNoNewer}
+use Rattle.fab_store_base.specs.Calls.{IsOtherSchema, OpensNot}
 use Rattle.fab_store_base.specs.Worlds.{IsMetaRow, IsWritten}
+use Rattle.fab_store_base.specs.declared.faults.OpenFault.{OpenFault}
 use Rattle.fab_store_base.specs.declared.faults.OpenFault.TheVariants.{Damaged, NewerSchema, OldSchema}
 use Rattle.fab_store_tables.specs.Columns.{meta_row}
-use Rattle.fab_store_tables.specs.Versions.{TellSchema}
+use Rattle.fab_store_tables.specs.Versions.{TellsSchema, TellsVersion}
 use Rattle.fab_store_tables.specs.declared.stored_line.TableLine.{TableLine}
 use Rattle.fab_store_tables.specs.declared.stored_line.TableLine.TheVariants as line
 use Rattle.fab_world.specs.Worlds.{WorldRows}
-use Rattle.fab_store.specs.Loading.{HaveNamesOnce, TellNewer}
+use Rattle.fab_store.specs.Loading.{HaveNamesOnce, TellOther}
 use Rattle.fab_store.proofs.Names.{lines_once}
 
 module _ (A : Type 0) (w : WorldRows) where
@@ -83,31 +84,17 @@ one_place (y ∷ ys) d zero (suc j) x h k = let same : y ≡ x = cc in absurd (d
 one_place (y ∷ ys) d (suc i) zero x h k = let same : y ≡ x = cc in absurd (d.0 (rw same (found_in ys i x h)))
 one_place (y ∷ ys) d (suc i) (suc j) x h k = ap suc (one_place ys d.1 i j x h k)
 
--- no setting tells a newer schema, where no line does
-no_newer : (found : TableLines) → ((n : ℕ) → ¬ TellNewer found.meta.items n) → TellsNoNewer (tables_of found)
-no_newer found none n (columns, there, shown) = not_above n SCHEMA (λ newer. none n (
-  line.0,
-  line.1,
-  record { shows = subst (ShowsMeta line.0) shown.stands (subst (λ l. ShowsMeta l shown.shown) same shown.shows); newer = newer },
-))
-  where
-    not_above : (a b : ℕ) → ¬ (b < a) → a ≤ b
-    not_above a b not = omega (arith, not)
+-- the tables tell no other schema, where no line does
+no_other : (found : TableLines) → ((n : ℕ) → ¬ TellOther found.meta.items n) → (n : ℕ) → TellsVersion (tables_of found) n → ¬ IsOtherSchema n
+no_other found none n (l, there, tells) other =
+    let line = in_map meta_row found.meta.items (meta_row l) there in
+    none n (line.0, line.1, (subst (λ (m : MetaColumns). TellsSchema m n) (one_meta l line.0 (sym line.2)) tells, other))
 
-    line : (l : MetaColumns) × Contains found.meta.items l × (meta_row l ≡ columns)
-    line = in_map meta_row found.meta.items columns there
+-- where no other schema is told, and no name of a plan stands twice, no written world has the rows
+pub damaged : (A : Type 0) (found : TableLines) (t : Table) → ((n : ℕ) → ¬ TellOther found.meta.items n) → HaveNamesOnce found.plans.items → HasNoWorld A found → OpensNot (tables_of found) (Damaged t)
+damaged A found t others once none = (no_other found others, λ w is rows holds. none (λ i j l. one_place found.plans.items (lines_once found.plans.items once) i j l) w (lined A w is rows) holds)
 
-    same : shown.line ≡ line.0
-    same = one_meta shown.line line.0 (sym shown.is ∙ sym line.2)
-
--- where no newer schema is told, and no name of a plan stands twice, no written world has the rows
-pub damaged : (A : Type 0) (found : TableLines) (t : Table) → ((n : ℕ) → ¬ TellNewer found.meta.items n) → HaveNamesOnce found.plans.items → HasNoWorld A found → OpensNot (tables_of found) (Damaged t)
-damaged A found t old once none = (no_newer found old, λ w is rows holds. none (λ i j l. one_place found.plans.items (lines_once found.plans.items once) i j l) w (lined A w is rows) holds)
-
--- a setting tells a newer schema
-pub newer : (found : TableLines) (n : ℕ) → TellNewer found.meta.items n → OpensNot (tables_of found) (NewerSchema n)
-newer found n (l, there, tells) = ((meta_row l, map_in meta_row found.meta.items l there, record { line = l; is = refl; shown = meta.Schema n; shows = tells.shows; stands = refl }), tells.newer)
-
--- a setting tells an older one
-pub older : (found : TableLines) (n : ℕ) → TellSchema found.meta.items n → n < SCHEMA → OpensNot (tables_of found) (OldSchema n)
-older found n (l, there, tells) old = ((l, map_in meta_row found.meta.items l there, tells), old)
+-- a setting tells another schema, which is newer or older
+pub told_other : (found : TableLines) (n : ℕ) (f : OpenFault) → TellOther found.meta.items n → ((SCHEMA < n) × (f ≡ NewerSchema n)) ⊎ ((n < SCHEMA) × (f ≡ OldSchema n)) → OpensNot (tables_of found) f
+told_other found n f (l, there, tells) (inl newer) = subst (OpensNot (tables_of found)) (sym newer.1) ((l, map_in meta_row found.meta.items l there, tells.0), newer.0)
+told_other found n f (l, there, tells) (inr older) = subst (OpensNot (tables_of found)) (sym older.1) ((l, map_in meta_row found.meta.items l there, tells.0), older.0)

@@ -1,5 +1,5 @@
 //! The world that the tables of a database have.
-ghost use Rattle.std.specs.Prelude.{◌≡◌, ◌↔◌, ◌<◌, ℕ, false, Err, IfOk, IfErr, MatchOption, OnOk, IsTrue};
+ghost use Rattle.std.specs.Prelude.{◌≡◌, ◌↔◌, ◌⊎◌, ◌<◌, ℕ, false, Err, IfOk, IfErr, MatchOption, OnOk, IsTrue};
 ghost use Rattle.sqlite.specs.Held.{state};
 ghost use Rattle.sqlite.specs.State.{HasCleanDisk};
 ghost use Rattle.fab_store_base.specs.Opened as opened;
@@ -59,8 +59,7 @@ fn other_schema(lines: &[MetaLine<Global>]) -> Option<u64>
 /// Why tables that tell another schema are not opened.
 fn schema_fault(schema: u64) -> OpenFault
     requires { IsOtherSchema schema }
-    ensures newer { SCHEMA < schema → result ≡ faults.NewerSchema schema }
-    ensures older { schema < SCHEMA → result ≡ faults.OldSchema schema }
+    ensures { ((SCHEMA < schema) × (result ≡ faults.NewerSchema schema)) ⊎ ((schema < SCHEMA) × (result ≡ faults.OldSchema schema)) }
 {
     if schema > SCHEMA {
         OpenFault::NewerSchema(schema)
