@@ -14,10 +14,9 @@ ghost use Rattle.fab_program_runs.specs.Runs.{Comes, EndsAt, IsToldOf, IsToldOfW
 use crate::looks::{names, who, why};
 use crate::tries::{diff, try_import};
 use fab_files::End;
-use fab_program_checks::{Modes, check};
+use fab_program_checks::{Modes, check, explain, now_in};
 use fab_program_commands::{dry_run, export, import, paths, report};
 use fab_program_desks::{Addresses, Databases, make};
-use fab_program_checks::{explain, now_in};
 use fab_program_options::{WordsFault, read_words};
 use fab_program_outside::{Fault, Files, Machine, fail, moment_of, refuse_text};
 use fab_program_serving::{Front, once, serve};
