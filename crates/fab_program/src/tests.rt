@@ -6,7 +6,6 @@ mod answers;
 mod clocks;
 mod connections;
 mod desks;
-mod earlier;
 mod fabrics;
 mod faults;
 mod growth;

@@ -2,9 +2,11 @@
 //! at the moment at which its turn comes.
 
 use super::answers::{Asking, asking_of};
-use super::desks::{desk_over, made};
+use super::desks::made;
+use fab_policy_base::Policy;
 use fab_program_serving::Front;
 use fab_store::{OpenFault, SqlStore, Store};
+use fab_wire::Desk;
 use fab_wire_base::routes::Routes;
 use fab_wire_log::Watch;
 use fab_wire_serving::serve_on;
@@ -43,11 +45,16 @@ const ASKED: &[&str] = &[
 
 /// A desk over this store, to be served.
 fn front_of<S: Store<Global>>(rt: &(impl Abort + AllocGlobal), store: S) -> Front<S> {
+    let policy = Policy::read(rt.alloc(), POLICY).expect(rt, "a policy");
+    let routes = Routes::new(rt.alloc()).expect(rt, "routes");
     let alloc = rt.alloc();
-    Front {
-        alloc,
-        routes: Routes::new(alloc).expect(rt, "routes"),
-        desk: desk_over(rt, alloc, store, POLICY),
+    match Desk::open(alloc, store, policy) {
+        Ok(desk) => Front {
+            alloc,
+            routes,
+            desk,
+        },
+        Err(_) => panic!(rt; "no desk"),
     }
 }
 

@@ -49,28 +49,19 @@ pub fn made<S: Alter + Drop>(rt: &impl Abort, tables: SqlStore<S>) -> SqlStore<S
     }
 }
 
-/// A desk over a store, with the policy of this text.
-pub fn desk_over<A: Allocator + Copy, S: Store<A>, B: PathBook<A>>(
-    rt: &(impl Abort + AllocGlobal),
-    alloc: A,
-    store: S,
-    policy: &str,
-) -> Desk<A, S, B> {
-    let policy = Policy::read(rt.alloc(), policy).expect(rt, "a policy");
-    match Desk::open(alloc, store, policy) {
-        Ok(desk) => desk,
-        Err(_) => panic!(rt; "no desk"),
-    }
-}
-
 /// A desk over a store, with the policy of the tests.
 pub fn desk_of<A: Allocator + Copy, S: Store<A>, B: PathBook<A>>(
     rt: &(impl Abort + AllocGlobal),
     alloc: A,
     store: S,
 ) -> Trial<A, S, B> {
-    let desk = desk_over(rt, alloc, store, TRIAL_POLICY);
-    Trial { alloc, desk }
+    let Ok(policy) = Policy::read(rt.alloc(), TRIAL_POLICY) else {
+        panic!(rt; "no policy");
+    };
+    match Desk::open(alloc, store, policy) {
+        Ok(desk) => Trial { alloc, desk },
+        Err(_) => panic!(rt; "no desk"),
+    }
 }
 
 /// The store of a desk.

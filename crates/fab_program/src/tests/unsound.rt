@@ -19,20 +19,6 @@ const CHANGED: &[Changed] = &[
         "sandesk: damaged meta\n",
     ],
     [
-        "schema.db",
-        "DELETE FROM meta WHERE key = 'schema'",
-        "sandesk init --db schema.db",
-        "sandesk list --db schema.db --policy unsound.toml --token t-ada hosts",
-        "sandesk: damaged meta\n",
-    ],
-    [
-        "address.db",
-        "INSERT INTO addresses VALUES ('5000000000000009', '0101AB')",
-        "sandesk init --db address.db",
-        "sandesk report --db address.db --policy unsound.toml --token t-ada --host db1",
-        "sandesk: damaged addresses\n",
-    ],
-    [
         "zoning.db",
         "INSERT INTO zoning VALUES ('A', 'set', 's1', 'z9')",
         "sandesk init --db zoning.db",
@@ -56,7 +42,7 @@ const CHANGED: &[Changed] = &[
 ];
 
 /// Changes a database behind the desk's back.
-pub fn change(host: &HostRuntime, rt: &impl Abort, name: &str, statement: &str) {
+fn change(host: &HostRuntime, rt: &impl Abort, name: &str, statement: &str) {
     let Ok(mut connection) = Connection::open(host, name) else {
         panic!(rt; "no database");
     };
