@@ -6,7 +6,7 @@ use fab_store::{OpenFault, Store};
 use fab_wire::{KnownTo, Outcome, serve_one};
 use fab_wire_base::routes::Routes;
 use fab_wire_base::whole::lacks;
-use fab_wire_gathering::bounds::Bounded;
+use fab_wire_deadlines::bounds::Bounded;
 use fab_wire_log::Shown;
 use fab_wire_serving::{Forgets, Server};
 use fab_wire_streams::counted::Counted;

@@ -1,0 +1,5 @@
+mod Seating
+mod Mapped
+mod Ways
+mod Taken
+mod Takers

@@ -3,7 +3,16 @@ use Rattle.std.specs.Prelude.{ℕ, ◌≡◌, List, Option, Some, None}
 use Rattle.fab_wire_gathering.specs.declared.guest.Ending.{Ending}
 use Rattle.fab_wire_gathering.specs.declared.guest.Ending.TheVariants as ending
 use Rattle.fab_wire_gathering.specs.declared.guest.Guest.{Guest}
+use Rattle.fab_wire_gathering.specs.declared.guest.Stage.{Stage}
 use Rattle.fab_wire_gathering.specs.declared.guest.Stage.TheVariants as stage
+
+-- how long bytes that nobody reads are taken behind an answer at most, in nanoseconds: a second
+abbrev pub most_lingering : ℕ
+most_lingering = 1_000_000_000
+
+-- how many bytes are read at most before it is known how many there have to be
+abbrev pub most_first : ℕ
+most_first = 8192
 
 -- what is read of a request: the bytes that were gathered, and no others; where there was no memory for all of them, that
 -- is not known
@@ -20,3 +29,17 @@ gathered_of guest = read_of guest.ending guest.bytes.items
 -- its request waits for its turn, and ended so
 abbrev pub WaitsSo : Ending → Guest → Type 0
 WaitsSo how guest = (guest.stage ≡ stage.Waits) × (guest.ending ≡ how)
+
+-- one that is given up: its request has failed to come and waits for its turn, or its answer is not sent, or it is gone
+abbrev pub given_up_stage : Stage → Stage
+given_up_stage stage.Sends = stage.Waits
+given_up_stage stage.Takes = stage.Unsent
+given_up_stage (stage.Leaves left) = stage.Gone
+given_up_stage other = other
+
+abbrev pub given_up_ending : Stage → Ending → Ending
+given_up_ending stage.Sends how = ending.Failed
+given_up_ending other how = how
+
+abbrev pub given_up : Guest → Guest
+given_up guest = record guest { stage = given_up_stage guest.stage; ending = given_up_ending guest.stage guest.ending }

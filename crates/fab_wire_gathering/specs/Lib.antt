@@ -1,3 +1,6 @@
-pub mod Deadlines
 pub mod Guests
 pub mod Pieces
+pub mod Seats
+pub mod Seating
+pub mod Ends
+pub mod Takers

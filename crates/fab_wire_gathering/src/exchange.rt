@@ -5,7 +5,7 @@ ghost use Rattle.std.specs.Io.{WritesAtMost};
 ghost use Rattle.fab_wire_gathering.specs.Guests.{gathered_of, read_of};
 
 use crate::guest::{Ending, Guest};
-use crate::stream::{Sink, Source};
+use fab_wire_deadlines::stream::{Sink, Source};
 use std::alloc::Global;
 use std::cell::Cell;
 use std::io;

@@ -1,8 +1,19 @@
 //! Connections whose requests are gathered, and whose answers are sent, side by side.
+ghost use Rattle.std.specs.Prelude.{◌≡◌, ◌↔◌, ◌≤◌, ◌+◌, ◌-◌, ◌^◌, ℕ, min, All, Some, None, IsTrue, IfSome, IfNone, false, map, slice_get, slice_set};
+ghost use Rattle.std.specs.Duration.{as_nanos};
+ghost use Rattle.std.specs.Option.{option_map};
+ghost use Rattle.std.specs.Ordering.{nat_cmp};
+ghost use Rattle.std.specs.Time.{instant_nanos};
+ghost use Rattle.fab_wire_deadlines.specs.Deadlines.{end_after};
+ghost use Rattle.fab_wire_gathering.specs.Ends.{IsNextEnded, IsSeated, GivesUpSilent};
+ghost use Rattle.fab_wire_gathering.specs.Seats.{HasSeat, IsFirstSeat, turn_of, ended_of, leaves_at, takes_until, silent_since, ends_at, has_taken, dismissed, takers_given_up, without_gone, given_up_at, numbered_in, waited_in, most_waiting, most_kept, kept_by, kept_in, HasAnswer, KeepAnswers, KeepSeats};
+ghost use Rattle.fab_wire_gathering.specs.declared.guest.Guest.{Guest};
+ghost use Rattle.fab_wire_gathering.specs.declared.guest.Stage.TheVariants as stage;
 
-use crate::deadline::Deadline;
 use crate::framing::Framing;
 use crate::guest::{Ending, Guest, Stage};
+use crate::seats::{EndedTurns, Leavers, MOST_SILENCE, Silent, Takers, Turns, first_seat, later};
+use fab_wire_deadlines::deadline::{Deadline, sooner};
 use mio::unix::SourceFd;
 use mio::{Events, Interest, Poll, Token};
 use std::alloc::{AllocError, Global};
@@ -22,9 +33,6 @@ const PIECE: usize = 65536;
 
 /// How long the system is waited for at most, and how often all are tried, in seconds.
 const MOST_WAITING: u64 = 1;
-
-/// How long a connection has to have sent nothing before it is given up for another, in seconds.
-const MOST_SILENCE: u64 = 2;
 
 /// The token of the listener.
 const LISTENER: Token = Token(usize::MAX);
@@ -104,7 +112,9 @@ fn go_on<F: Framing>(
     piece: &mut [u8],
     now: Instant,
     waited: &mut u64,
-) {
+)
+    ensures numbered { guest.old.stage ≡ stage.Sends → guest.new.stage ≡ stage.Waits → (guest.new.number ≡ waited.old) × (waited.new ≡ min (waited.old + 1) (2 ^ 64 - 1)) }
+{
     let was = guest.stage();
     if guest.go_on(framing, piece, now) {
         watch_again(poll, place, guest.stream().as_raw_fd());
@@ -113,18 +123,19 @@ fn go_on<F: Framing>(
 }
 
 /// Gives one that has begun to wait for its turn the next number.
-fn number(guest: &mut Guest, was: Stage, waited: &mut u64) {
-    if was == Stage::Sends && guest.stage() == Stage::Waits {
-        guest.be_number(*waited);
-        *waited = waited.saturating_add(1);
-    }
-}
-
-/// A time so many seconds later, or the time itself at the end of the clock.
-fn later(time: Instant, seconds: u64) -> Instant {
-    match time.checked_add(Duration::from_secs(seconds)) {
-        Some(end) => end,
-        None => time,
+fn number(guest: &mut Guest, was: Stage, waited: &mut u64)
+    ensures guest { guest.new ≡ numbered_in was guest.old.stage waited.old guest.old }
+    ensures waited { waited.new ≡ waited_in was guest.old.stage waited.old }
+{
+    match was {
+        Stage::Sends => match guest.stage() {
+            Stage::Waits => {
+                guest.be_number(*waited);
+                *waited = waited.saturating_add(1);
+            }
+            _ => {}
+        },
+        _ => {}
     }
 }
 
@@ -145,12 +156,17 @@ impl Gathering {
     }
 
     /// Whether nobody is there.
-    pub fn is_empty(&self) -> bool {
+    pub fn is_empty(&self) -> bool
+        ensures { IsTrue result ↔ All (λ seat. seat ≡ None) self.now.seats.items }
+    {
         self.seats.iter().all(|seat| seat.is_none())
     }
 
     /// A seat that is free, if there is one.
-    fn free_place(&mut self) -> Option<usize> {
+    fn free_place(&mut self) -> Option<usize>
+        ensures free { IfSome result (λ place. slice_get self.new.seats.items place ≡ Some None) }
+        ensures keep { KeepSeats self.old.seats.items self.new.seats.items }
+    {
         let free = self.seats.iter().position(|seat| seat.is_none());
         if free.is_some() {
             return free;
@@ -164,7 +180,9 @@ impl Gathering {
     }
 
     /// Puts one into its seat.
-    fn put(&mut self, place: usize, guest: Guest) {
+    fn put(&mut self, place: usize, guest: Guest)
+        ensures { self.new.seats.items ≡ slice_set self.old.seats.items place (Some guest) }
+    {
         if let Some(seat) = self.seats.get_mut(place) {
             *seat = Some(guest);
         }
@@ -178,7 +196,10 @@ impl Gathering {
         stream: TcpStream,
         now: Instant,
         most: Duration,
-    ) -> Seating {
+    ) -> Seating
+        ensures at { IsSeated self.new.seats.items result }
+        ensures keep { KeepSeats self.old.seats.items self.new.seats.items }
+    {
         let Some(place) = self.free_place() else {
             return Seating::Full(stream);
         };
@@ -201,25 +222,19 @@ impl Gathering {
     }
 
     /// The seat of the one whose turn is the next: its request was the first to wait.
-    fn waiting(&self) -> Option<usize> {
-        let mut first: Option<(usize, u64)> = None;
-        for (place, seat) in self.seats.iter().enumerate() {
-            if let Some(guest) = seat
-                && guest.stage() == Stage::Waits
-                && is_before(guest.number(), &first)
-            {
-                first = Some((place, guest.number()));
-            }
-        }
-        match first {
-            Some((place, _)) => Some(place),
-            None => None,
-        }
+    fn waiting(&self) -> Option<usize>
+        ensures { IsFirstSeat nat_cmp turn_of self.now.seats.items result }
+    {
+        first_seat(self.seats.as_slice(), &Turns)
     }
 
     /// The next one whose turn has come, and its seat, which it leaves for its turn. The reads and writes
     /// of one whose request is still to be read wait.
-    pub fn next_turn(&mut self) -> Option<(usize, Guest)> {
+    pub fn next_turn(&mut self) -> Option<(usize, Guest)>
+        ensures first { IsFirstSeat nat_cmp turn_of self.old.seats.items (option_map (λ turn. turn.0) result) }
+        ensures some { IfSome result (λ turn. HasSeat self.old.seats.items turn.0 turn.1 × (self.new.seats.items ≡ slice_set self.old.seats.items turn.0 None)) }
+        ensures none { IfNone result (self.new.seats ≡ self.old.seats) }
+    {
         let place = self.waiting()?;
         let guest = self.seats.get_mut(place)?.take()?;
         if guest.ending() == Ending::Starved {
@@ -230,11 +245,14 @@ impl Gathering {
 
     /// When something is to be done, whatever the system reports. Where another connection waits for a
     /// seat, that is also when one has sent nothing for too long.
-    fn next_end(&self, is_crowded: bool) -> Instant {
+    fn next_end(&self, is_crowded: bool) -> Instant
+        ensures tried { instant_nanos result ≤ end_after (instant_nanos self.now.tried) most_waiting }
+        ensures each { (place : ℕ) (guest : Guest) → HasSeat self.now.seats.items place guest → instant_nanos result ≤ ends_at is_crowded guest }
+    {
         let mut first = later(self.tried, MOST_WAITING);
         for seat in &self.seats {
             if let Some(guest) = seat {
-                first = first.min(end_of(guest, is_crowded));
+                first = sooner(first, end_of(guest, is_crowded));
             }
         }
         first
@@ -243,7 +261,11 @@ impl Gathering {
     /// How long may be waited for something to do: not at all where somebody's turn has come, and for a
     /// second at most. Where another connection waits for a seat, no longer than until one has sent
     /// nothing for too long.
-    pub fn time_to_wait(&self, now: Instant, is_crowded: bool) -> Duration {
+    pub fn time_to_wait(&self, now: Instant, is_crowded: bool) -> Duration
+        ensures ready { (place : ℕ) (guest : Guest) (number : ℕ) → HasSeat self.now.seats.items place guest → turn_of guest ≡ Some number → as_nanos result ≡ 0 }
+        ensures tried { as_nanos result ≤ end_after (instant_nanos self.now.tried) most_waiting - instant_nanos now }
+        ensures each { (place : ℕ) (guest : Guest) → HasSeat self.now.seats.items place guest → as_nanos result ≤ ends_at is_crowded guest - instant_nanos now }
+    {
         if self.waiting().is_some() {
             Duration::ZERO
         } else {
@@ -324,19 +346,26 @@ impl Gathering {
     }
 
     /// Lets those go that are gone, and forgets the last seats that are free.
-    fn let_go(&mut self) {
-        for seat in &mut self.seats {
-            if let Some(guest) = seat
-                && guest.stage() == Stage::Gone
-            {
-                *seat = None;
-            }
-        }
+    fn let_go(&mut self)
+        ensures { KeepSeats (map without_gone self.old.seats.items) self.new.seats.items }
+    {
+        self.free_gone();
         self.forget_free();
     }
 
+    /// Lets those go that are gone.
+    fn free_gone(&mut self)
+        ensures { self.new.seats.items ≡ map without_gone self.old.seats.items }
+    {
+        for seat in self.seats.iter_mut() {
+            free_from_gone(seat);
+        }
+    }
+
     /// Forgets the last seats that are free.
-    fn forget_free(&mut self) {
+    fn forget_free(&mut self)
+        ensures { KeepSeats self.old.seats.items self.new.seats.items }
+    {
         for _ in 0..self.seats.len() {
             match self.seats.last() {
                 Some(None) => drop(self.seats.pop()),
@@ -348,53 +377,64 @@ impl Gathering {
     /// Makes way for a connection where all seats are taken: one that has its answer and sends nothing
     /// more goes, the first to be given up; or else the one that has sent nothing for the longest, if
     /// that is two seconds at least, is given up.
-    pub fn make_way(&mut self, now: Instant) {
-        if let Some(seat) = self.leaving()
-            && let Some(place) = self.seats.get_mut(seat)
-            && is_quiet(place, &mut self.piece)
+    pub fn make_way(&mut self, now: Instant)
+        ensures silent { IsFirstSeat ⟦<Instant as Ord>⟧.cmp leaves_at self.old.seats.items None
+            → GivesUpSilent ⟦<Instant as Ord>⟧.cmp (instant_nanos now) self.old.waited self.old.seats.items self.new.seats.items }
+    {
+        if !self.free_leaving() {
+            self.give_up_silent(now);
+        }
+    }
+
+    /// Lets one go that has its answer and sends nothing more, the first to be given up. It says whether
+    /// there was one.
+    fn free_leaving(&mut self) -> bool
+        ensures none { IsFirstSeat ⟦<Instant as Ord>⟧.cmp leaves_at self.old.seats.items None → (result ≡ false) × (self.new ≡ self.old) }
+    {
+        let Some(place) = self.leaving() else {
+            return false;
+        };
+        if let Some(seat) = self.seats.get_mut(place)
+            && is_quiet(seat, &mut self.piece)
         {
-            *place = None;
-        } else if let Some(seat) = self.silent(now)
-            && let Some(Some(guest)) = self.seats.get_mut(seat)
-        {
-            give_up(guest, &mut self.waited);
+            *seat = None;
+            true
+        } else {
+            false
+        }
+    }
+
+    /// Gives up the one that has sent nothing for the longest, if that is long enough.
+    fn give_up_silent(&mut self, now: Instant)
+        ensures { GivesUpSilent ⟦<Instant as Ord>⟧.cmp (instant_nanos now) self.old.waited self.old.seats.items self.new.seats.items }
+    {
+        if let Some(place) = self.silent(now) {
+            self.give_up_seat(place);
+        }
+    }
+
+    /// Gives up the one in a seat.
+    fn give_up_seat(&mut self, place: usize)
+        ensures { (guest : Guest) → HasSeat self.old.seats.items place guest → self.new.seats.items ≡ slice_set self.old.seats.items place (Some (given_up_at self.old.waited guest)) }
+    {
+        if let Some(seat) = self.seats.get_mut(place) {
+            give_up_in(seat, &mut self.waited);
         }
     }
 
     /// The seat of the first to be given up of those that have their answers.
-    fn leaving(&self) -> Option<usize> {
-        let mut first: Option<(usize, Instant)> = None;
-        for (place, seat) in self.seats.iter().enumerate() {
-            if let Some(guest) = seat
-                && matches!(guest.stage(), Stage::Leaves(_))
-                && is_before(guest.end(), &first)
-            {
-                first = Some((place, guest.end()));
-            }
-        }
-        match first {
-            Some((place, _)) => Some(place),
-            None => None,
-        }
+    fn leaving(&self) -> Option<usize>
+        ensures { IsFirstSeat ⟦<Instant as Ord>⟧.cmp leaves_at self.now.seats.items result }
+    {
+        first_seat(self.seats.as_slice(), &Leavers)
     }
 
     /// The seat of the one that sends its request and has sent nothing for the longest, and for long
     /// enough.
-    fn silent(&self, now: Instant) -> Option<usize> {
-        let mut first: Option<(usize, Instant)> = None;
-        for (place, seat) in self.seats.iter().enumerate() {
-            if let Some(guest) = seat
-                && guest.stage() == Stage::Sends
-                && later(guest.heard(), MOST_SILENCE) <= now
-                && is_before(guest.heard(), &first)
-            {
-                first = Some((place, guest.heard()));
-            }
-        }
-        match first {
-            Some((place, _)) => Some(place),
-            None => None,
-        }
+    fn silent(&self, now: Instant) -> Option<usize>
+        ensures { IsFirstSeat ⟦<Instant as Ord>⟧.cmp (silent_since (instant_nanos now)) self.now.seats.items result }
+    {
+        first_seat(self.seats.as_slice(), &Silent { now })
     }
 
     /// Gives those who are there so much more time: nobody could go on meanwhile.
@@ -416,68 +456,60 @@ impl Gathering {
         answer: Vec<u8>,
         number: u64,
         deadline: Deadline,
-    ) {
+    )
+        ensures answer { slice_get self.old.seats.items place ≡ Some None → HasAnswer self.new.seats.items place answer.items number }
+        ensures few { kept_in self.new.seats.items ≤ most_kept }
+    {
         guest.answer(answer, number, deadline);
-        if guest.stream().set_nonblocking(true).is_err() {
-            guest.give_up();
-        } else if guest.send() {
-            watch_again(poll, place, guest.stream().as_raw_fd());
-        }
+        begin_to_send(poll, place, &mut guest);
         self.put(place, guest);
         self.make_room();
     }
 
-    /// How many bytes of answers are kept, and which seat has the first to be given up of those that
-    /// take them.
-    fn kept(&self) -> (usize, Option<usize>) {
+    /// How many bytes of answers are kept.
+    fn kept(&self) -> usize
+        ensures { result ≡ min (kept_in self.now.seats.items) (2 ^ 64 - 1) }
+    {
         let mut all = 0usize;
-        let mut first: Option<(usize, Instant)> = None;
-        for (place, seat) in self.seats.iter().enumerate() {
-            if let Some(guest) = seat
-                && guest.kept() > 0
-            {
-                all = all.saturating_add(guest.kept());
-                if is_before(guest.end(), &first) {
-                    first = Some((place, guest.end()));
-                }
-            }
+        for seat in &self.seats {
+            all = all.saturating_add(kept_by(seat));
         }
-        match first {
-            Some((place, _)) => (all, Some(place)),
-            None => (all, None),
-        }
+        all
+    }
+
+    /// The seat of the first to be given up of those that take their answers.
+    fn taking(&self) -> Option<usize>
+        ensures { IsFirstSeat ⟦<Instant as Ord>⟧.cmp takes_until self.now.seats.items result }
+    {
+        first_seat(self.seats.as_slice(), &Takers)
     }
 
     /// Gives up the first to be given up, while too many bytes are kept.
-    fn make_room(&mut self) {
-        for _ in 0..MOST_GUESTS {
-            let (all, first) = self.kept();
-            if all <= MOST_KEPT {
-                return;
-            }
-            if let Some(place) = first
-                && let Some(Some(guest)) = self.seats.get_mut(place)
-            {
-                guest.give_up();
+    fn make_room(&mut self)
+        ensures few { kept_in self.new.seats.items ≤ most_kept }
+        ensures keep { KeepAnswers self.old.seats.items self.new.seats.items }
+    {
+        while self.kept() > MOST_KEPT {
+            match self.taking() {
+                Some(place) => self.give_up_seat(place),
+                None => return,
             }
         }
     }
 
-    /// A turn that has ended, of which was not told before.
-    pub fn next_ended(&mut self) -> Option<Ended> {
-        for seat in &mut self.seats {
-            if let Some(guest) = seat
-                && matches!(guest.stage(), Stage::Taken | Stage::Unsent)
-            {
-                let ended = Ended {
-                    number: guest.number(),
-                    is_taken: guest.stage() == Stage::Taken,
-                };
-                guest.be_told();
-                return Some(ended);
-            }
-        }
-        None
+    /// The turn that has ended, of which was not told before, and that has the least number.
+    pub fn next_ended(&mut self) -> Option<Ended>
+        ensures some { IfSome result (λ ended. IsNextEnded self.old.seats.items self.new.seats.items ended) }
+        ensures none { IfNone result (IsFirstSeat nat_cmp ended_of self.old.seats.items None × (self.new.seats ≡ self.old.seats)) }
+    {
+        let place = first_seat(self.seats.as_slice(), &EndedTurns)?;
+        let guest = self.seats.get_mut(place)?.as_mut()?;
+        let ended = Ended {
+            number: guest.number(),
+            is_taken: has_taken(guest.stage()),
+        };
+        guest.be_told();
+        Some(ended)
     }
 
     /// Sees off those of whom was told that they have their answers.
@@ -495,25 +527,64 @@ impl Gathering {
     }
 
     /// Gives up those that take their answers.
-    pub fn give_up_takers(&mut self) {
-        for seat in &mut self.seats {
-            if let Some(guest) = seat
-                && guest.stage() == Stage::Takes
-            {
-                guest.give_up();
-            }
+    pub fn give_up_takers(&mut self)
+        ensures { self.new.seats.items ≡ map takers_given_up self.old.seats.items }
+    {
+        for seat in self.seats.iter_mut() {
+            give_up_taker(seat);
         }
     }
 
     /// Lets those go whose requests have had no turn.
-    pub fn dismiss(&mut self) {
-        for seat in &mut self.seats {
-            if let Some(guest) = seat
-                && matches!(guest.stage(), Stage::Sends | Stage::Waits)
-            {
-                *seat = None;
-            }
+    pub fn dismiss(&mut self)
+        ensures { self.new.seats.items ≡ map dismissed self.old.seats.items }
+    {
+        for seat in self.seats.iter_mut() {
+            dismiss_from(seat);
         }
+    }
+}
+
+/// Gives up the one in a seat, if it takes its answer.
+fn give_up_taker(seat: &mut Option<Guest>)
+    ensures { seat.new ≡ takers_given_up seat.old }
+{
+    if let Some(guest) = seat
+        && guest.stage() == Stage::Takes
+    {
+        guest.give_up();
+    }
+}
+
+/// Lets the one in a seat go, if it is gone.
+fn free_from_gone(seat: &mut Option<Guest>)
+    ensures { seat.new ≡ without_gone seat.old }
+{
+    if let Some(guest) = seat
+        && guest.stage() == Stage::Gone
+    {
+        *seat = None;
+    }
+}
+
+/// Lets the one in a seat go, if its request has had no turn.
+fn dismiss_from(seat: &mut Option<Guest>)
+    ensures { seat.new ≡ dismissed seat.old }
+{
+    if let Some(guest) = seat
+        && matches!(guest.stage(), Stage::Sends | Stage::Waits)
+    {
+        *seat = None;
+    }
+}
+
+/// Whether one has taken its answer whole.
+fn has_taken(stage: Stage) -> bool
+    ensures { result ≡ has_taken stage }
+{
+    match stage {
+        Stage::Taken => true,
+        _ => false,
     }
 }
 
@@ -526,11 +597,44 @@ fn is_watched(poll: &Poll, place: usize, stream: &TcpStream) -> io::Result<()> {
     watch(poll, Token(place), stream.as_raw_fd())
 }
 
+/// Sends what can be sent of an answer without waiting. Where its socket would wait, one is given up.
+fn begin_to_send(poll: &Poll, place: usize, guest: &mut Guest)
+    ensures bytes { guest.new.bytes ≡ guest.old.bytes }
+    ensures number { guest.new.number ≡ guest.old.number }
+{
+    if guest.stream().set_nonblocking(true).is_err() {
+        guest.give_up();
+    } else if guest.send() {
+        watch_again(poll, place, guest.stream().as_raw_fd());
+    }
+}
+
 /// Gives one up. Where its request had not come, it begins to wait for its turn.
-fn give_up(guest: &mut Guest, waited: &mut u64) {
+fn give_up(guest: &mut Guest, waited: &mut u64)
+    ensures { guest.new ≡ given_up_at waited.old guest.old }
+{
     let was = guest.stage();
     guest.give_up();
     number(guest, was, waited);
+}
+
+/// How many bytes are kept of the answer of the one in a seat.
+fn kept_by(seat: &Option<Guest>) -> usize
+    ensures { result ≡ kept_by seat.now }
+{
+    match seat {
+        Some(guest) => guest.kept(),
+        None => 0,
+    }
+}
+
+/// Gives up the one in a seat, if there is one.
+fn give_up_in(seat: &mut Option<Guest>, waited: &mut u64)
+    ensures { seat.new ≡ option_map (given_up_at waited.old) seat.old }
+{
+    if let Some(guest) = seat {
+        give_up(guest, waited);
+    }
 }
 
 /// Whether the one in a seat has its answer, and nothing more has come of it.
@@ -542,18 +646,12 @@ fn is_quiet(seat: &mut Option<Guest>, piece: &mut [u8]) -> bool {
 }
 
 /// When one is given up; where another connection waits for a seat, when it has sent nothing for too long.
-fn end_of(guest: &Guest, is_crowded: bool) -> Instant {
+fn end_of(guest: &Guest, is_crowded: bool) -> Instant
+    ensures { instant_nanos result ≡ ends_at is_crowded guest.now }
+{
     if is_crowded && guest.stage() == Stage::Sends {
-        guest.end().min(later(guest.heard(), MOST_SILENCE))
+        sooner(guest.end(), later(guest.heard(), MOST_SILENCE))
     } else {
         guest.end()
-    }
-}
-
-/// Whether a value is before that of the first so far.
-fn is_before<T: Ord + Copy>(value: T, first: &Option<(usize, T)>) -> bool {
-    match first {
-        Some((_, other)) => value < *other,
-        None => true,
     }
 }

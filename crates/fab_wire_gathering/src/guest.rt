@@ -3,14 +3,15 @@
 ghost use Rattle.std.specs.Prelude.{◌≡◌, ◌≢◌, ◌++◌, ◌-◌, ◌⊎◌, ◌≤◌, ◌<◌, ℕ, List, [], true, false, length, max};
 ghost use Rattle.std.specs.Duration.{as_nanos};
 ghost use Rattle.std.specs.Time.{instant_nanos};
-ghost use Rattle.fab_wire_gathering.specs.Deadlines.{end_of, end_after, seen_by, most_lingering, most_first};
-ghost use Rattle.fab_wire_gathering.specs.Guests.{WaitsSo};
+ghost use Rattle.fab_wire_deadlines.specs.Deadlines.{end_of, end_time, end_after, seen_by};
+ghost use Rattle.fab_wire_gathering.specs.Guests.{most_lingering, most_first, WaitsSo, given_up};
+ghost use Rattle.fab_wire_gathering.specs.Seats.{told, kept_at};
 ghost use Rattle.fab_wire_gathering.specs.declared.guest.Ending.TheVariants as ending;
 ghost use Rattle.fab_wire_gathering.specs.declared.guest.Stage.TheVariants as stage;
 
-use crate::deadline::Deadline;
 use crate::framing::Framing;
 use crate::pieces::{Went, first_of, room_in, write_rest};
+use fab_wire_deadlines::deadline::Deadline;
 use std::alloc::Global;
 use std::io::Read;
 use std::net::{Shutdown, TcpStream};
@@ -150,7 +151,8 @@ impl Guest {
 
     /// When it is given up, on the monotonic clock.
     pub fn end(&self) -> Instant
-        ensures { instant_nanos result ≡ end_of self.now.deadline }
+        ensures is { result ≡ end_time self.now.deadline }
+        ensures end { instant_nanos result ≡ end_of self.now.deadline }
     {
         self.deadline.end()
     }
@@ -319,10 +321,7 @@ impl Guest {
 
     /// Gives it up: its request has failed to come, or its answer is not sent, or it is gone.
     pub fn give_up(&mut self)
-        ensures failed { self.old.stage ≡ stage.Sends → WaitsSo ending.Failed self.new }
-        ensures unsent { self.old.stage ≡ stage.Takes → self.new.stage ≡ stage.Unsent }
-        ensures gone { (left : ℕ) → self.old.stage ≡ stage.Leaves left → self.new.stage ≡ stage.Gone }
-        ensures rest { self.new ≡ record self.old { stage = self.new.stage; ending = self.new.ending } }
+        ensures { self.new ≡ given_up self.old }
     {
         match self.stage {
             Stage::Sends => self.wait(Ending::Failed),
@@ -334,8 +333,7 @@ impl Guest {
 
     /// How many bytes are kept of an answer that it has not taken whole.
     pub fn kept(&self) -> usize
-        ensures takes { self.now.stage ≡ stage.Takes → result ≡ length self.now.bytes.items }
-        ensures none { self.now.stage ≢ stage.Takes → result ≡ 0 }
+        ensures { result ≡ kept_at self.now.stage (length self.now.bytes.items) }
     {
         match self.stage {
             Stage::Takes => self.bytes.len(),
@@ -360,11 +358,15 @@ impl Guest {
 
     /// What came of its answer was told. One whose request failed to come, or that did not take its
     /// answer, is gone then.
-    pub fn be_told(&mut self) {
-        self.stage = if self.stage == Stage::Taken && self.ending != Ending::Failed {
-            Stage::Told
-        } else {
-            Stage::Gone
+    pub fn be_told(&mut self)
+        ensures { self.new ≡ told self.old }
+    {
+        self.stage = match self.stage {
+            Stage::Taken => match self.ending {
+                Ending::Failed => Stage::Gone,
+                _ => Stage::Told,
+            },
+            _ => Stage::Gone,
         };
     }
 

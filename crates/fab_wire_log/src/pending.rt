@@ -9,7 +9,7 @@ ghost use Rattle.fab_wire_log.specs.Pending.{Advances, AreMarked, FirstWaits, Is
 
 use crate::Watch;
 use crate::shown::Shown;
-use fab_wire_gathering::clock::Ticks;
+use fab_wire_deadlines::clock::Ticks;
 use fab_wire_gathering::gathering::Ended;
 use std::alloc::{AllocError, Global};
 use std::collections::VecDeque;

@@ -10,7 +10,7 @@ ghost use Rattle.fab_wire_log.specs.Lines.{line_text, Notes, Lasted};
 
 use crate::line::put_line;
 use crate::shown::Shown;
-use fab_wire_gathering::clock::Ticks;
+use fab_wire_deadlines::clock::Ticks;
 use fab_wire_streams::counted::Counted;
 use mio::Poll;
 use std::alloc::Global;

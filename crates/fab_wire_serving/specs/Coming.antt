@@ -1,8 +1,9 @@
 -- What came of a connection over a stream.
 use Rattle.std.specs.Prelude.{ℕ, ◌≡◌, ◌<◌, ◌≤◌, ◌⊎◌, List, Option, codes}
 use Rattle.std.specs.Io.KnownBytes.{Keeps}
-use Rattle.fab_wire_gathering.specs.Deadlines.{clock_of, stream_of, end_at, seen_at, IsHastened, most_lingering}
-use Rattle.fab_wire_gathering.specs.declared.deadline.Timed.{Timed}
+use Rattle.fab_wire_deadlines.specs.Deadlines.{clock_of, stream_of, end_at, seen_at, IsHastened}
+use Rattle.fab_wire_gathering.specs.Guests.{most_lingering}
+use Rattle.fab_wire_deadlines.specs.declared.deadline.Timed.{Timed}
 use Rattle.fab_wire_serving.specs.Sides.{Side, Sides}
 use Rattle.fab_wire_serving.specs.declared.connection.Came.{Came}
 use Rattle.fab_wire_serving.specs.declared.connection.Came.TheVariants.{Served, Unsent}

@@ -2,7 +2,7 @@
 use Rattle.std.specs.Prelude.{ℕ, ◌≡◌, ◌⊎◌, ◌-◌, ◌^◌, List, [], ◌∷◌, true, false, Result, Ok, Err, Option, Some, None}
 use Rattle.fab_wire_streams.specs.declared.counted.Counted.{Counted}
 use Rattle.fab_wire_serving.specs.Coming.{CameSo, came_text}
-use Rattle.fab_wire_gathering.specs.Deadlines.{end_after}
+use Rattle.fab_wire_deadlines.specs.Deadlines.{end_after}
 use Rattle.fab_wire_log.specs.Lines.{line_text, Notes, Lasted}
 use Rattle.fab_wire_serving.specs.Sides.{begun_sides}
 use Rattle.fab_wire_serving.specs.declared.connection.Came.{Came}

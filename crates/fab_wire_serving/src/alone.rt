@@ -10,8 +10,8 @@ ghost use Rattle.fab_wire_serving.specs.Turns.{Gives, IsTurn, AreTurns, most_tur
 use crate::connection::{let_go, serve_stream};
 use crate::serving::{ServeFault, restore};
 use crate::{Listens, Server};
-use fab_wire_gathering::clock::Ticks;
-use fab_wire_gathering::deadline::{Deadline, Timed};
+use fab_wire_deadlines::clock::Ticks;
+use fab_wire_deadlines::deadline::{Deadline, Timed};
 use fab_wire_log::Watch;
 use std::io::Write;
 use std::net::TcpStream;

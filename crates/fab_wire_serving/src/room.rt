@@ -11,8 +11,8 @@ ghost use Rattle.fab_wire_serving.specs.Stops.{IsStopped};
 use crate::connection::let_go;
 use crate::serving::ServeFault;
 use crate::{Listens, Server};
-use fab_wire_gathering::clock::Ticks;
-use fab_wire_gathering::deadline::{Deadline, Timed};
+use fab_wire_deadlines::clock::Ticks;
+use fab_wire_deadlines::deadline::{Deadline, Timed};
 use fab_wire_gathering::framing::Framing;
 use fab_wire_gathering::gathering::{
     Ended, Gathering, MOST_GUESTS, Seating, leave_listener, watch_listener,

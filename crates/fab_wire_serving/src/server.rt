@@ -4,7 +4,7 @@ ghost use Rattle.std.specs.Prelude.{◌≡◌, ◌<◌, ℕ, Bool, true, List, O
 ghost use Rattle.fab_wire_serving.specs.Sides.{Sides, begun_sides, sides};
 ghost use Rattle.fab_wire_log.specs.Shown.{shown_text};
 
-use fab_wire_gathering::bounds::Bounded;
+use fab_wire_deadlines::bounds::Bounded;
 use fab_wire_log::Shown;
 use fab_wire_streams::counted::Counted;
 use std::io::{Read, Write};

@@ -1,7 +1,7 @@
 //! A stream with a deadline, by a clock that stands in.
 
 use super::doubles::{Slow, Ticking};
-use fab_wire_gathering::deadline::{Deadline, Timed};
+use fab_wire_deadlines::deadline::{Deadline, Timed};
 use std::cell::Cell;
 use std::io::{ErrorKind, Read, Write};
 use std::process::Abort;

@@ -3,7 +3,7 @@
 ghost use Rattle.std.specs.Prelude.{⊤};
 
 use super::echo::{MUCH, byte_at};
-use fab_wire_gathering::stream::{Sink, Source};
+use fab_wire_deadlines::stream::{Sink, Source};
 use fab_wire_serving::Listens;
 use std::alloc::Global;
 use std::cell::Cell;

@@ -3,7 +3,7 @@
 ghost use Rattle.std.specs.Prelude.{◌≡◌, ⊤};
 ghost use Rattle.fab_wire_log.specs.Shown.{shown_text};
 
-use fab_wire_gathering::bounds::Bounded;
+use fab_wire_deadlines::bounds::Bounded;
 use fab_wire_log::Shown;
 use fab_wire_serving::{Forgets, Server};
 use fab_wire_streams::counted::Counted;

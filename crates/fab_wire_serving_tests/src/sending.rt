@@ -2,7 +2,7 @@
 
 use super::doubles::{Brittle, Ticking};
 use super::echo::Echo;
-use fab_wire_gathering::deadline::Deadline;
+use fab_wire_deadlines::deadline::Deadline;
 use fab_wire_log::Shown;
 use fab_wire_serving::connection::serve_stream;
 use std::alloc::Global;

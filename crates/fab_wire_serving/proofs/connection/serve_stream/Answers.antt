@@ -1,7 +1,7 @@
 use Rattle.std.proofs.Common.{rules, inr, Some}
 use Rattle.std.proofs.KnownBytes.{Keeps-refl}
 use Rattle.fab_wire_streams.specs.Counting.{inner_of}
-use Rattle.fab_wire_gathering.specs.Deadlines.{stream_of, end_at}
+use Rattle.fab_wire_deadlines.specs.Deadlines.{stream_of, end_at}
 use Rattle.fab_wire_serving.specs.Sides.{sides}
 use Rattle.fab_wire_serving.proofs.connection.serve_stream.Goals as goal
 

@@ -1,20 +1,17 @@
 -- What clauses see of a stream with a deadline. Times are nanoseconds on the monotonic clock.
 use Rattle.std.specs.Prelude.{ℕ, ◌≡◌, ◌+◌, ◌-◌, ◌*◌, ◌^◌, ◌⊎◌, nat_lt, max, min, if◌then◌else◌, Result, Ok, Err}
 use Rattle.std.specs.Time.{instant_nanos}
-use Rattle.fab_wire_gathering.specs.declared.deadline.Deadline.{Deadline}
-use Rattle.fab_wire_gathering.specs.declared.deadline.Timed.{Timed}
+use Rattle.std.specs.declared.time.Instant.{Instant}
+use Rattle.fab_wire_deadlines.specs.declared.deadline.Deadline.{Deadline}
+use Rattle.fab_wire_deadlines.specs.declared.deadline.Timed.{Timed}
 
 -- so long after a time; past the end of the clock, which has 2^63 seconds, the time itself
 abbrev pub end_after : ℕ → ℕ → ℕ
 end_after start most = if nat_lt (start + most) (2 ^ 63 * 1_000_000_000) then start + most else start
 
--- how long bytes that nobody reads are taken behind an answer at most, in nanoseconds: a second
-abbrev pub most_lingering : ℕ
-most_lingering = 1_000_000_000
-
--- how many bytes are read at most before it is known how many there have to be
-abbrev pub most_first : ℕ
-most_first = 8192
+-- the time at which the connection ends at the latest
+abbrev pub end_time : Deadline → Instant
+end_time d = d.end
 
 -- when the connection ends at the latest
 abbrev pub end_of : Deadline → ℕ

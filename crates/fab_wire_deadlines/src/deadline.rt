@@ -6,7 +6,7 @@ ghost use Rattle.std.specs.Io.{ReadsAtMost, WritesAtMost};
 ghost use Rattle.std.specs.Io.KnownBytes.{Keeps, ReadConsumes, WriteAppends};
 ghost use Rattle.std.specs.IoError.{error_kind};
 ghost use Rattle.std.specs.Time.{instant_nanos};
-ghost use Rattle.fab_wire_gathering.specs.Deadlines.{end_after, end_of, seen_by, clock_of, stream_of, end_at, seen_at, HasSeen, IsOver, IsAsked, IsHastened};
+ghost use Rattle.fab_wire_deadlines.specs.Deadlines.{end_after, end_of, end_time, seen_by, clock_of, stream_of, end_at, seen_at, HasSeen, IsOver, IsAsked, IsHastened};
 
 use crate::bounds::Bounded;
 use crate::clock::Ticks;
@@ -29,6 +29,16 @@ fn later(one: Instant, other: Instant) -> Instant
     match other.checked_duration_since(one) {
         Some(_) => other,
         None => one,
+    }
+}
+
+/// The sooner of two readings of one clock.
+pub fn sooner(one: Instant, other: Instant) -> Instant
+    ensures { instant_nanos result ≡ min (instant_nanos one) (instant_nanos other) }
+{
+    match other.checked_duration_since(one) {
+        Some(_) => one,
+        None => other,
     }
 }
 
@@ -60,7 +70,8 @@ impl Deadline {
 
     /// When it is, on the monotonic clock.
     pub fn end(&self) -> Instant
-        ensures { instant_nanos result ≡ end_of self.now }
+        ensures is { result ≡ end_time self.now }
+        ensures end { instant_nanos result ≡ end_of self.now }
     {
         self.end
     }

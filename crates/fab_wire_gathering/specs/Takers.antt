@@ -1,0 +1,18 @@
+-- How many take their answers: the measure of a private loop. No public contract names anything of this file.
+use Rattle.std.specs.Prelude.{ℕ, ◌+◌, [], ◌∷◌, Option, Some, None}
+use Rattle.fab_wire_gathering.specs.Seats.{Seats}
+use Rattle.fab_wire_gathering.specs.declared.guest.Guest.{Guest}
+use Rattle.fab_wire_gathering.specs.declared.guest.Stage.{Stage}
+use Rattle.fab_wire_gathering.specs.declared.guest.Stage.TheVariants.{Takes}
+
+abbrev pub takes_at : Stage → ℕ
+takes_at Takes = 1
+takes_at other = 0
+
+abbrev pub takes_in : Option Guest → ℕ
+takes_in None = 0
+takes_in (Some guest) = takes_at guest.stage
+
+abbrev pub takers_in : Seats → ℕ
+takers_in [] = 0
+takers_in (seat ∷ seats) = takes_in seat + takers_in seats
