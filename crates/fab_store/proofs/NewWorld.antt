@@ -1,34 +1,21 @@
--- The new world: no row but settings stands in it, and it is sound.
-use Rattle.std.proofs.Common.{ℕ, ◌≡◌, ◌<◌, List, [], ◌∷◌, length, Contains, Option, None, Some, true, refl, sym, ap, ◌∙◌, subst, arith}
+-- The new world: no row but settings stands in it.
+use Rattle.std.proofs.Common.{ℕ, ◌≡◌, List, Option, None, Some, true, refl, sym, ap, ◌∙◌, subst}
 use mathlib.Core.Bool.{true≢false}
-use Rattle.std.specs.Cmp.{eq_by_cmp_equiv}
 use Rattle.std.specs.FinMap as map
 use Rattle.std.specs.FinSet as set
 use Rattle.std.specs.Option.{option_map, option_and_then}
 use Rattle.std.specs.Ordering.{nat_cmp}
 use Rattle.std.specs.declared.cmp.Ordering.{Ordering}
-use Rattle.std.proofs.lemmas.Map.Made.{IsDistinct-from_count}
 use Rattle.fab_reach_base.specs.fab_lemmas.Firsts.{HasAt}
 use Rattle.fab_reach_base.specs.fab_lemmas.MapsOfSets.{in_set, has}
 use Rattle.fab_reach_base.specs.fab_names.Orders.{name_cmp, member_cmp}
 use Rattle.fab_reach_base.specs.fab_names.declared.fabric.Fabric.{Fabric}
 use Rattle.fab_reach_base.specs.fab_names.declared.fabric.Fabric.TheVariants.{A, B}
-use Rattle.fab_reach_base.proofs.fab_names.OrderLaws.{name_total}
 use Rattle.fab_reach_base.specs.fab_inventory.declared.port.Known.{Known}
-use Rattle.fab_reach_base.specs.fab_inventory.Inventories.{no_rows}
-use Rattle.fab_reach_base.specs.fab_inventory.Ports.{port_of}
-use Rattle.fab_reach_base.proofs.fab_mapping_base.fab_inventory.Soundness.{sound_none}
 use Rattle.fab_reach_base.specs.fab_zoning_rows.Rows.{row_cmp}
 use Rattle.fab_reach_base.specs.fab_zoning.Zonings.{FabricZoning, new_zoning}
-use Rattle.fab_reach_base.specs.fab_zoning.Soundness as zonings
-use Rattle.fab_reach_base.proofs.fab_zoning.Keeping.{new_is_sound}
 use Rattle.fab_reach_base.specs.fab_mapping_base.Groups.{HostGroupRows}
-use Rattle.fab_reach_base.specs.fab_mapping.Mappings.{no_groups, HasNoClash}
-use Rattle.fab_reach_base.proofs.fab_mapping.Keeping.{none_is_sound, none_fits}
-use Rattle.fab_reach_base.specs.Reach.{Reaches}
 use Rattle.fab_reach_base.specs.Records.{zoning_at}
-use Rattle.fab_reach_base.specs.declared.path.Path.{Path}
-use Rattle.fab_reach_base.specs.declared.listing.TheConstants.{MOST_PATHS}
 use Rattle.fab_store_rows.specs.PlanEntries.{PlanEntry}
 use Rattle.fab_store_rows.specs.Standing.{HasItem, IsHostHead, IsStorageHead, HasPart, entry_of, holder_of, volume_of}
 use Rattle.fab_store_rows.specs.declared.config_row.ActiveRow.{ActiveRow}
@@ -51,9 +38,8 @@ use Rattle.fab_store_world.specs.PlanRows.{IsRowOf, IsApprovalOf, IsChanged}
 use Rattle.fab_store_world.specs.Standing.{IsPlanRow, IsApprovalRow, IsUndoRow}
 use Rattle.fab_store_world.specs.Tables.{IsPortRow, IsAddressRow, IsHolderRow, IsVolumeRow, IsConfigRow, IsRowOfPath}
 use Rattle.fab_world.specs.PlanRecords.{PlanRecord}
-use Rattle.fab_world.specs.Plans.{IsActive}
-use Rattle.fab_world.specs.Soundness.{ListsActive, IsSound}
-use Rattle.fab_world.specs.Worlds.{new_world, records_of}
+use Rattle.fab_world.specs.Worlds.{new_world}
+use Rattle.fab_world.proofs.NewWorld as world
 
 -- ---- nothing is found where nothing is
 
@@ -116,44 +102,5 @@ no_approval r h = nowhere (IsApprovalOf r) r.plan h
 pub no_undo : (r : UndoRow) → ¬ IsUndoRow new_world r
 no_undo r h = nowhere (λ (p : PlanRecord). IsChanged p.standing r.sign r.row) r.plan h
 
-none_reached : (x : Path) → ¬ Reaches (records_of new_world) x
-none_reached x h = no_value _ h.from (ap (option_map (port_of x.initiator)) (map.get-empty nat_cmp x.initiator)) h.from_is
-
 pub no_path : (r : PathRow) → ¬ IsRowOfPath new_world r
-no_path r h = none_reached r.path h.0
-
--- ---- soundness
-
-few : (xs : List Path) → ((x : Path) → Contains xs x → Reaches (records_of new_world) x) → ¬ (MOST_PATHS < length xs)
-few [] h many = omega (arith, many)
-few (x ∷ xs) h many = none_reached x (h x (0, omega arith, refl))
-
-no_clash : HasNoClash no_groups
-no_clash n h = no_value _ h.2.1 (map.get-empty name_cmp h.2.0) h.2.2
-
-lists_none : ListsActive (map.get new_world.plans) []
-lists_none = record {
-  lists = λ n. ((λ h. absurd (omega (arith, h.1))), λ h. absurd (nowhere IsActive n h));
-  each_once = IsDistinct-from_count (eq_by_cmp_equiv name_total) [] refl;
-}
-
-pub new_world_is_sound : IsSound new_world
-new_world_is_sound = record {
-  inventory = sound_none;
-  config = record { parts = record { zonings = record { fabrics = fabrics; sound = each }; mapping = none_is_sound }; no_clash = no_clash };
-  fits = none_fits no_rows;
-  few_paths = λ more. few more.some more.sound more.many;
-  few_plans = let none = map.len-empty name_cmp PlanRecord in omega (arith, none);
-  plans = λ n p at. absurd (no_value _ p (map.get-empty name_cmp n) at);
-  order = lists_none;
-  earlier = tt;
-  few_changes = omega arith;
-}
-  where
-    fabrics : (f : Fabric) → (zoning_at new_world.config f).fabric ≡ f
-    fabrics A = refl
-    fabrics B = refl
-
-    each : (f : Fabric) → zonings.IsSound (zoning_at new_world.config f)
-    each A = new_is_sound A
-    each B = new_is_sound B
+no_path r h = world.no_path r.path h.0

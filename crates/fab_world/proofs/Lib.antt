@@ -1,6 +1,6 @@
 mod WaysBack
 mod Listing
-mod NewWorld
+pub mod NewWorld
 mod Presents
 pub mod WholeWorld
 pub use Rattle.fab_plans.proofs as fab_plans

@@ -9,12 +9,13 @@ use Rattle.fab_reach_base.specs.fab_names.Orders.{name_cmp}
 use Rattle.fab_reach_base.proofs.fab_names.OrderLaws.{name_total}
 use Rattle.fab_reach_base.specs.fab_names.declared.fabric.Fabric.{Fabric}
 use Rattle.fab_reach_base.specs.fab_names.declared.fabric.Fabric.TheVariants.{A, B}
-use Rattle.fab_reach_base.specs.fab_inventory.Inventories as inventories
+use Rattle.fab_reach_base.specs.fab_inventory.Inventories.{no_rows}
 use Rattle.fab_reach_base.specs.fab_inventory.Ports.{port_of}
+use Rattle.fab_reach_base.proofs.fab_mapping_base.fab_inventory.Soundness.{sound_none}
 use Rattle.fab_reach_base.proofs.fab_zoning.Keeping.{new_is_sound}
 use Rattle.fab_reach_base.specs.fab_zoning.Soundness as zonings
 use Rattle.fab_reach_base.specs.fab_mapping.Mappings.{no_groups, HasNoClash}
-use Rattle.fab_reach_base.specs.fab_mapping.Soundness as mappings
+use Rattle.fab_reach_base.proofs.fab_mapping.Keeping.{none_is_sound, none_fits}
 use Rattle.fab_reach_base.specs.Reach.{Reaches}
 use Rattle.fab_reach_base.specs.Records.{zoning_at}
 use Rattle.fab_reach_base.specs.declared.path.Path.{Path}
@@ -34,7 +35,7 @@ no_plan : (n : List ℕ) → map.get new_world.plans n ≡ None
 no_plan n = map.get-empty name_cmp n
 
 -- no port is known, so no path is there
-no_path : (x : Path) → ¬ Reaches (records_of new_world) x
+pub no_path : (x : Path) → ¬ Reaches (records_of new_world) x
 no_path x h = no_value (option_map (port_of x.initiator) (map.get new_world.inventory.ports x.initiator)) h.from (ap (option_map (port_of x.initiator)) (map.get-empty nat_cmp x.initiator)) h.from_is
 
 few : (xs : List Path) → ((x : Path) → Contains xs x → Reaches (records_of new_world) x) → ¬ (MOST_PATHS < length xs)
@@ -50,11 +51,11 @@ lists_none = record {
   each_once = IsDistinct-from_count (eq_by_cmp_equiv name_total) [] refl;
 }
 
-pub new_world_is_sound : inventories.IsSound inventories.no_rows → mappings.IsSound no_groups → mappings.Fits inventories.no_rows no_groups → IsSound new_world
-new_world_is_sound inventory mapping fits = record {
-  inventory = inventory;
-  config = record { parts = record { zonings = record { fabrics = fabrics; sound = each }; mapping = mapping }; no_clash = no_clash };
-  fits = fits;
+pub new_world_is_sound : IsSound new_world
+new_world_is_sound = record {
+  inventory = sound_none;
+  config = record { parts = record { zonings = record { fabrics = fabrics; sound = each }; mapping = none_is_sound }; no_clash = no_clash };
+  fits = none_fits no_rows;
   few_paths = λ more. few more.some more.sound more.many;
   few_plans = let none = map.len-empty name_cmp PlanRecord in omega (arith, none);
   plans = λ n p at. absurd (no_value (map.get new_world.plans n) p (no_plan n) at);

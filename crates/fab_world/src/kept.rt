@@ -7,7 +7,7 @@ ghost use Rattle.fab_reach_base.specs.fab_names.Orders.{name_cmp};
 ghost use Rattle.fab_reach_base.specs.fab_mapping.Soundness.{Each};
 ghost use Rattle.fab_world.specs.Plans.{IsActive};
 ghost use Rattle.fab_world.specs.Soundness.{IsSoundPlan, ListsActive};
-ghost use Rattle.fab_world.specs.declared.limits.TheConstants.{MOST_CHANGES};
+ghost use Rattle.fab_world.specs.Limits.{most_changes};
 
 use crate::{KeptPlan, MOST_CHANGES};
 use fab_reach_base::lemmas::set_of;
@@ -17,7 +17,7 @@ use std::collections::{BTreeMap, BTreeSet};
 
 /// Whether no approval is at a revision above the greatest that there may be.
 fn are_sound_approvals<A: Allocator>(approvals: &BTreeMap<Name, u64, A>) -> bool
-    ensures { IsTrue result ↔ Each (get name_cmp approvals.now) (λ revision. revision ≤ MOST_CHANGES) }
+    ensures { IsTrue result ↔ Each (get name_cmp approvals.now) (λ revision. revision ≤ most_changes) }
 {
     approvals.values().all(|revision| *revision <= MOST_CHANGES)
 }

@@ -1,11 +1,10 @@
 //! Whether an inventory and a configuration are sound together.
 ghost use Rattle.std.specs.Prelude.{◌≡◌, ◌↔◌, false, IsTrue, IfOk};
 ghost use Rattle.fab_reach_base.specs.fab_zoning.Soundness.{IsSound as IsSoundZoning};
-ghost use Rattle.fab_reach_base.specs.Limits.{MoreThan};
+ghost use Rattle.fab_reach_base.specs.Limits.{MoreThan, most_paths};
 ghost use Rattle.fab_reach_base.specs.Reach.{Reaches};
 ghost use Rattle.fab_reach_base.specs.Records.{zoning_at};
 ghost use Rattle.fab_reach_base.specs.Soundness.{HasSoundZonings, IsSoundAlone};
-ghost use Rattle.fab_reach_base.specs.declared.listing.TheConstants.{MOST_PATHS};
 ghost use Rattle.fab_world.specs.Soundness.{IsSoundNow};
 
 use fab_reach_base::inventory::Inventory;
@@ -59,8 +58,8 @@ pub fn has_few_paths<A: Allocator + Copy>(
     inventory: &Inventory<A>,
     config: &Config<A>,
 ) -> Result<bool, AllocError>
-    ensures few { IfOk result (λ few. IsTrue few ↔ ¬ MoreThan MOST_PATHS (Reaches (record { inventory = inventory.now; config = config.now }))) }
-    ensures many { IfOk result (λ few. few ≡ false → MoreThan MOST_PATHS (Reaches (record { inventory = inventory.now; config = config.now }))) }
+    ensures few { IfOk result (λ few. IsTrue few ↔ ¬ MoreThan most_paths (Reaches (record { inventory = inventory.now; config = config.now }))) }
+    ensures many { IfOk result (λ few. few ≡ false → MoreThan most_paths (Reaches (record { inventory = inventory.now; config = config.now }))) }
 {
     match few_paths(alloc, inventory, config) {
         Ok(_paths) => Ok(true),
