@@ -3,7 +3,7 @@
 use fab_names::{Fabric, Name, Wwn};
 
 /// What the words ask for.
-#[derive(Clone, Copy, Debug)]
+#[derive(Clone, Copy)]
 pub enum Words<'a> {
     /// `init`: makes a database.
     Init(Init<'a>),
@@ -38,7 +38,7 @@ pub enum Words<'a> {
 }
 
 /// A caller at a database.
-#[derive(Clone, Copy, Debug)]
+#[derive(Clone, Copy)]
 pub struct Access<'a> {
     /// The database's file.
     pub db: &'a str,
@@ -49,14 +49,14 @@ pub struct Access<'a> {
 }
 
 /// A database to be made.
-#[derive(Clone, Copy, Debug)]
+#[derive(Clone, Copy)]
 pub struct Init<'a> {
     /// The database's file.
     pub db: &'a str,
 }
 
 /// Connections to be served.
-#[derive(Clone, Copy, Debug)]
+#[derive(Clone, Copy)]
 pub struct Serve<'a> {
     /// The database's file.
     pub db: &'a str,
@@ -69,7 +69,7 @@ pub struct Serve<'a> {
 }
 
 /// The desk that answers one request.
-#[derive(Clone, Copy, Debug)]
+#[derive(Clone, Copy)]
 pub enum Over<'a> {
     /// A new desk in memory, under the sample policy.
     Trial,
@@ -80,7 +80,7 @@ pub enum Over<'a> {
 }
 
 /// A request to be answered.
-#[derive(Clone, Copy, Debug)]
+#[derive(Clone, Copy)]
 pub struct Once<'a> {
     /// The desk that answers it.
     pub over: Over<'a>,
@@ -89,7 +89,7 @@ pub struct Once<'a> {
 }
 
 /// A port list to be imported.
-#[derive(Clone, Copy, Debug)]
+#[derive(Clone, Copy)]
 pub struct Import<'a> {
     /// Who imports it, and into which database.
     pub access: Access<'a>,
@@ -102,7 +102,7 @@ pub struct Import<'a> {
 }
 
 /// A host whose paths are asked for.
-#[derive(Clone, Copy, Debug)]
+#[derive(Clone, Copy)]
 pub struct Paths<'a> {
     /// Who asks, and at which database.
     pub access: Access<'a>,
@@ -111,7 +111,7 @@ pub struct Paths<'a> {
 }
 
 /// A fabric whose active set is asked for.
-#[derive(Clone, Copy, Debug)]
+#[derive(Clone, Copy)]
 pub struct Export<'a> {
     /// Who asks, and at which database.
     pub access: Access<'a>,
@@ -120,7 +120,7 @@ pub struct Export<'a> {
 }
 
 /// A plan to be tried.
-#[derive(Clone, Copy, Debug)]
+#[derive(Clone, Copy)]
 pub struct DryRun<'a> {
     /// Who asks, and at which database.
     pub access: Access<'a>,
@@ -131,7 +131,7 @@ pub struct DryRun<'a> {
 }
 
 /// A host and a volume, of which it is asked why the one reaches the other or does not.
-#[derive(Clone, Copy, Debug)]
+#[derive(Clone, Copy)]
 pub struct Why<'a> {
     /// Who asks, and at which database.
     pub access: Access<'a>,
@@ -144,7 +144,7 @@ pub struct Why<'a> {
 }
 
 /// Of what it is asked who is there.
-#[derive(Clone, Copy, Debug)]
+#[derive(Clone, Copy)]
 pub enum WhoOf {
     /// Who reaches this volume.
     Volume { volume: Name },
@@ -153,7 +153,7 @@ pub enum WhoOf {
 }
 
 /// A volume or a port, of which it is asked who is there.
-#[derive(Clone, Copy, Debug)]
+#[derive(Clone, Copy)]
 pub struct Who<'a> {
     /// Who asks, and at which database.
     pub access: Access<'a>,
@@ -164,7 +164,7 @@ pub struct Who<'a> {
 }
 
 /// What a list is of.
-#[derive(Clone, Copy, Debug, PartialEq, Eq)]
+#[derive(Clone, Copy, PartialEq, Eq)]
 pub enum ListKind {
     /// The hosts.
     Hosts,
@@ -189,7 +189,7 @@ pub enum ListKind {
 }
 
 /// In which state plans are that are listed.
-#[derive(Clone, Copy, Debug)]
+#[derive(Clone, Copy)]
 pub enum ListState {
     /// They wait for their activation.
     Staged,
@@ -202,7 +202,7 @@ pub enum ListState {
 }
 
 /// A kind of which a list is asked for.
-#[derive(Clone, Copy, Debug)]
+#[derive(Clone, Copy)]
 pub struct Names<'a> {
     /// Who asks, and at which database.
     pub access: Access<'a>,
@@ -215,7 +215,7 @@ pub struct Names<'a> {
 }
 
 /// A file of which it is asked what is wrong with it.
-#[derive(Clone, Copy, Debug)]
+#[derive(Clone, Copy)]
 pub enum Check<'a> {
     /// The file of a policy.
     Policy { path: &'a str },
@@ -226,7 +226,7 @@ pub enum Check<'a> {
 }
 
 /// What a command does, as a policy names it.
-#[derive(Clone, Copy, Debug)]
+#[derive(Clone, Copy)]
 pub enum ActionWord {
     /// It imports a port list.
     Import,
@@ -247,7 +247,7 @@ pub enum ActionWord {
 }
 
 /// The fabrics that a command names.
-#[derive(Clone, Copy, Debug)]
+#[derive(Clone, Copy)]
 pub enum NamedFabrics {
     /// Fabric A alone.
     A,
@@ -258,7 +258,7 @@ pub enum NamedFabrics {
 }
 
 /// A command of which it is asked what a policy says.
-#[derive(Clone, Copy, Debug)]
+#[derive(Clone, Copy)]
 pub struct Deed<'a> {
     /// Who sends it.
     pub caller: Name,
@@ -280,7 +280,7 @@ pub struct Deed<'a> {
 }
 
 /// What is asked of a policy.
-#[derive(Clone, Copy, Debug)]
+#[derive(Clone, Copy)]
 pub enum ExplainOf<'a> {
     /// What it is, without its tokens.
     Rules,
@@ -289,7 +289,7 @@ pub enum ExplainOf<'a> {
 }
 
 /// A policy of which something is asked.
-#[derive(Clone, Copy, Debug)]
+#[derive(Clone, Copy)]
 pub struct Explain<'a> {
     /// The policy's file.
     pub policy: &'a str,
@@ -298,7 +298,7 @@ pub struct Explain<'a> {
 }
 
 /// A port list of which it is asked what its import would gain and lose.
-#[derive(Clone, Copy, Debug)]
+#[derive(Clone, Copy)]
 pub struct TryImport<'a> {
     /// Who asks, and at which database.
     pub access: Access<'a>,
@@ -313,7 +313,7 @@ pub struct TryImport<'a> {
 }
 
 /// A plan of which it is asked what activating it would change.
-#[derive(Clone, Copy, Debug)]
+#[derive(Clone, Copy)]
 pub struct Diff<'a> {
     /// Who asks, and at which database.
     pub access: Access<'a>,

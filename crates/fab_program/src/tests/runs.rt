@@ -4,7 +4,7 @@
 use super::answers::asking_of;
 use fab_policy_base::TRIAL_POLICY;
 use fab_program_runs::run;
-use fab_test_wire::rows::{FIRST_PLAN, WORLD};
+use fab_test_wire::rows::{FIRST_PLAN, FIRST_STAGED, WORLD};
 use fab_test_wire::streams::{Breaking, Slow};
 use std::cell::Cell;
 use std::fs;
@@ -139,6 +139,30 @@ const MADE: &[Run<'static>] = &[
     },
 ];
 
+/// What the first worked plan would change, before it is activated.
+const TRIED: &[Run<'static>] = &[Run {
+    words: "sandesk diff --db round.db --policy round.toml --token t-ada --plan p1",
+    output: "\
+revision 6
+- meta active.A -
++ meta active.A s1
++ zoning A alias disk wwpn=50:00:00:00:00:00:00:01
++ zoning A zone z1 wwpn=10:00:00:00:00:00:00:01
++ zoning A zone z1 alias=disk
++ zoning A set s1 z1
++ active A z1 wwpn=10:00:00:00:00:00:00:01
++ active A z1 wwpn=50:00:00:00:00:00:00:01
++ groups host hosts1 blue
++ groups storage g1 blue arr1 exposed
++ group_parts host hosts1 host db1
++ group_parts storage g1 hostgroup hosts1
++ group_parts storage g1 target 50:00:00:00:00:00:00:01
++ group_parts storage g1 unit 0 v1
+paths: 0 lost, 1 gained; hosts left on one fabric: none; hosts left without a path: none
+",
+    ..QUIET
+}];
+
 /// The paths of the first host of the worked world as texts.
 const PATHS_AND_REPORT: &[Run<'static>] = &[
     Run {
@@ -153,11 +177,27 @@ const PATHS_AND_REPORT: &[Run<'static>] = &[
     },
 ];
 
-/// Who reaches its volume; a plan that is not there; and a file and a policy that no desk is asked about.
+/// Who reaches its volume; which hosts there are; what an import of no port would lose, where none may be
+/// lost; a plan that is not there; and a file and a policy that no desk is asked about.
 const LOOKED: &[Run<'static>] = &[
     Run {
         words: "sandesk who --db round.db --policy round.toml --token t-ada --volume v1 --json",
         output: "[{\"a\":1,\"b\":0,\"groups\":[\"g1\"],\"host\":\"db1\",\"tenant\":\"blue\",\"units\":[0]}]\n",
+        ..QUIET
+    },
+    Run {
+        words: "sandesk list --db round.db --policy round.toml --token t-ada hosts --json",
+        output: "[{\"kind\":\"host\",\"name\":\"db1\",\"ports\":[\"10:00:00:00:00:00:00:01\"],\"tenant\":\"blue\"},{\"kind\":\"host\",\"name\":\"db2\",\"ports\":[\"10:00:00:00:00:00:00:02\",\"10:00:00:00:00:00:00:03\"],\"tenant\":\"green\"}]\n",
+        ..QUIET
+    },
+    Run {
+        words: "sandesk tryimport --db round.db --policy round.toml --token t-ada --fabric A --file no-ports.csv --most-lost 0",
+        output: "\
+ports: 0 listed, 0 new, 0 moved, 5 logged out
+paths: 0 gained, 1 lost (1 host); over A alone or B alone afterwards: none; without a path afterwards: 1 host: db1
+refused: 1 > 0
+",
+        status: 1,
         ..QUIET
     },
     Run {
@@ -182,9 +222,17 @@ const LOOKED: &[Run<'static>] = &[
 fn file_round(rt: HostRuntime) {
     put(&rt, &rt, "round.toml", TRIAL_POLICY.as_bytes());
     put(&rt, &rt, "round.csv", PORTS.as_bytes());
+    put(
+        &rt,
+        &rt,
+        "no-ports.csv",
+        "port_name,node_name,domain,port\n".as_bytes(),
+    );
     are_run(&rt, &rt, MADE);
     are_answered(&rt, &rt, WORLD, 1);
-    are_answered(&rt, &rt, FIRST_PLAN, 0);
+    are_answered(&rt, &rt, &[FIRST_STAGED], 0);
+    are_run(&rt, &rt, TRIED);
+    are_answered(&rt, &rt, FIRST_PLAN, 1);
     are_run(&rt, &rt, PATHS_AND_REPORT);
     are_run(&rt, &rt, LOOKED);
 }
