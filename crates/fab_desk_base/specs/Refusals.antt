@@ -10,10 +10,9 @@ use Rattle.fab_reach_base.specs.fab_inventory.Limits.{most_ports, most_holders, 
 use Rattle.fab_reach_base.specs.fab_inventory.Ports.{KnownPorts}
 use Rattle.fab_reach_base.specs.fab_mapping_base.declared.gone.Gone.{Gone}
 use Rattle.fab_reach_base.specs.fab_mapping.Gone.{IsFirstGone}
-use Rattle.fab_reach_base.specs.Limits.{MoreThan}
+use Rattle.fab_reach_base.specs.Limits.{MoreThan, most_paths}
 use Rattle.fab_reach_base.specs.Reach.{Reaches}
 use Rattle.fab_reach_base.specs.Records.{ConfigRows}
-use Rattle.fab_reach_base.specs.declared.listing.TheConstants.{MOST_PATHS}
 use Rattle.fab_world.specs.fab_store_rows.declared.record_row.PlanState.{PlanState}
 use Rattle.fab_world.specs.fab_store_rows.declared.record_row.PlanState.TheVariants as state
 use Rattle.fab_world.specs.fab_plans_base.Steps.{PlanStep}
@@ -23,7 +22,7 @@ use Rattle.fab_world.specs.fab_plans.declared.fault.Refusal.{Refusal}
 use Rattle.fab_world.specs.PlanRecords.{PlanRecord}
 use Rattle.fab_world.specs.Plans.{state_of}
 use Rattle.fab_world.specs.Worlds.{WorldRows, records_of}
-use Rattle.fab_world.specs.declared.limits.TheConstants.{MOST_PLANS, MOST_CHANGES}
+use Rattle.fab_world.specs.Limits.{most_plans, most_changes}
 use Rattle.fab_desk_base.specs.Commands.{is_counted, tried, IsPlan}
 use Rattle.fab_desk_base.specs.Effects.{IsStagedAlready, IsBefore, IsLastAfter, Makes}
 use Rattle.fab_desk_base.specs.Users.{IsHolderUser, IsVolumeUser, IsLeavingTarget, IsMoved}
@@ -107,7 +106,7 @@ ListsManyPorts w _ = ⊥
 
 -- the world would have too many paths
 abbrev pub HasManyPaths : WorldRows → Type 0
-HasManyPaths w = MoreThan MOST_PATHS (Reaches (records_of w))
+HasManyPaths w = MoreThan most_paths (Reaches (records_of w))
 
 -- the command would leave too many paths
 abbrev pub MakesManyPaths : {A : Type 0} → WorldRows → List ℕ → Command A → Type 0
@@ -115,11 +114,11 @@ MakesManyPaths w caller c = (new : WorldRows) × Makes w caller c new × HasMany
 
 -- there may be one change more, where the command counts as one
 abbrev pub MayCount : {A : Type 0} → WorldRows → Command A → Type 0
-MayCount w c = is_counted c ≡ true → w.revision < MOST_CHANGES
+MayCount w c = is_counted c ≡ true → w.revision < most_changes
 
 -- the revision counts the command, and there were as many changes as there may be
 abbrev pub HasManyChanges : {A : Type 0} → WorldRows → Command A → Type 0
-HasManyChanges w c = (is_counted c ≡ true) × (MOST_CHANGES ≤ w.revision)
+HasManyChanges w c = (is_counted c ≡ true) × (most_changes ≤ w.revision)
 
 -- which fault each check of a command gives, where it fails; the caller of this name sends it
 abbrev pub Fails : {A : Type 0} → WorldRows → List ℕ → Command A → Check → DeskFault → Type 0
@@ -145,7 +144,7 @@ Fails w caller (Activate n) steps_done = λ r. (number : ℕ) × (q : Refusal) �
 Fails w caller (Import f rows) room = FailsWith (fault.Limit Ports) (ListsManyPorts w (Import f rows))
 Fails w caller (PutHolder k n t ports) room = FailsWith (fault.Limit Holders) (IsFull w.inventory.holders n most_holders)
 Fails w caller (PutVolume n x) room = FailsWith (fault.Limit Volumes) (IsFull w.inventory.volumes n most_volumes)
-Fails w caller (Stage n steps) room = FailsWith (fault.Limit Plans) (IsFull w.plans n MOST_PLANS)
+Fails w caller (Stage n steps) room = FailsWith (fault.Limit Plans) (IsFull w.plans n most_plans)
 Fails w caller c few_paths = FailsWith (fault.Limit Paths) (MakesManyPaths w caller c)
 Fails w caller c few_changes = FailsWith (fault.Limit Changes) (HasManyChanges w c)
 Fails w caller c _ = λ r. ⊥

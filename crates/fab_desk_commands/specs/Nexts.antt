@@ -9,7 +9,7 @@ use Rattle.fab_store_world.specs.Inventories.{IsInventoryDifference}
 use Rattle.fab_world.specs.PlanRecords.{PlanRecord, active, rolled_back, withdrawn}
 use Rattle.fab_world.specs.Plans.{state_of}
 use Rattle.fab_world.specs.Worlds.{WorldRows}
-use Rattle.fab_world.specs.declared.limits.TheConstants.{MOST_CHANGES}
+use Rattle.fab_world.specs.Limits.{most_changes}
 use Rattle.fab_desk_base.specs.Commands.{IsPlan}
 use Rattle.fab_desk_base.specs.Effects.{counted, staged_plan, with_inventory, with_plan}
 use Rattle.fab_desk_commands.specs.declared.next.Next.{Next}
@@ -84,10 +84,10 @@ TellsRows w _ = Unit {0}
 -- the parts are for this world: it may take them over, once there is room for them
 abbrev pub Suits : {A : Type 0} → WorldRows → Next A → Type 0
 Suits w Same = Unit {0}
-Suits w (Stock v change) = (w.revision < MOST_CHANGES) × IsInventoryDifference w.inventory v change
+Suits w (Stock v change) = (w.revision < most_changes) × IsInventoryDifference w.inventory v change
 Suits w (Staged n p) = map.contains_key w.plans n ≡ false
 Suits w (Turned n t) = LeadsAt w n t
-Suits w (Reconfigured c n t) = LeadsAt w n t × (w.revision < MOST_CHANGES) × TellsChange w.config c t
+Suits w (Reconfigured c n t) = LeadsAt w n t × (w.revision < most_changes) × TellsChange w.config c t
 
 -- ---- room for them
 

@@ -2,7 +2,7 @@
 ghost use Rattle.std.specs.Prelude.{◌≡◌, ◌<◌, OnOk, OnErr, IfSome, true};
 ghost use Rattle.std.specs.FinMap as map;
 ghost use Rattle.fab_reach_base.specs.Soundness.{IsSoundAlone};
-ghost use Rattle.fab_world.specs.declared.limits.TheConstants.{MOST_CHANGES};
+ghost use Rattle.fab_world.specs.Limits.{most_changes};
 ghost use Rattle.fab_desk_base.specs.Effects.{counted, with_inventory, with_plan};
 ghost use Rattle.fab_world.specs.Worlds.{WorldRows};
 ghost use Rattle.fab_desk_commands.specs.Nexts.{blank_plan, next_world, order_from_room, order_with_room, order_without_room, turned_at, with_room, without_room, IsReadyFor, LeadsAt, Suits, TellsChange};
@@ -94,7 +94,7 @@ impl<A: Allocator + Copy> Drop for Next<A> {
 
 /// Counts one change more.
 fn count<A: Allocator + Copy>(world: &mut World<A>)
-    requires { world.old.revision < MOST_CHANGES }
+    requires { world.old.revision < most_changes }
     ensures { world.new ≡ counted world.old }
 {
     world.revision += 1;
@@ -102,7 +102,7 @@ fn count<A: Allocator + Copy>(world: &mut World<A>)
 
 /// Takes over an inventory, by one change more.
 fn stock<A: Allocator + Copy>(world: &mut World<A>, inventory: Inventory<A>)
-    requires { world.old.revision < MOST_CHANGES }
+    requires { world.old.revision < most_changes }
     ensures { world.new ≡ counted (with_inventory inventory world.old) }
 {
     world.inventory = inventory;
@@ -111,7 +111,7 @@ fn stock<A: Allocator + Copy>(world: &mut World<A>, inventory: Inventory<A>)
 
 /// Takes over a configuration, by one change more, and gives the one that it replaces.
 fn reconfigure<A: Allocator + Copy>(world: &mut World<A>, config: Config<A>) -> Config<A>
-    requires { world.old.revision < MOST_CHANGES }
+    requires { world.old.revision < most_changes }
     ensures world { world.new ≡ counted (record world.old { config = config }) }
     ensures left { result ≡ world.old.config }
 {
@@ -211,7 +211,7 @@ fn reconfigure_by<A: Allocator + Copy>(
     name: &Name,
     turn: Turn<A>,
 ) -> Option<Config<A>>
-    requires few { world.old.revision < MOST_CHANGES }
+    requires few { world.old.revision < most_changes }
     requires leads { LeadsAt world.old name.now turn }
     ensures world { world.new ≡ counted (record (turned_at name.now turn world.old) { config = config; order = order_from_room turn world.old.order }) }
     ensures spare { IsSoundAlone world.old.config → IsSoundAlone config → TellsChange world.old.config config turn → IfSome result (λ s. s ≡ config) }

@@ -5,7 +5,7 @@ ghost use Rattle.fab_store_rows.specs.Differences.{IsDifference};
 ghost use Rattle.fab_reach_base.specs.fab_mapping.Gone.{IsFirstGone};
 ghost use Rattle.fab_reach_base.specs.fab_mapping.Soundness.{Fits};
 ghost use Rattle.fab_world.specs.Soundness.{IsSound};
-ghost use Rattle.fab_world.specs.declared.limits.TheConstants.{MOST_CHANGES};
+ghost use Rattle.fab_world.specs.Limits.{most_changes};
 ghost use Rattle.fab_desk_base.specs.Answers.{HasPlan};
 ghost use Rattle.fab_desk_base.specs.Effects.{IsLastAfter};
 ghost use Rattle.fab_desk_base.specs.Refusals.{FailsWith, IsOtherLast};
@@ -180,7 +180,7 @@ pub fn rolled_back<A: Allocator + Copy>(
     requires spare { IfSome spare.old (λ s. s ≡ world.now.config) }
     ensures ok { (caller : List ℕ) → IfOk result (λ next. IsMade {A = A.row.Denot} world.now caller (Rollback plan.now) (next_world world.now next)) }
     ensures kind { IfOk result (IsReconfiguration plan.now) }
-    ensures suits { IfOk result (λ next. world.now.revision < MOST_CHANGES → Suits world.now next) }
+    ensures suits { IfOk result (λ next. world.now.revision < most_changes → Suits world.now next) }
     ensures tells { IfOk result (TellsRows world.now) }
     ensures sound { IfOk result (λ next. IsSoundAfter {A = A.row.Denot} world.now (Rollback plan.now) (next_world world.now next)) }
     ensures err { (caller : List ℕ) → IfErr result (IsTryFault {A = A.row.Denot} world.now caller (Rollback plan.now)) }

@@ -3,7 +3,7 @@ ghost use Rattle.std.specs.Prelude.{◌≡◌, ◌↔◌, IsTrue, IfOk, IfErr, f
 ghost use Rattle.std.specs.Bool.{OnTrue, OnFalse};
 ghost use Rattle.std.specs.FinMap as map;
 ghost use Rattle.fab_reach_base.specs.fab_lemmas.Room.{IsFull, HasRoom};
-ghost use Rattle.fab_world.specs.declared.limits.TheConstants.{MOST_PLANS};
+ghost use Rattle.fab_world.specs.Limits.{most_plans};
 ghost use Rattle.fab_world.specs.fab_plans_base.Plans.{IsWithinLimits};
 ghost use Rattle.fab_desk_base.specs.Commands.{IsGiven};
 ghost use Rattle.fab_desk_base.specs.Effects.{with_plan, staged_plan};
@@ -58,8 +58,8 @@ fn is_same_plan<A: Allocator + Copy>(
 
 /// Whether the name is new, and there are as many plans as there may be.
 fn has_no_room<A: Allocator + Copy>(world: &World<A>, name: &Name) -> bool
-    ensures full { OnTrue result (IsFull world.now.plans name.now MOST_PLANS) }
-    ensures room { OnFalse result (HasRoom world.now.plans name.now MOST_PLANS) }
+    ensures full { OnTrue result (IsFull world.now.plans name.now most_plans) }
+    ensures room { OnFalse result (HasRoom world.now.plans name.now most_plans) }
 {
     is_full(&world.plans, name, MOST_PLANS)
 }

@@ -1,10 +1,9 @@
 //! The step of a book of paths.
 ghost use Rattle.std.specs.Prelude.{◌≡◌, ℕ, IsSome, IfOk, OnOk, IfErr, IfSome};
-ghost use Rattle.fab_reach_base.specs.Limits.{MoreThan};
+ghost use Rattle.fab_reach_base.specs.Limits.{MoreThan, most_paths};
 ghost use Rattle.fab_reach_base.specs.Reach.{Reaches};
 ghost use Rattle.fab_reach_base.specs.Serving.{IsServing};
 ghost use Rattle.fab_reach_base.specs.Views.{seen};
-ghost use Rattle.fab_reach_base.specs.declared.listing.TheConstants.{MOST_PATHS};
 ghost use Rattle.fab_reach_books.specs.Rows.{IsRowDiff};
 ghost use Rattle.fab_world.specs.Soundness.{IsSound};
 ghost use Rattle.fab_world.specs.Worlds.{records_of};
@@ -56,7 +55,7 @@ fn seen_step<A: Allocator + Copy, B: PathBook<A>>(
     ensures stays { B.stands book.new (seen before.now) }
     ensures leads { IfOk result (λ ready. B.leads book.new ready (seen before.now) (seen after.now)) }
     ensures bounds { OnOk result (B.bounds (seen before.now) (seen after.now) (B.count book.old) (B.count book.new)) }
-    ensures err { IfErr result (IsLimitFault (fault.Limit limit.Paths) (MoreThan MOST_PATHS (Reaches (seen after.now)))) }
+    ensures err { IfErr result (IsLimitFault (fault.Limit limit.Paths) (MoreThan most_paths (Reaches (seen after.now)))) }
 {
     let mut sight = Limited::new(alloc, ViewSight::new(alloc, *after));
     match book.prepare(before, diff, &mut sight) {
@@ -86,9 +85,9 @@ fn few_step<A: Allocator + Copy, B: PathBook<A>>(
     requires diff { IsRowDiff (seen before.now) (seen after.now) diff.now.gone.items diff.now.come.items }
     ensures stays { B.stands book.new (seen before.now) }
     ensures leads { IfOk result (λ ready. B.leads book.new ready (seen before.now) (seen after.now)) }
-    ensures few { OnOk result (¬ MoreThan MOST_PATHS (Reaches (seen after.now))) }
+    ensures few { OnOk result (¬ MoreThan most_paths (Reaches (seen after.now))) }
     ensures bounds { OnOk result (B.bounds (seen before.now) (seen after.now) (B.count book.old) (B.count book.new)) }
-    ensures err { IfErr result (IsLimitFault (fault.Limit limit.Paths) (MoreThan MOST_PATHS (Reaches (seen after.now)))) }
+    ensures err { IfErr result (IsLimitFault (fault.Limit limit.Paths) (MoreThan most_paths (Reaches (seen after.now)))) }
 {
     let ready = match seen_step(alloc, book, before, after, diff) {
         Ok(ready) => ready,

@@ -21,7 +21,6 @@ use Rattle.fab_inventory.specs.Ports.{KnownPorts, port_of, port_at}
 use Rattle.fab_lemmas.specs.MapsOfSets.{in_tree}
 use Rattle.fab_lemmas.proofs.SeenEntries.{entry_decides}
 use Rattle.fab_lemmas.proofs.Walks.{walked}
-use Rattle.fab_zoning.specs.Edits.{Puts}
 use Rattle.fab_mapping_base.specs.Groups.{StorageGroupRows, MapsVolume}
 use Rattle.fab_mapping.specs.Mappings.{MappingRows}
 use Rattle.fab_reach_base.specs.Adding.{Adds}
@@ -37,14 +36,6 @@ use Rattle.fab_looks_base.specs.Inner.Offers.{AreJust, IsLoggedIn}
 use Rattle.fab_looks_base.specs.Inner.Serving.{ByGroup, IsIndexTo, IsNamedBy, PortIndex, ListsPort, ByLogin, AreLoginsOf, AreLoginsAt, IsPortNamedBy}
 use Rattle.fab_looks_base.proofs.Gathered.{just_as}
 use Rattle.fab_looks_base.proofs.Ways.{from_path}
-
--- one entry more
-pub adds_one : {Y : Type 0} (y : Y) (old new : Y → Type 0) → Puts y old new → Adds (λ z. z ≡ y) old new
-adds_one y old new puts = record {
-  sound = λ z h. (puts z).0 h;
-  kept = λ z h. (puts z).1 (inl h);
-  there = λ z h. (puts z).1 (inr h);
-}
 
 -- where the set has something, there is a set
 tree_at : {K : Type 0} (R : K → K → Ordering) (o : Option (BTreeSet K)) (x : K) → in_tree R o x ≡ true → (s : BTreeSet K) × (o ≡ Some s)

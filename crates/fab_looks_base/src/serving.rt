@@ -9,44 +9,11 @@ ghost use Rattle.fab_reach_base.specs.Gathering.{Lists, Serves};
 ghost use Rattle.fab_looks_base.specs.Inner.Offers.{AreJust};
 ghost use Rattle.fab_looks_base.specs.Inner.Serving.{ByGroup, IsNamedBy, IsIndexTo};
 
-use fab_mapping::{HostGroup, Mapping, StorageGroup};
+use fab_mapping::{Mapping, StorageGroup};
 use fab_names::Name;
-use fab_zoning::put_in_tree;
+use fab_reach_base::serve_group;
 use std::alloc::{AllocError, Allocator};
 use std::collections::{BTreeMap, BTreeSet};
-
-/// Puts the storage group under each host of the host group.
-fn serve_hosts<A: Allocator + Copy>(
-    alloc: A,
-    served: &mut BTreeMap<Name, BTreeSet<Name, A>, A>,
-    hosts: &HostGroup<A>,
-    group: Name,
-) -> Result<(), AllocError>
-    ensures { OnOk result (Adds (λ e. (set.contains hosts.now.hosts e.0 ≡ true) × (e.1 ≡ group)) (Lists served.old) (Lists served.new)) }
-{
-    for host in hosts.hosts() {
-        put_in_tree(alloc, served, *host, group)?;
-    }
-    Ok(())
-}
-
-/// Puts the storage group under each host that it serves.
-fn serve_group<A: Allocator + Copy>(
-    alloc: A,
-    served: &mut BTreeMap<Name, BTreeSet<Name, A>, A>,
-    mapping: &Mapping<A>,
-    name: Name,
-    group: &StorageGroup<A>,
-) -> Result<(), AllocError>
-    ensures { OnOk result (Adds (λ e. Serves mapping.now group.now e.0 × (e.1 ≡ name)) (Lists served.old) (Lists served.new)) }
-{
-    for hosts in group.host_groups() {
-        if let Some(hosts) = mapping.host_group(hosts) {
-            serve_hosts(alloc, served, hosts, name)?;
-        }
-    }
-    Ok(())
-}
 
 /// Puts the storage group under each host that it serves, if it is exposed and maps the volume.
 fn serve_volume<A: Allocator + Copy>(

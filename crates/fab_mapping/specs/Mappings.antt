@@ -9,7 +9,7 @@ use Rattle.fab_mapping_base.specs.fab_lemmas.Room.{IsFull, HasRoom}
 use Rattle.fab_mapping_base.specs.fab_names.Orders.{name_cmp}
 use Rattle.fab_mapping_base.specs.fab_names.Codes.{name_code}
 use Rattle.fab_mapping_base.specs.fab_inventory.Inventories.{InventoryRows, IsHost, IsArray}
-use Rattle.fab_mapping_base.specs.declared.limits.TheConstants.{MOST_HOSTS, MOST_HOST_GROUPS, MOST_STORAGE_GROUPS, LAST_UNIT}
+use Rattle.fab_mapping_base.specs.Limits.{most_hosts, most_host_groups, most_storage_groups, last_unit}
 use Rattle.fab_mapping_base.specs.declared.fault.MappingFault.{MappingFault}
 use Rattle.fab_mapping_base.specs.declared.fault.MappingFault.TheVariants.{Unknown, UnknownPort, Exists, InUse, WrongArray, UnitTaken, NotMapped, Limit, Memory}
 use Rattle.fab_mapping_base.specs.declared.fault.MappingLimit.TheVariants.{HostGroups, Hosts, Groups, Parts, UnitNumber}
@@ -53,15 +53,15 @@ HasNoClash v = HasNoClashIn (IsMapped v)
 
 -- nothing refuses the host group
 pub record CanPutHostGroup (v : MappingRows) (inventory : InventoryRows) (name : List ℕ) (hosts : List (List ℕ)) : Type 0 where
-  pub few : length hosts ≤ MOST_HOSTS
+  pub few : length hosts ≤ most_hosts
   pub known : All (IsHost inventory.holders) hosts
-  pub room : HasRoom v.host_groups name MOST_HOST_GROUPS
+  pub room : HasRoom v.host_groups name most_host_groups
 
 -- what refuses it, in this order
 abbrev pub PutHostGroupFails : MappingRows → InventoryRows → List ℕ → List (List ℕ) → MappingFault → Type 0
-PutHostGroupFails v inventory name hosts (Limit Hosts) = MOST_HOSTS < length hosts
-PutHostGroupFails v inventory name hosts (Unknown n) = (length hosts ≤ MOST_HOSTS) × IsFirstWithout (IsHost inventory.holders) hosts n
-PutHostGroupFails v inventory name hosts (Limit HostGroups) = (length hosts ≤ MOST_HOSTS) × All (IsHost inventory.holders) hosts × IsFull v.host_groups name MOST_HOST_GROUPS
+PutHostGroupFails v inventory name hosts (Limit Hosts) = most_hosts < length hosts
+PutHostGroupFails v inventory name hosts (Unknown n) = (length hosts ≤ most_hosts) × IsFirstWithout (IsHost inventory.holders) hosts n
+PutHostGroupFails v inventory name hosts (Limit HostGroups) = (length hosts ≤ most_hosts) × All (IsHost inventory.holders) hosts × IsFull v.host_groups name most_host_groups
 PutHostGroupFails v inventory name hosts Memory = Unit {0}
 PutHostGroupFails v inventory name hosts _ = ⊥
 
@@ -90,13 +90,13 @@ DropHostGroupFails v name _ = ⊥
 pub record CanMakeGroup (v : MappingRows) (inventory : InventoryRows) (name array : List ℕ) : Type 0 where
   pub fresh : map.contains_key v.groups name ≡ false
   pub on_array : IsArray inventory.holders array
-  pub room : map.len v.groups < MOST_STORAGE_GROUPS
+  pub room : map.len v.groups < most_storage_groups
 
 -- what refuses it, in this order
 abbrev pub NewGroupFails : MappingRows → InventoryRows → List ℕ → List ℕ → MappingFault → Type 0
 NewGroupFails v inventory name array (Exists n) = (n ≡ name) × (map.contains_key v.groups name ≡ true)
 NewGroupFails v inventory name array (Unknown n) = (n ≡ array) × (map.contains_key v.groups name ≡ false) × ¬ IsArray inventory.holders array
-NewGroupFails v inventory name array (Limit Groups) = (map.contains_key v.groups name ≡ false) × IsArray inventory.holders array × (MOST_STORAGE_GROUPS ≤ map.len v.groups)
+NewGroupFails v inventory name array (Limit Groups) = (map.contains_key v.groups name ≡ false) × IsArray inventory.holders array × (most_storage_groups ≤ map.len v.groups)
 NewGroupFails v inventory name array Memory = Unit {0}
 NewGroupFails v inventory name array _ = ⊥
 
@@ -147,11 +147,11 @@ RemoveTargetFails v name target _ = ⊥
 -- what refuses to map a volume, in this order: a unit above the last, no such storage group, no such
 -- volume, a volume on another array, another volume at the unit, or one too many
 abbrev pub MapFails : MappingRows → InventoryRows → List ℕ → ℕ → List ℕ → MappingFault → Type 0
-MapFails v inventory name unit volume (Limit UnitNumber) = LAST_UNIT < unit
-MapFails v inventory name unit volume (Unknown n) = (unit ≤ LAST_UNIT) × (NamesNoGroup v name (Unknown n) ⊎ ((n ≡ volume) × GroupHas v name (λ _. map.get inventory.volumes volume ≡ None)))
-MapFails v inventory name unit volume WrongArray = (unit ≤ LAST_UNIT) × GroupHas v name (λ g. IsVolumeElsewhere inventory g.array volume)
-MapFails v inventory name unit volume (UnitTaken u) = (unit ≤ LAST_UNIT) × GroupHas v name (λ g. IsVolumeOn inventory g.array volume × MapRefusal g unit volume (UnitTaken u))
-MapFails v inventory name unit volume (Limit Parts) = (unit ≤ LAST_UNIT) × GroupHas v name (λ g. IsVolumeOn inventory g.array volume × MapRefusal g unit volume (Limit Parts))
+MapFails v inventory name unit volume (Limit UnitNumber) = last_unit < unit
+MapFails v inventory name unit volume (Unknown n) = (unit ≤ last_unit) × (NamesNoGroup v name (Unknown n) ⊎ ((n ≡ volume) × GroupHas v name (λ _. map.get inventory.volumes volume ≡ None)))
+MapFails v inventory name unit volume WrongArray = (unit ≤ last_unit) × GroupHas v name (λ g. IsVolumeElsewhere inventory g.array volume)
+MapFails v inventory name unit volume (UnitTaken u) = (unit ≤ last_unit) × GroupHas v name (λ g. IsVolumeOn inventory g.array volume × MapRefusal g unit volume (UnitTaken u))
+MapFails v inventory name unit volume (Limit Parts) = (unit ≤ last_unit) × GroupHas v name (λ g. IsVolumeOn inventory g.array volume × MapRefusal g unit volume (Limit Parts))
 MapFails v inventory name unit volume Memory = Unit {0}
 MapFails v inventory name unit volume _ = ⊥
 

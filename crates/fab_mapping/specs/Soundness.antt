@@ -3,7 +3,7 @@
 use Rattle.std.specs.Prelude.{ℕ, ◌≡◌, ◌≤◌, List, Option, Some}
 use Rattle.std.specs.FinMap as map
 use Rattle.fab_mapping_base.specs.fab_inventory.Inventories.{InventoryRows}
-use Rattle.fab_mapping_base.specs.declared.limits.TheConstants.{MOST_HOST_GROUPS, MOST_STORAGE_GROUPS}
+use Rattle.fab_mapping_base.specs.Limits.{most_host_groups, most_storage_groups}
 use Rattle.fab_mapping.specs.Mappings.{MappingRows}
 pub use Rattle.fab_mapping_base.specs.Soundness.{IsSoundHostGroup, HasFewParts, HasUnitNumbers, HasKnownHosts, IsSoundGroup}
 pub use Rattle.fab_mapping_base.specs.Fitting.{HasHosts, HasTargets, HasVolumes, GroupFits}
@@ -18,8 +18,8 @@ Each {X} at P = (n : List ℕ) (x : X) → at n ≡ Some x → P x
 pub record IsSound (v : MappingRows) : Type 0 where
   pub host_groups : Each (map.get v.host_groups) IsSoundHostGroup
   pub groups : Each (map.get v.groups) (IsSoundGroup (map.get v.host_groups))
-  pub few_host_groups : map.len v.host_groups ≤ MOST_HOST_GROUPS
-  pub few_groups : map.len v.groups ≤ MOST_STORAGE_GROUPS
+  pub few_host_groups : map.len v.host_groups ≤ most_host_groups
+  pub few_groups : map.len v.groups ≤ most_storage_groups
 
 -- ---- beside an inventory
 

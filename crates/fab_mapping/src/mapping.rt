@@ -7,6 +7,7 @@ ghost use Rattle.fab_mapping_base.specs.fab_lemmas.Firsts.{IsFirstWith, HasAt, H
 ghost use Rattle.fab_mapping_base.specs.fab_names.Orders.{name_cmp};
 ghost use Rattle.fab_mapping_base.specs.Groups.{HoldsHost, HasTarget, IsOfArray, MapsVolume, host_group_of, new_storage_group, with_hosts, without_hosts, with_target, without_target, with_unit, without_unit, exposed_as, HasRoomForHosts, HasRoomForTarget, HasRoomForUnit, HasFreeUnit};
 ghost use Rattle.fab_mapping_base.specs.Fitting.{IsPortOf, IsVolumeOn};
+ghost use Rattle.fab_mapping_base.specs.Limits.{last_unit};
 ghost use Rattle.fab_mapping.specs.Mappings.{no_groups, IsLeastClash, HasNoClash, CanPutHostGroup, PutHostGroupFails, IsUnservedIn, DropHostGroupFails, CanMakeGroup, NewGroupFails, NamesNoGroup, ChangesGroup, GroupHas, AddHostsFails, RemoveHostsFails, AddTargetFails, RemoveTargetFails, MapFails, UnmapFails};
 ghost use Rattle.fab_mapping_base.specs.fab_inventory.Inventories.{InventoryRows};
 ghost use Rattle.fab_mapping.specs.Gone.{IsFirstGone};
@@ -472,7 +473,7 @@ impl<A: Allocator + Copy> Mapping<A> {
         volume: &Name,
         inventory: &Inventory<A>,
     ) -> Result<(), MappingFault>
-        ensures unit { OnOk result (unit ≤ LAST_UNIT) }
+        ensures unit { OnOk result (unit ≤ last_unit) }
         ensures on_array { OnOk result (GroupHas self.old name.now (λ g. IsVolumeOn inventory.now g.array volume.now)) }
         ensures free { OnOk result (GroupHas self.old name.now (λ g. HasFreeUnit g unit volume.now)) }
         ensures room { OnOk result (GroupHas self.old name.now (λ g. HasRoomForUnit g unit)) }

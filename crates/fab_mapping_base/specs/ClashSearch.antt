@@ -8,7 +8,7 @@ use Rattle.std.specs.FinSet as set
 use Rattle.fab_inventory.specs.fab_lemmas.Firsts.{IsFirstOf}
 use Rattle.fab_inventory.specs.fab_lemmas.MapsOfSets.{tree_has}
 use Rattle.fab_inventory.specs.fab_names.Orders.{name_cmp}
-use Rattle.fab_mapping_base.specs.declared.limits.TheConstants.{MOST_STORAGE_GROUPS}
+use Rattle.fab_mapping_base.specs.Limits.{most_storage_groups}
 use Rattle.fab_mapping_base.specs.declared.nexus.Nexus.{Nexus}
 use Rattle.fab_mapping_base.specs.Groups.{HostGroupRows, StorageGroupRows}
 use Rattle.fab_mapping_base.specs.Nexuses.{nexus_cmp}
@@ -48,9 +48,9 @@ MeetsAt gs host i j n = (a b : StorageGroupRows) × (slice_get gs i ≡ Some a) 
 
 -- the pair of places is marked
 pub record IsKnown (marks : List Bool) (i j : ℕ) : Type 0 where
-  pub first : i < MOST_STORAGE_GROUPS
-  pub second : j < MOST_STORAGE_GROUPS
-  pub mark : slice_get marks (i * MOST_STORAGE_GROUPS + j) ≡ Some true
+  pub first : i < most_storage_groups
+  pub second : j < most_storage_groups
+  pub mark : slice_get marks (i * most_storage_groups + j) ≡ Some true
 
 -- no host would meet two volumes by a pair that is marked
 abbrev pub AreFine : List StorageGroupRows → List Bool → Type 0

@@ -7,7 +7,7 @@ use Rattle.std.specs.FinSet as set
 use Rattle.fab_inventory.specs.fab_lemmas.Room.{HasRoom, IsFullSet, SetHasRoom}
 use Rattle.fab_inventory.specs.fab_names.Orders.{name_cmp}
 use Rattle.fab_inventory.specs.fab_names.Codes.{name_code}
-use Rattle.fab_mapping_base.specs.declared.limits.TheConstants.{MOST_GROUPS_SERVED, MOST_TARGETS, MOST_UNITS}
+use Rattle.fab_mapping_base.specs.Limits.{most_groups_served, most_targets, most_units}
 use Rattle.fab_mapping_base.specs.declared.fault.MappingFault.{MappingFault}
 use Rattle.fab_mapping_base.specs.declared.fault.MappingFault.TheVariants.{UnitTaken, Limit, Memory}
 use Rattle.fab_mapping_base.specs.declared.fault.MappingLimit.TheVariants.{Parts}
@@ -111,15 +111,15 @@ exposed_as exposed g = record g { exposed = exposed }
 
 -- this host group is there already, or there is room for it
 abbrev pub HasRoomForHosts : StorageGroupRows → List ℕ → Type 0
-HasRoomForHosts g hosts = SetHasRoom g.host_groups hosts MOST_GROUPS_SERVED
+HasRoomForHosts g hosts = SetHasRoom g.host_groups hosts most_groups_served
 
 -- this target is there already, or there is room for it
 abbrev pub HasRoomForTarget : StorageGroupRows → ℕ → Type 0
-HasRoomForTarget g target = SetHasRoom g.targets target MOST_TARGETS
+HasRoomForTarget g target = SetHasRoom g.targets target most_targets
 
 -- a volume is at this unit already, or there is room for one
 abbrev pub HasRoomForUnit : StorageGroupRows → ℕ → Type 0
-HasRoomForUnit g unit = HasRoom g.units unit MOST_UNITS
+HasRoomForUnit g unit = HasRoom g.units unit most_units
 
 -- no other volume is at this unit
 abbrev pub HasFreeUnit : StorageGroupRows → ℕ → List ℕ → Type 0
@@ -137,19 +137,19 @@ pub record HaveSameHead (g h : StorageGroupRows) : Type 0 where
 
 -- it has as many host groups as it may have, and this one is not among them
 abbrev pub AddHostsLimit : StorageGroupRows → List ℕ → MappingFault → Type 0
-AddHostsLimit g hosts (Limit Parts) = IsFullSet g.host_groups hosts MOST_GROUPS_SERVED
+AddHostsLimit g hosts (Limit Parts) = IsFullSet g.host_groups hosts most_groups_served
 AddHostsLimit g hosts Memory = Unit {0}
 AddHostsLimit g hosts _ = ⊥
 
 -- it has as many targets as it may have, and this one is not among them
 abbrev pub AddTargetLimit : StorageGroupRows → ℕ → MappingFault → Type 0
-AddTargetLimit g target (Limit Parts) = IsFullSet g.targets target MOST_TARGETS
+AddTargetLimit g target (Limit Parts) = IsFullSet g.targets target most_targets
 AddTargetLimit g target Memory = Unit {0}
 AddTargetLimit g target _ = ⊥
 
 -- another volume is at this unit; or none is, and it has as many units as it may have
 abbrev pub MapRefusal : StorageGroupRows → ℕ → List ℕ → MappingFault → Type 0
 MapRefusal g unit volume (UnitTaken u) = (u ≡ unit) × ((other : List ℕ) × (map.get g.units unit ≡ Some other) × (other ≢ volume))
-MapRefusal g unit volume (Limit Parts) = (map.get g.units unit ≡ None) × (MOST_UNITS ≤ map.len g.units)
+MapRefusal g unit volume (Limit Parts) = (map.get g.units unit ≡ None) × (most_units ≤ map.len g.units)
 MapRefusal g unit volume Memory = Unit {0}
 MapRefusal g unit volume _ = ⊥

@@ -2,6 +2,7 @@
 ghost use Rattle.std.specs.Prelude.{◌≡◌, ◌<◌, ◌+◌, ◌*◌, ◌⊎◌, ℕ, IfOk, IfSome};
 ghost use Rattle.std.specs.Bool.{OnTrue};
 ghost use Rattle.fab_mapping_base.specs.ClashSearch.{IsKnown};
+ghost use Rattle.fab_mapping_base.specs.Limits.{most_storage_groups};
 
 use crate::limits::MOST_STORAGE_GROUPS;
 use std::alloc::{AllocError, Allocator};
@@ -16,7 +17,7 @@ pub struct KnownPairs<A: Allocator + Copy> {
 
 /// Where the mark of a pair is, if it has one.
 fn mark_of(first: usize, second: usize) -> Option<usize>
-    ensures { IfSome result (λ at. (first < MOST_STORAGE_GROUPS) × (second < MOST_STORAGE_GROUPS) × (at ≡ first * MOST_STORAGE_GROUPS + second)) }
+    ensures { IfSome result (λ at. (first < most_storage_groups) × (second < most_storage_groups) × (at ≡ first * most_storage_groups + second)) }
 {
     if first < MOST_STORAGE_GROUPS && second < MOST_STORAGE_GROUPS {
         Some(first * MOST_STORAGE_GROUPS + second)

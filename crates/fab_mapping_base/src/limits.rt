@@ -1,5 +1,6 @@
 //! How much of everything a mapping may hold.
 ghost use Rattle.std.specs.Prelude.{◌≤◌, ◌↔◌, IsTrue};
+ghost use Rattle.fab_mapping_base.specs.Limits.{last_unit};
 
 /// How many hosts may be listed for a host group.
 pub const MOST_HOSTS: usize = 255;
@@ -25,7 +26,7 @@ pub const LAST_UNIT: u16 = 16383;
 
 /// Whether it is a logical unit number, 0 to 16383.
 pub fn is_unit(number: u16) -> bool
-    ensures { IsTrue result ↔ (number ≤ LAST_UNIT) }
+    ensures { IsTrue result ↔ (number ≤ last_unit) }
 {
     number <= LAST_UNIT
 }

@@ -5,7 +5,7 @@ ghost use Rattle.fab_reach_base.specs.Orders.{path_cmp};
 ghost use Rattle.fab_reach_base.specs.Records.{Records};
 ghost use Rattle.fab_reach_base.specs.Serving.{IsServing};
 ghost use Rattle.fab_reach_base.specs.Views.{seen};
-ghost use Rattle.fab_reach_base.specs.declared.listing.TheConstants.{MOST_PATHS};
+ghost use Rattle.fab_reach_base.specs.Limits.{most_paths};
 ghost use Rattle.fab_reach_books.specs.Counts.{most_asked, IsAtMost};
 ghost use Rattle.fab_reach_books.specs.Numbers.{IsNumberOf};
 ghost use Rattle.fab_reach_books.specs.Pairs.{AreChanged};
@@ -63,8 +63,8 @@ fn paths_after<A: Allocator + Copy>(before: usize, delta: &Delta<A>) -> Result<u
 
 /// Whether so many paths are no more than there may be.
 fn is_few(count: usize) -> bool
-    ensures few { IsTrue result ↔ (count ≤ MOST_PATHS) }
-    ensures many { result ≡ false → MOST_PATHS < count }
+    ensures few { IsTrue result ↔ (count ≤ most_paths) }
+    ensures many { result ≡ false → most_paths < count }
 {
     count <= MOST_PATHS
 }

@@ -1,17 +1,15 @@
 -- The index of the storage groups that serve each host.
-use Rattle.std.proofs.Common.{◌≡◌, ℕ, List, [], Bool, true, false, cond, Contains, Option, None, Some, ◌⊎◌, inl, inr, refl, sym, ap, ◌∙◌, subst}
+use Rattle.std.proofs.Common.{◌≡◌, ℕ, List, [], true, false, Contains, Option, None, Some, inl, inr, refl, sym, ap, ◌∙◌, subst}
 use mathlib.Core.Bool.{true≢false}
-use Rattle.std.specs.Ordering.{is_eq}
-use Rattle.std.specs.Cmp.{Equal-is, tied_itself}
-use Rattle.std.specs.BTreeMap as tree
 use Rattle.std.specs.BTreeMap.{is_at}
-use Rattle.std.specs.BTreeSet.{BTreeSet, contains}
+use Rattle.std.specs.BTreeSet.{BTreeSet}
 use Rattle.std.specs.FinMap as map
 use Rattle.std.specs.Map.{lookup}
 use Rattle.std.specs.FinSet as set
 use Rattle.fab_mapping.specs.fab_mapping_base.fab_names.Orders.{name_cmp}
 use Rattle.fab_mapping.proofs.fab_mapping_base.fab_names.OrderLaws.{name_total, name_exact}
 use Rattle.fab_mapping.specs.fab_mapping_base.fab_lemmas.MapsOfSets.{in_tree}
+use Rattle.fab_zoning.specs.Edits.{Puts}
 use Rattle.fab_mapping.specs.fab_mapping_base.Groups.{HostGroupRows, StorageGroupRows}
 use Rattle.fab_mapping.specs.Mappings.{MappingRows}
 use Rattle.fab_mapping.proofs.fab_mapping_base.fab_lemmas.SeenSets.{listed_decides}
@@ -24,46 +22,13 @@ use Rattle.fab_mapping.proofs.fab_mapping_base.fab_lemmas.SeenEntries.{entry_dec
 abbrev pub Service : Type 0
 Service = List ℕ × List ℕ
 
-same_name : (a b : List ℕ) → is_at (name_cmp a) b ≡ true → a ≡ b
-same_name a b h = name_exact a b ((Equal-is (name_cmp a b)).0 h)
-
-at_itself : (a : List ℕ) → is_at (name_cmp a) a ≡ true
-at_itself a = ap is_eq (tied_itself name_total a)
-
--- the index after the groups of k, which were those of o, have become those of w, with z among them
-pub adds_service : (t u : Index) (k z : List ℕ) (o : Option (BTreeSet (List ℕ))) (w : BTreeSet (List ℕ)) → tree.get name_cmp t k ≡ o
-    → ((y : List ℕ) → contains name_cmp w y ≡ cond (is_at (name_cmp z) y) true (in_tree name_cmp o y))
-    → ((q : List ℕ) → tree.get name_cmp u q ≡ cond (is_at (name_cmp k) q) (Some w) (tree.get name_cmp t q))
-    → Adds (λ (e : Service). e ≡ (k, z)) (Lists t) (Lists u)
-adds_service t u k z o w at adds updates = record {
-  sound = λ e h. came e.0 e.1 (is_at (name_cmp k) e.0) refl (sym (ap (λ x. in_tree name_cmp x e.1) (updates e.0)) ∙ h);
-  kept = λ e h. ap (λ x. in_tree name_cmp x e.1) (updates e.0) ∙ stays e.0 e.1 (is_at (name_cmp k) e.0) refl h;
-  there = λ e is. subst (Lists u) (sym is) (ap (λ x. in_tree name_cmp x z) (updates k ∙ ap (λ b. cond b (Some w) (tree.get name_cmp t k)) (at_itself k)) ∙ adds z ∙ ap (λ b. cond b true (in_tree name_cmp o z)) (at_itself z));
+-- one entry more
+pub adds_one : {Y : Type 0} (y : Y) (old new : Y → Type 0) → Puts y old new → Adds (λ z. z ≡ y) old new
+adds_one y old new puts = record {
+  sound = λ z h. (puts z).0 h;
+  kept = λ z h. (puts z).1 (inl h);
+  there = λ z h. (puts z).1 (inr h);
 }
-  where
-    here : (q y : List ℕ) → is_at (name_cmp k) q ≡ true → in_tree name_cmp (tree.get name_cmp t q) y ≡ in_tree name_cmp o y
-    here q y is = ap (λ x. in_tree name_cmp x y) (ap (tree.get name_cmp t) (sym (same_name k q is)) ∙ at)
-
-    came_in : (q y : List ℕ) → is_at (name_cmp k) q ≡ true → (b : Bool) → is_at (name_cmp z) y ≡ b → cond b true (in_tree name_cmp o y) ≡ true → Lists t (q, y) ⊎ ◌≡◌ {A = Service} (q, y) (k, z)
-    came_in q y is true same h = inr (λ i. (sym (same_name k q is) i, sym (same_name z y same) i))
-    came_in q y is false same h = inl (here q y is ∙ h)
-
-    came : (q y : List ℕ) (b : Bool) → is_at (name_cmp k) q ≡ b → in_tree name_cmp (cond b (Some w) (tree.get name_cmp t q)) y ≡ true → Lists t (q, y) ⊎ ◌≡◌ {A = Service} (q, y) (k, z)
-    came q y true is h = came_in q y is (is_at (name_cmp z) y) refl (sym (adds y) ∙ h)
-    came q y false is h = inl h
-
-    still : (b c : Bool) → c ≡ true → cond b true c ≡ true
-    still true c h = refl
-    still false c h = h
-
-    stays : (q y : List ℕ) (b : Bool) → is_at (name_cmp k) q ≡ b → Lists t (q, y) → in_tree name_cmp (cond b (Some w) (tree.get name_cmp t q)) y ≡ true
-    stays q y true is h = adds y ∙ still (is_at (name_cmp z) y) (in_tree name_cmp o y) (sym (here q y is) ∙ h)
-    stays q y false is h = h
-
--- a set of nothing that has gained a group
-pub one_key : (s t : BTreeSet (List ℕ)) (z : List ℕ) → s.keys ≡ [] → ((y : List ℕ) → contains name_cmp t y ≡ cond (is_at (name_cmp z) y) true (contains name_cmp s y))
-    → (y : List ℕ) → contains name_cmp t y ≡ cond (is_at (name_cmp z) y) true false
-one_key s t z none updates y = updates y ∙ ap (λ ks. cond (is_at (name_cmp z) y) true (contains name_cmp (record { keys = ks }) y)) none
 
 -- ---- what whole walks add
 

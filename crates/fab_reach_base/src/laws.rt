@@ -1,16 +1,14 @@
 //! Laws of paths: a law is the contract of a function that does nothing.
-ghost use Rattle.std.specs.Prelude.{◌≡◌, ◌↔◌, ◌⊎◌, ℕ, List, All, IsTrue};
+ghost use Rattle.std.specs.Prelude.{◌≡◌, ◌⊎◌, ℕ, List};
 ghost use Rattle.fab_reach_base.specs.Limits.{most_paths};
 ghost use Rattle.fab_reach_base.specs.Records.{Records};
 ghost use Rattle.fab_reach_base.specs.Orders.{path_cmp, path_order, IsListOf};
 ghost use Rattle.fab_reach_base.specs.Reach.{AreJoined, IsOffered, Reaches, ReachesFrom};
 ghost use Rattle.fab_reach_base.specs.declared.path.Path.{Path};
-ghost use Rattle.fab_reach_base.specs.Views.{seen};
 ghost use Rattle.fab_reach_base.specs.Serving.{IsServing};
 ghost use Rattle.fab_reach_base.specs.Soundness.{IsSoundBeside};
 
-use crate::{MOST_PATHS, View};
-use std::alloc::Allocator;
+use crate::MOST_PATHS;
 
 /// The constant is the limit that the definitions tell.
 pub fn constants_are_the_limits()
@@ -41,18 +39,6 @@ pub fn path_is_offered()
 pub fn sound_worlds_serve()
     ensures { (w : Records) → IsSoundBeside w.inventory w.config → IsServing w }
 {}
-
-/// Whether a book may stand at each of the worlds.
-pub fn are_serving<A: Allocator + Copy>(worlds: &[View<'_, A>]) -> bool
-    ensures { IsTrue result ↔ All (λ world. IsServing (seen world)) worlds.now }
-{
-    for world in worlds {
-        if !world.is_serving() {
-            return false;
-        }
-    }
-    true
-}
 
 /// A path is there in a world, or it is not: a search through the active rows, the storage groups and
 /// their host groups tells which.

@@ -20,5 +20,5 @@ pub use listing::{
     listed, plain_paths, targets_of,
 };
 pub use path::Path;
-pub use served::served_hosts;
+pub use served::{serve_group, served_hosts};
 pub use view::View;

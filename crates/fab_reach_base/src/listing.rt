@@ -8,8 +8,7 @@ ghost use Rattle.fab_reach_base.specs.Adding.{Adds};
 ghost use Rattle.fab_reach_base.specs.Orders.{Has, IsListOf};
 ghost use Rattle.fab_reach_base.specs.Reach.{IsPort, IsInitiator, IsTarget, PathOf, Reaches};
 ghost use Rattle.fab_reach_base.specs.Gathering.{IsIndexOf, AreGroupsOf, MayMeet, UnitPath, GroupPath, IsTargeted, PathFrom, StopsAt};
-ghost use Rattle.fab_reach_base.specs.Limits.{IsPathsFault};
-ghost use Rattle.fab_reach_base.specs.declared.listing.TheConstants.{MOST_PATHS};
+ghost use Rattle.fab_reach_base.specs.Limits.{IsPathsFault, most_paths};
 ghost use Rattle.fab_reach_base.specs.Views.{seen};
 ghost use Rattle.fab_reach_base.specs.Books.{AreReached};
 ghost use Rattle.fab_reach_base.specs.Records.{zoning_at};
@@ -343,8 +342,8 @@ pub fn few_paths<A: Allocator + Copy>(
     config: &Config<A>,
 ) -> Result<Vec<Path, A>, PathsFault>
     ensures ok { IfOk result (λ paths. IsListOf (Reaches (record { inventory = inventory.now; config = config.now })) paths.items) }
-    ensures few { IfOk result (λ paths. length paths.items ≤ MOST_PATHS) }
-    ensures err { IfErr result (IsPathsFault MOST_PATHS (Reaches (record { inventory = inventory.now; config = config.now }))) }
+    ensures few { IfOk result (λ paths. length paths.items ≤ most_paths) }
+    ensures err { IfErr result (IsPathsFault most_paths (Reaches (record { inventory = inventory.now; config = config.now }))) }
 {
     let paths = gather(alloc, &View::of(inventory, config), MOST_PATHS)?;
     let _count = paths.len();

@@ -7,31 +7,9 @@ ghost use Rattle.fab_reach_base.specs.Gathering.{Lists, Serves, IsIndexOf};
 
 use fab_mapping::base::names::Name;
 use fab_mapping::{HostGroup, Mapping, StorageGroup};
+use fab_zoning::put_in_tree;
 use std::alloc::{AllocError, Allocator};
 use std::collections::{BTreeMap, BTreeSet};
-
-/// Adds a storage group to those of a host.
-fn serve<A: Allocator + Copy>(
-    alloc: A,
-    served: &mut BTreeMap<Name, BTreeSet<Name, A>, A>,
-    host: Name,
-    group: Name,
-) -> Result<(), AllocError>
-    ensures { OnOk result (Adds (λ e. e ≡ (host, group)) (Lists served.old) (Lists served.new)) }
-{
-    match served.get_mut(&host) {
-        Some(groups) => {
-            groups.insert(group)?;
-            Ok(())
-        }
-        None => {
-            let mut groups = BTreeSet::new(alloc);
-            groups.insert(group)?;
-            served.insert(host, groups)?;
-            Ok(())
-        }
-    }
-}
 
 /// Adds the storage group to those of each host of the host group.
 fn serve_hosts<A: Allocator + Copy>(
@@ -43,13 +21,16 @@ fn serve_hosts<A: Allocator + Copy>(
     ensures { OnOk result (Adds (λ e. (set.contains hosts.now.hosts e.0 ≡ true) × (e.1 ≡ group)) (Lists served.old) (Lists served.new)) }
 {
     for host in hosts.hosts() {
-        serve(alloc, served, *host, group)?;
+        put_in_tree(alloc, served, *host, group)?;
     }
     Ok(())
 }
 
 /// Adds the storage group to those of each host that it serves.
-fn serve_group<A: Allocator + Copy>(
+///
+/// # Errors
+/// `AllocError` where there is no memory: some of the hosts may have it then.
+pub fn serve_group<A: Allocator + Copy>(
     alloc: A,
     served: &mut BTreeMap<Name, BTreeSet<Name, A>, A>,
     mapping: &Mapping<A>,

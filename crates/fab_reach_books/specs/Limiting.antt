@@ -2,11 +2,10 @@
 use Rattle.std.specs.Prelude.{ℕ, ◌≡◌, Bool, true, refl}
 use Rattle.std.specs.Coded.{Coded, code_by, coded×, coded_ℕ, coded_bool}
 use Rattle.std.specs.BTreeSet.{BTreeSet}
-use Rattle.fab_reach_base.specs.Limits.{MoreThan}
+use Rattle.fab_reach_base.specs.Limits.{MoreThan, most_paths}
 use Rattle.fab_reach_base.specs.Orders.{Has}
 use Rattle.fab_reach_base.specs.Reach.{Reaches}
 use Rattle.fab_reach_base.specs.Records.{Records, records_code}
-use Rattle.fab_reach_base.specs.declared.listing.TheConstants.{MOST_PATHS}
 use Rattle.fab_reach_base.specs.declared.path.Path.{Path}
 
 -- the world that is seen, how many questions were asked, and whether more paths were shown than there may be
@@ -21,4 +20,4 @@ limited_code = code_by (Records × (ℕ × Bool)) (coded× records_code (coded×
 -- only paths of the world were shown, and where they are too many there are
 pub record ShowsPaths (w : Records) (shown : BTreeSet Path) (over : Bool) : Type 0 where
   pub paths : (x : Path) → Has shown x → Reaches w x
-  pub many : over ≡ true → MoreThan MOST_PATHS (Reaches w)
+  pub many : over ≡ true → MoreThan most_paths (Reaches w)

@@ -1,13 +1,12 @@
 //! Books of paths: what is kept of a world, so that the next can be compared with it.
 ghost use Rattle.std.specs.Prelude.{◌≡◌, ◌↔◌, ℕ, false, IsTrue, IfOk, OnOk, OnErr};
 ghost use Rattle.fab_reach_base.specs.Books.{IsDelta, AreReached};
-ghost use Rattle.fab_reach_base.specs.Limits.{MoreThan};
+ghost use Rattle.fab_reach_base.specs.Limits.{MoreThan, most_paths};
 ghost use Rattle.fab_reach_base.specs.Orders.{IsListOf};
 ghost use Rattle.fab_reach_base.specs.Reach.{Reaches, ReachesFrom};
 ghost use Rattle.fab_reach_base.specs.Records.{Records};
 ghost use Rattle.fab_reach_base.specs.Serving.{IsServing};
 ghost use Rattle.fab_reach_base.specs.Views.{seen};
-ghost use Rattle.fab_reach_base.specs.declared.listing.TheConstants.{MOST_PATHS};
 ghost use Rattle.fab_reach_base.specs.declared.path.Path.{Path};
 ghost use Rattle.fab_reach_books.specs.Rows.{IsRowDiff};
 
@@ -89,8 +88,8 @@ pub trait PathBook<A: Allocator + Copy>: Sized + Drop {
 
     /// Whether there are no more than `MOST_PATHS` paths after a step.
     fn has_few(&self, ready: &Self::Ready) -> bool
-        ensures few { (w v : Records) → leads self.now ready.now w v → (IsTrue result ↔ ¬ MoreThan MOST_PATHS (Reaches v)) }
-        ensures many { (w v : Records) → leads self.now ready.now w v → result ≡ false → MoreThan MOST_PATHS (Reaches v) };
+        ensures few { (w v : Records) → leads self.now ready.now w v → (IsTrue result ↔ ¬ MoreThan most_paths (Reaches v)) }
+        ensures many { (w v : Records) → leads self.now ready.now w v → result ≡ false → MoreThan most_paths (Reaches v) };
 
     /// Takes the step, and hands out its lists: the book stands at the world after it. It takes no
     /// memory, and asks nothing.

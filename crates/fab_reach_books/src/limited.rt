@@ -2,10 +2,9 @@
 ghost use Rattle.std.specs.Prelude.{◌≡◌, ◌⊎◌, true, Contains, IsTrue, ◌<◌, length};
 ghost use Rattle.std.specs.BTreeSet.{IsOrdered};
 ghost use Rattle.fab_reach_base.specs.Adding.{AddsOnly};
-ghost use Rattle.fab_reach_base.specs.Limits.{MoreThan};
+ghost use Rattle.fab_reach_base.specs.Limits.{MoreThan, most_paths};
 ghost use Rattle.fab_reach_base.specs.Orders.{Has, path_cmp};
 ghost use Rattle.fab_reach_base.specs.Reach.{Reaches};
-ghost use Rattle.fab_reach_base.specs.declared.listing.TheConstants.{MOST_PATHS};
 
 use crate::renewed::RenewedGroups;
 use crate::sight::Sight;
@@ -56,7 +55,7 @@ fn show_few<A: Allocator + Copy>(
     paths: &[Path],
 ) -> Result<(), AllocError>
     ensures shown { AddsOnly (Contains paths.now) (Has shown.old) (Has shown.new) }
-    ensures over { over.new ≡ true → (over.old ≡ true) ⊎ (IsOrdered path_cmp shown.new × (MOST_PATHS < length shown.new.keys)) }
+    ensures over { over.new ≡ true → (over.old ≡ true) ⊎ (IsOrdered path_cmp shown.new × (most_paths < length shown.new.keys)) }
 {
     show(shown, paths)?;
     if shown.len() > MOST_PATHS {
@@ -81,7 +80,7 @@ impl<A: Allocator + Copy, S: Sight<A> + Drop> Limited<A, S> {
 
     /// Whether it has shown more than `MOST_PATHS` paths: then the world has more.
     pub fn is_over(&self) -> bool
-        ensures { IsTrue result → MoreThan MOST_PATHS (Reaches self.now.world) }
+        ensures { IsTrue result → MoreThan most_paths (Reaches self.now.world) }
     {
         self.over
     }

@@ -1,5 +1,5 @@
 -- The maps of an index, from the rows of a world.
-use Rattle.std.proofs.Common.{ℕ, ◌≡◌, List, [], true, false, Contains, Option, None, Some, inl, inr, refl, sym, ap, ◌∙◌, subst}
+use Rattle.std.proofs.Common.{ℕ, ◌≡◌, List, [], true, false, Contains, Option, None, Some, refl, sym, ap, ◌∙◌, subst}
 use mathlib.Core.Bool.{true≢false}
 use Rattle.std.specs.declared.cmp.Ordering.{Ordering}
 use Rattle.std.specs.Ordering.{nat_cmp}
@@ -17,7 +17,7 @@ use Rattle.fab_inventory.specs.declared.port.Known.{Known}
 use Rattle.fab_lemmas.specs.MapsOfSets.{in_tree}
 use Rattle.fab_lemmas.proofs.SeenEntries.{entry_decides}
 use Rattle.fab_lemmas.proofs.SeenSets.{listed_decides}
-use Rattle.fab_zoning.specs.Edits.{IsIn, Puts}
+use Rattle.fab_zoning.specs.Edits.{IsIn}
 use Rattle.fab_mapping_base.specs.Groups.{StorageGroupRows}
 use Rattle.fab_reach_base.specs.Adding.{Adds}
 use Rattle.fab_reach_base.specs.Orders.{Has}
@@ -33,14 +33,6 @@ use Rattle.fab_reach_index.specs.Indexes.{IsTreeOf, IsHeldBy, IsTargetOf, IsHost
 use Rattle.fab_reach_books.specs.Pairs.{Pair}
 use Rattle.fab_reach_index.specs.Inner.Regathering.{HasIn}
 use Rattle.fab_reach_index.specs.Inner.Placing.{ByHolder, ByHostGroups, ByTargets, ByExposed, ByPath}
-
--- one entry more
-pub adds_one : {Y : Type 0} (y : Y) (old new : Y → Type 0) → Puts y old new → Adds (λ z. z ≡ y) old new
-adds_one y old new puts = record {
-  sound = λ z h. (puts z).0 h;
-  kept = λ z h. (puts z).1 (inl h);
-  there = λ z h. (puts z).1 (inr h);
-}
 
 module _ {Q X : Type 0} (O : Q → Q → Ordering) (R : X → X → Ordering) where
   -- a map of nothing

@@ -3,7 +3,7 @@ ghost use Rattle.std.specs.Prelude.{◌≡◌, ◌↔◌, ◌⊎◌, ◌<◌, �
 ghost use Rattle.sqlite.specs.Held.{state};
 ghost use Rattle.sqlite.specs.State.{HasCleanDisk};
 ghost use Rattle.fab_store_base.specs.Opened as opened;
-ghost use Rattle.fab_store_rows.specs.declared.table_rows.TheConstants.{SCHEMA};
+ghost use Rattle.fab_store_rows.specs.Schemas.{present_schema};
 ghost use Rattle.fab_store_sql.specs.States.{IsDesk};
 ghost use Rattle.fab_store_schema.specs.Trees.{tables_of};
 ghost use Rattle.fab_store_base.specs.Calls.{IsOtherSchema, OpensNot};
@@ -59,7 +59,7 @@ fn other_schema(lines: &[MetaLine<Global>]) -> Option<u64>
 /// Why tables that tell another schema are not opened.
 fn schema_fault(schema: u64) -> OpenFault
     requires { IsOtherSchema schema }
-    ensures { ((SCHEMA < schema) × (result ≡ faults.NewerSchema schema)) ⊎ ((schema < SCHEMA) × (result ≡ faults.OldSchema schema)) }
+    ensures { ((present_schema < schema) × (result ≡ faults.NewerSchema schema)) ⊎ ((schema < present_schema) × (result ≡ faults.OldSchema schema)) }
 {
     if schema > SCHEMA {
         OpenFault::NewerSchema(schema)

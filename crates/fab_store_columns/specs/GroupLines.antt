@@ -2,7 +2,7 @@
 use Rattle.std.specs.Prelude.{◌≡◌, ◌≤◌, ℕ, ℤ, List, [], Bool, false, codes}
 use Rattle.fab_names.specs.Names.{SpellsName}
 use Rattle.fab_names.specs.WorldWideNames.{SpellsPlain}
-use Rattle.fab_mapping_base.specs.declared.limits.TheConstants.{LAST_UNIT}
+use Rattle.fab_mapping_base.specs.Limits.{last_unit}
 use Rattle.fab_store_rows.specs.declared.config_row.GroupRow.{GroupRow}
 use Rattle.fab_store_rows.specs.declared.config_row.GroupRow.TheVariants as group
 use Rattle.fab_store_rows.specs.declared.config_row.StoragePart.TheVariants as part
@@ -84,7 +84,7 @@ abbrev pub ShowsPartItem : List ℕ → PartRow → Type 0
 ShowsPartItem text (parts.Host name host) = SpellsName text host
 ShowsPartItem text (parts.Storage name (part.HostGroup hosts)) = SpellsName text hosts
 ShowsPartItem text (parts.Storage name (part.Target target)) = SpellsPlain text target
-ShowsPartItem text (parts.Storage name (part.Unit unit volume)) = ShowsDecimal LAST_UNIT text unit
+ShowsPartItem text (parts.Storage name (part.Unit unit volume)) = ShowsDecimal last_unit text unit
 
 -- the name of a unit's volume, and the empty text for other parts
 abbrev pub ShowsPartVolume : List ℕ → PartRow → Type 0
@@ -113,4 +113,4 @@ abbrev pub HasUnitNumber : PartRow → Type 0
 HasUnitNumber (parts.Host name host) = Unit {0}
 HasUnitNumber (parts.Storage name (part.HostGroup hosts)) = Unit {0}
 HasUnitNumber (parts.Storage name (part.Target target)) = Unit {0}
-HasUnitNumber (parts.Storage name (part.Unit unit volume)) = unit ≤ LAST_UNIT
+HasUnitNumber (parts.Storage name (part.Unit unit volume)) = unit ≤ last_unit

@@ -8,7 +8,7 @@ use Rattle.fab_store_rows.specs.declared.config_row.SettingRow.TheVariants.{Acti
 use Rattle.fab_store_columns_base.specs.Columns.{ShowsDecimal}
 use Rattle.fab_store_columns.specs.declared.meta_lines.MetaRow.{MetaRow}
 use Rattle.fab_store_columns.specs.declared.meta_lines.MetaRow.TheVariants.{Schema, Revision, Setting}
-use Rattle.fab_store_columns_base.specs.declared.limits.TheConstants.{MOST_NUMBER}
+use Rattle.fab_store_columns_base.specs.Limits.{most_number}
 
 -- `meta`
 pub record MetaColumns : Type 0 where
@@ -42,8 +42,8 @@ pub record ShowsSetting (l : MetaColumns) (r : SettingRow) : Type 0 where
 
 -- the number of the schema, the revision, or a setting of a fabric
 abbrev pub ShowsMeta : MetaColumns → MetaRow → Type 0
-ShowsMeta l (Schema n) = (l.key ≡ codes "schema") × ShowsDecimal MOST_NUMBER l.value n
-ShowsMeta l (Revision n) = (l.key ≡ codes "revision") × ShowsDecimal MOST_NUMBER l.value n
+ShowsMeta l (Schema n) = (l.key ≡ codes "schema") × ShowsDecimal most_number l.value n
+ShowsMeta l (Revision n) = (l.key ≡ codes "revision") × ShowsDecimal most_number l.value n
 ShowsMeta l (Setting r) = ShowsSetting l r
 
 -- a line of these columns
@@ -52,6 +52,6 @@ meta_line key value = record { key = key; value = value }
 
 -- the row's number is one that a database keeps
 abbrev pub IsKeptNumber : MetaRow → Type 0
-IsKeptNumber (Schema n) = n ≤ MOST_NUMBER
-IsKeptNumber (Revision n) = n ≤ MOST_NUMBER
+IsKeptNumber (Schema n) = n ≤ most_number
+IsKeptNumber (Revision n) = n ≤ most_number
 IsKeptNumber (Setting r) = Unit {0}

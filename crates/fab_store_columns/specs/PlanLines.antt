@@ -3,7 +3,7 @@ use Rattle.std.specs.Prelude.{◌≡◌, ℕ, ℤ, List}
 use Rattle.fab_names.specs.Names.{SpellsName}
 use Rattle.fab_store_rows.specs.PlanEntries.{PlanEntry}
 use Rattle.fab_store_rows.specs.PlanStates.{state_text}
-use Rattle.fab_store_columns_base.specs.declared.limits.TheConstants.{MOST_NUMBER}
+use Rattle.fab_store_columns_base.specs.Limits.{most_number}
 use Rattle.fab_store_columns_base.specs.Columns.{ShowsNumber}
 
 -- `plans`
@@ -20,4 +20,4 @@ pub record ShowsPlan (l : PlanColumns) (r : PlanEntry) : Type 0 where
   pub author : SpellsName l.author r.author
   pub text : l.text ≡ r.text
   pub state : l.state ≡ state_text r.state
-  pub position : ShowsNumber 0 MOST_NUMBER l.position r.position
+  pub position : ShowsNumber 0 most_number l.position r.position

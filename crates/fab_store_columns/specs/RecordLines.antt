@@ -3,8 +3,8 @@ use Rattle.std.specs.Prelude.{ℕ, ℤ, List}
 use Rattle.fab_names.specs.Names.{SpellsName}
 use Rattle.fab_names.specs.Fabrics.{SpellsFabric}
 use Rattle.fab_names.specs.WorldWideNames.{SpellsPlain}
-use Rattle.fab_mapping_base.specs.declared.limits.TheConstants.{LAST_UNIT}
-use Rattle.fab_store_columns_base.specs.declared.limits.TheConstants.{MOST_NUMBER}
+use Rattle.fab_mapping_base.specs.Limits.{last_unit}
+use Rattle.fab_store_columns_base.specs.Limits.{most_number}
 use Rattle.fab_store_rows.specs.declared.record_row.ApprovalRow.{ApprovalRow}
 use Rattle.fab_store_rows.specs.declared.record_row.PathRow.{PathRow}
 use Rattle.fab_store_columns_base.specs.Columns.{ShowsNumber}
@@ -18,7 +18,7 @@ pub record ApprovalColumns : Type 0 where
 pub record ShowsApproval (l : ApprovalColumns) (r : ApprovalRow) : Type 0 where
   pub plan : SpellsName l.plan r.plan
   pub caller : SpellsName l.caller r.caller
-  pub revision : ShowsNumber 0 MOST_NUMBER l.revision r.revision
+  pub revision : ShowsNumber 0 most_number l.revision r.revision
 
 -- `paths`
 pub record PathColumns : Type 0 where
@@ -35,4 +35,4 @@ pub record ShowsPath (l : PathColumns) (r : PathRow) : Type 0 where
   pub initiator : SpellsPlain l.initiator r.path.initiator
   pub target : SpellsPlain l.target r.path.target
   pub volume : SpellsName l.volume r.path.volume
-  pub lun : ShowsNumber 0 LAST_UNIT l.lun r.path.unit
+  pub lun : ShowsNumber 0 last_unit l.lun r.path.unit

@@ -2,7 +2,7 @@
 ghost use Rattle.std.specs.Prelude.{◌≡◌, ℕ, List, [], MatchOption, IfOk, string_bytes};
 ghost use Rattle.fab_names.specs.Names.{SpellsName};
 ghost use Rattle.fab_names.specs.WorldWideNames.{SpellsPlain};
-ghost use Rattle.fab_mapping_base.specs.declared.limits.TheConstants as last;
+ghost use Rattle.fab_mapping_base.specs.Limits.{last_unit};
 ghost use Rattle.fab_store_columns_base.specs.Columns.{ShowsDecimal};
 ghost use Rattle.fab_store_rows.specs.declared.config_row.StoragePart.{StoragePart};
 ghost use Rattle.fab_store_rows.specs.declared.config_row.PartRow.{PartRow};
@@ -64,8 +64,8 @@ fn read_lone_target(item: &str, volume: &str) -> Option<Wwn>
 
 /// A unit, and the name of its volume.
 fn read_unit(item: &str, volume: &str) -> Option<(u16, Name)>
-    ensures { MatchOption result ((u : ℕ) (v : List ℕ) → ShowsDecimal last.LAST_UNIT item.now u → ¬ SpellsName volume.now v)
-        (λ found. ShowsDecimal last.LAST_UNIT item.now found.0 × SpellsName volume.now found.1) }
+    ensures { MatchOption result ((u : ℕ) (v : List ℕ) → ShowsDecimal last_unit item.now u → ¬ SpellsName volume.now v)
+        (λ found. ShowsDecimal last_unit item.now found.0 × SpellsName volume.now found.1) }
 {
     let Some(unit) = read_decimal(item, LAST_UNIT as u64) else {
         return None;

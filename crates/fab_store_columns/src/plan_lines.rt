@@ -3,7 +3,7 @@ ghost use Rattle.std.specs.Prelude.{◌≡◌, ◌≤◌, MatchOption, IfOk};
 ghost use Rattle.fab_store_rows.specs.declared.record_row.PlanState.{PlanState};
 ghost use Rattle.fab_store_rows.specs.PlanEntries.{PlanEntry};
 ghost use Rattle.fab_store_rows.specs.PlanStates.{state_text};
-ghost use Rattle.fab_store_columns_base.specs.declared.limits.TheConstants as limit;
+ghost use Rattle.fab_store_columns_base.specs.Limits.{most_number};
 ghost use Rattle.fab_store_columns.specs.PlanLines.{ShowsPlan};
 
 use fab_store_columns_base::{MOST_NUMBER, name_text, read_count, read_name};
@@ -73,7 +73,7 @@ impl<A: Allocator + Copy> PlanLine<A> {
     /// # Errors
     /// `AllocError` where there is no memory.
     pub fn print(alloc: A, row: &PlanRow<A>) -> Result<Self, AllocError>
-        requires { row.now.position ≤ limit.MOST_NUMBER }
+        requires { row.now.position ≤ most_number }
         ensures { IfOk result (λ line. ShowsPlan line row.now) }
     {
         Ok(PlanLine {

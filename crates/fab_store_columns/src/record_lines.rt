@@ -4,8 +4,8 @@ ghost use Rattle.fab_names.specs.WorldWideNames.{SpellsPlain};
 ghost use Rattle.fab_store_columns.specs.RecordLines.{ShowsApproval, ShowsPath};
 ghost use Rattle.fab_store_rows.specs.declared.record_row.ApprovalRow.{ApprovalRow};
 ghost use Rattle.fab_store_rows.specs.declared.record_row.PathRow.{PathRow};
-ghost use Rattle.fab_store_columns_base.specs.declared.limits.TheConstants as limit;
-ghost use Rattle.fab_mapping_base.specs.declared.limits.TheConstants as unit;
+ghost use Rattle.fab_store_columns_base.specs.Limits.{most_number};
+ghost use Rattle.fab_mapping_base.specs.Limits.{last_unit};
 
 use fab_mapping::LAST_UNIT;
 use fab_names::Wwn;
@@ -87,7 +87,7 @@ impl<A: Allocator + Copy> ApprovalLine<A> {
     /// # Errors
     /// `AllocError` where there is no memory.
     pub fn print(alloc: A, row: &ApprovalRow) -> Result<Self, AllocError>
-        requires { row.now.revision ≤ limit.MOST_NUMBER }
+        requires { row.now.revision ≤ most_number }
         ensures { IfOk result (λ line. ShowsApproval line row.now) }
     {
         Ok(ApprovalLine {
@@ -140,7 +140,7 @@ impl<A: Allocator + Copy> PathLine<A> {
     /// # Errors
     /// `AllocError` where there is no memory.
     pub fn print(alloc: A, row: &PathRow) -> Result<Self, AllocError>
-        requires { row.now.path.unit ≤ unit.LAST_UNIT }
+        requires { row.now.path.unit ≤ last_unit }
         ensures { IfOk result (λ line. ShowsPath line row.now) }
     {
         let ports = port_texts(alloc, &row.path)?;

@@ -13,7 +13,7 @@ use Rattle.fab_reach_base.specs.fab_zoning.Limits.{most_aliases, most_zones, mos
 use Rattle.fab_reach_base.specs.fab_zoning_rows.Rows.{IsPlain}
 use Rattle.fab_reach_base.specs.fab_zoning.Steps.{HasAlias, HasZone}
 use Rattle.fab_reach_base.specs.fab_zoning.Zonings.{FabricZoning}
-use Rattle.fab_reach_base.specs.fab_mapping_base.declared.limits.TheConstants.{MOST_HOSTS, MOST_GROUPS_SERVED, MOST_TARGETS, MOST_UNITS, LAST_UNIT, MOST_HOST_GROUPS, MOST_STORAGE_GROUPS}
+use Rattle.fab_reach_base.specs.fab_mapping_base.Limits.{most_hosts, most_groups_served, most_targets, most_units, last_unit, most_host_groups, most_storage_groups}
 use Rattle.fab_reach_base.specs.fab_mapping_base.declared.nexus.Nexus.{Nexus}
 use Rattle.fab_reach_base.specs.fab_mapping_base.Groups.{HostGroupRows, StorageGroupRows}
 use Rattle.fab_reach_base.specs.fab_mapping_base.Clashes.{GroupClaims}
@@ -42,13 +42,13 @@ abbrev pub HasSomeHost : HostGroupRows → Type 0
 HasSomeHost g = 0 < set.len g.hosts
 
 abbrev pub HasFewHosts : HostGroupRows → Type 0
-HasFewHosts g = set.len g.hosts ≤ MOST_HOSTS
+HasFewHosts g = set.len g.hosts ≤ most_hosts
 
 -- a storage group has not too many of the kind of this part
 abbrev pub HasFewLike : StoragePart → StorageGroupRows → Type 0
-HasFewLike (part.HostGroup k) g = set.len g.host_groups ≤ MOST_GROUPS_SERVED
-HasFewLike (part.Target q) g = set.len g.targets ≤ MOST_TARGETS
-HasFewLike (part.Unit u x) g = map.len g.units ≤ MOST_UNITS
+HasFewLike (part.HostGroup k) g = set.len g.host_groups ≤ most_groups_served
+HasFewLike (part.Target q) g = set.len g.targets ≤ most_targets
+HasFewLike (part.Unit u x) g = map.len g.units ≤ most_units
 
 -- the zoning of a fabric has not too much of anything, and a name is active just where there are rows
 pub record HasSoundCounts (v : FabricZoning) : Type 0 where
@@ -61,8 +61,8 @@ pub record HasSoundCounts (v : FabricZoning) : Type 0 where
 
 -- the mapping has not too many groups
 pub record HasFewGroups (v : MappingRows) : Type 0 where
-  pub few_host_groups : map.len v.host_groups ≤ MOST_HOST_GROUPS
-  pub few_groups : map.len v.groups ≤ MOST_STORAGE_GROUPS
+  pub few_host_groups : map.len v.host_groups ≤ most_host_groups
+  pub few_groups : map.len v.groups ≤ most_storage_groups
 
 -- ---- a row that came
 
@@ -76,7 +76,7 @@ ItemMayCome v (item.Set n z) = HasZone v z × IfSome (map.get v.sets n) IsListab
 abbrev pub IsNameable : MappingRows → StoragePart → Type 0
 IsNameable v (part.HostGroup k) = IsSome (map.get v.host_groups k)
 IsNameable v (part.Target q) = Unit {0}
-IsNameable v (part.Unit u x) = u ≤ LAST_UNIT
+IsNameable v (part.Unit u x) = u ≤ last_unit
 
 -- a host group has a host
 abbrev pub GroupMayCome : MappingRows → GroupRow → Type 0

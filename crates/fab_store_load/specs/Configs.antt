@@ -13,7 +13,7 @@ use Rattle.fab_reach_base.specs.fab_zoning.Zonings.{FabricZoning, permits}
 use Rattle.fab_reach_base.specs.fab_zoning.Soundness as zoning
 use Rattle.fab_reach_base.specs.fab_mapping.Mappings.{MappingRows, HasNoClash}
 use Rattle.fab_reach_base.specs.fab_mapping.Soundness as mapping
-use Rattle.fab_reach_base.specs.fab_mapping_base.declared.limits.TheConstants.{MOST_HOST_GROUPS, MOST_STORAGE_GROUPS}
+use Rattle.fab_reach_base.specs.fab_mapping_base.Limits.{most_host_groups, most_storage_groups}
 use Rattle.fab_reach_base.specs.Records.{ConfigRows}
 use Rattle.fab_store_rows.specs.declared.config_row.ConfigRow.{ConfigRow}
 use Rattle.fab_store_rows.specs.declared.config_row.StoragePart.TheVariants as part
@@ -38,8 +38,8 @@ HasSoundActive v = zoning.IsSoundActive v.active v.rows
 
 -- not too many host groups, nor storage groups
 pub record HasFewGroups (m : MappingRows) : Type 0 where
-  pub few_host_groups : map.len m.host_groups ≤ MOST_HOST_GROUPS
-  pub few_groups : map.len m.groups ≤ MOST_STORAGE_GROUPS
+  pub few_host_groups : map.len m.host_groups ≤ most_host_groups
+  pub few_groups : map.len m.groups ≤ most_storage_groups
 
 -- what is sound of a configuration so far as a table tells it
 abbrev pub ConfigPartIsSound : Table → ConfigRows → Type 0

@@ -9,3 +9,4 @@ pub mod PlanEntries
 pub mod PlanStates
 pub mod Keys
 pub mod AtKeys
+pub mod Schemas

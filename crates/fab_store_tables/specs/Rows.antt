@@ -7,8 +7,8 @@ use Rattle.fab_store_columns.specs.MetaLines.{ShowsMeta, IsKeptNumber}
 use Rattle.fab_store_columns.specs.PlanLines.{ShowsPlan}
 use Rattle.fab_store_columns.specs.RecordLines.{ShowsApproval, ShowsPath}
 use Rattle.fab_store_columns.specs.ZoningLines.{ShowsZoning, ShowsActive}
-use Rattle.fab_store_columns_base.specs.declared.limits.TheConstants.{MOST_NUMBER}
-use Rattle.fab_mapping_base.specs.declared.limits.TheConstants.{LAST_UNIT}
+use Rattle.fab_store_columns_base.specs.Limits.{most_number}
+use Rattle.fab_mapping_base.specs.Limits.{last_unit}
 use Rattle.fab_store_tables.specs.UndoLines.{ShowsUndo, HasUnitInRange}
 use Rattle.fab_store_columns.specs.declared.meta_lines.MetaRow.{MetaRow}
 use Rattle.fab_store_columns.specs.declared.meta_lines.MetaRow.TheVariants as meta
@@ -83,7 +83,7 @@ IsInRange (address r) = Unit {0}
 IsInRange (holder r) = Unit {0}
 IsInRange (volume r) = IsCapacity r.bytes
 IsInRange (config_row r) = HasUnitInRange r
-IsInRange (plan r) = r.position ≤ MOST_NUMBER
-IsInRange (approval r) = r.revision ≤ MOST_NUMBER
+IsInRange (plan r) = r.position ≤ most_number
+IsInRange (approval r) = r.revision ≤ most_number
 IsInRange (undo r) = HasUnitInRange r.row
-IsInRange (path r) = r.path.unit ≤ LAST_UNIT
+IsInRange (path r) = r.path.unit ≤ last_unit

@@ -9,11 +9,14 @@ use Rattle.fab_store_load.specs.declared.fault.Table.{Table}
 use Rattle.fab_store_load.specs.declared.fault.Table.TheVariants as table
 use Rattle.fab_store_tables.specs.Columns.{meta_row}
 use Rattle.fab_store_tables.specs.Tables.{Tables, key_of}
-use Rattle.fab_store_tables.specs.declared.versions.TheConstants.{MOST_SCHEMA}
+
+-- the greatest number of a schema that settings can tell: it has 64 bits
+abbrev pub most_schema : ℕ
+most_schema = 18446744073709551615
 
 -- the line tells this schema
 abbrev pub TellsSchema : MetaColumns → ℕ → Type 0
-TellsSchema l n = (l.key ≡ codes "schema") × ShowsDecimal MOST_SCHEMA l.value n
+TellsSchema l n = (l.key ≡ codes "schema") × ShowsDecimal most_schema l.value n
 
 -- one of the lines does
 abbrev pub TellSchema : List MetaColumns → ℕ → Type 0

@@ -6,7 +6,7 @@ use Rattle.fab_world.specs.fab_store_load.Inventories.{AreAll, AreInventoryRows}
 use Rattle.fab_world.specs.fab_store_rows.declared.table_rows.CountRow.{CountRow}
 use Rattle.fab_world.specs.fab_store_rows.declared.table_rows.CountRow.TheVariants.{Schema, Revision}
 use Rattle.fab_world.specs.fab_store_rows.declared.table_rows.TableRows.{TableRows}
-use Rattle.fab_world.specs.fab_store_rows.declared.table_rows.TheConstants.{SCHEMA}
+use Rattle.fab_world.specs.fab_store_rows.Schemas.{present_schema}
 use Rattle.fab_store_world.specs.Paths.{ArePathRows}
 use Rattle.fab_reach_base.specs.Soundness.{HasSoundZonings}
 use Rattle.fab_store_world.specs.PlanRows.{ArePlans, ListInOrder}
@@ -15,7 +15,7 @@ use Rattle.fab_world.specs.Worlds.{WorldRows, records_of}
 
 -- the row tells the schema, or that there were so many changes
 abbrev pub IsCount : ℕ → CountRow → Type 0
-IsCount revision (Schema n) = n ≡ SCHEMA
+IsCount revision (Schema n) = n ≡ present_schema
 IsCount revision (Revision n) = n ≡ revision
 
 -- the rows of all tables but that of paths are those of the world, and no others

@@ -5,10 +5,9 @@ use Rattle.std.specs.Ordering.{ordering_then}
 use Rattle.fab_reach_base.specs.fab_lemmas.Lists.{IsListOf}
 use Rattle.fab_reach_base.specs.fab_names.Orders.{name_cmp}
 use Rattle.fab_reach_base.specs.Orders.{path_order}
-use Rattle.fab_reach_base.specs.Limits.{MoreThan, IsPathsFault}
+use Rattle.fab_reach_base.specs.Limits.{MoreThan, IsPathsFault, most_paths}
 use Rattle.fab_reach_base.specs.Reach.{Reaches, ReachesFrom}
 use Rattle.fab_reach_base.specs.declared.listing.PathsFault.{PathsFault}
-use Rattle.fab_reach_base.specs.declared.listing.TheConstants.{MOST_PATHS}
 use Rattle.fab_reach_base.specs.Records.{Records}
 use Rattle.fab_world.specs.fab_store_rows.declared.record_row.PathRow.{PathRow}
 use Rattle.fab_world.specs.fab_store_rows.contracts.record_row.PathRowOrd.TheImpl as rows
@@ -41,8 +40,8 @@ pub record ArePathChanges (before after : Records) (taken added : List PathRow) 
 
 -- the world has no more paths than there may be
 abbrev pub HasFewPaths : Records → Type 0
-HasFewPaths w = ¬ MoreThan MOST_PATHS (Reaches w)
+HasFewPaths w = ¬ MoreThan most_paths (Reaches w)
 
 -- why the rows of the world's paths are not listed
 abbrev pub PathsFail : Records → PathsFault → Type 0
-PathsFail w = IsPathsFault MOST_PATHS (Reaches w)
+PathsFail w = IsPathsFault most_paths (Reaches w)

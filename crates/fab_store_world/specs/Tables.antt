@@ -14,7 +14,7 @@ use Rattle.fab_world.specs.fab_store_rows.declared.record_row.PathRow.{PathRow}
 use Rattle.fab_world.specs.fab_store_rows.declared.table_rows.CountRow.{CountRow}
 use Rattle.fab_world.specs.fab_store_rows.declared.table_rows.CountRow.TheVariants.{Schema, Revision}
 use Rattle.fab_world.specs.fab_store_rows.declared.table_rows.TableRows.{TableRows}
-use Rattle.fab_world.specs.fab_store_rows.declared.table_rows.TheConstants.{SCHEMA}
+use Rattle.fab_world.specs.fab_store_rows.Schemas.{present_schema}
 use Rattle.fab_world.specs.fab_store_rows.RowOrder.{row_order}
 use Rattle.fab_world.specs.fab_store_rows.Standing.{IsKnown, Stands}
 use Rattle.fab_store_world.specs.Inventories.{entry_order, address_order, holder_order, volume_order}
@@ -28,7 +28,7 @@ use Rattle.fab_store_world.specs.declared.tables.Changes.{Changes}
 
 -- the row tells the schema, or how many changes there were
 abbrev pub IsCountRow : WorldRows → CountRow → Type 0
-IsCountRow w (Schema n) = n ≡ SCHEMA
+IsCountRow w (Schema n) = n ≡ present_schema
 IsCountRow w (Revision n) = n ≡ w.revision
 
 abbrev pub IsPortRow : WorldRows → PortEntry → Type 0

@@ -2,14 +2,14 @@
 ghost use Rattle.std.specs.Prelude.{◌≡◌, ◌↔◌, ℕ, All, Contains, IsTrue, MatchOption};
 ghost use Rattle.fab_world.specs.fab_store_load.Inventories.{AreAll};
 ghost use Rattle.fab_world.specs.fab_store_rows.declared.table_rows.CountRow.TheVariants.{Schema, Revision};
-ghost use Rattle.fab_world.specs.fab_store_rows.declared.table_rows.TheConstants.{SCHEMA};
+ghost use Rattle.fab_world.specs.fab_store_rows.Schemas.{present_schema};
 ghost use Rattle.fab_store_world.specs.OpenedTables.{IsCount};
 
 use fab_world::load::rows::{CountRow, SCHEMA};
 
 /// Whether the rows tell this schema of the tables.
 fn has_schema(rows: &[CountRow]) -> bool
-    ensures { IsTrue result ↔ Contains rows.now (Schema SCHEMA) }
+    ensures { IsTrue result ↔ Contains rows.now (Schema present_schema) }
 {
     rows.contains(&CountRow::Schema(SCHEMA))
 }

@@ -1,9 +1,8 @@
 //! The world from the rows of all tables.
 ghost use Rattle.std.specs.Prelude.{◌↔◌, IsTrue, IfOk, IfErr};
 ghost use Rattle.fab_world.specs.fab_store_load.Faults.{OfTable};
-ghost use Rattle.fab_reach_base.specs.Limits.{MoreThan};
+ghost use Rattle.fab_reach_base.specs.Limits.{MoreThan, most_paths};
 ghost use Rattle.fab_reach_base.specs.Reach.{Reaches};
-ghost use Rattle.fab_reach_base.specs.declared.listing.TheConstants.{MOST_PATHS};
 ghost use Rattle.fab_store_world.specs.Paths.{ArePathRows};
 ghost use Rattle.fab_store_world.specs.OpenedTables.{AreTableRows, HasNoWorld};
 ghost use Rattle.fab_world.specs.Soundness.{IsSound};
@@ -24,7 +23,7 @@ fn has_paths<A: Allocator + Copy>(
     world: &World<A>,
     rows: &[PathRow],
 ) -> Result<bool, AllocError>
-    ensures { IfOk result (λ has. ¬ MoreThan MOST_PATHS (Reaches (records_of world.now)) → IsTrue has ↔ ArePathRows (records_of world.now) rows.now) }
+    ensures { IfOk result (λ has. ¬ MoreThan most_paths (Reaches (records_of world.now)) → IsTrue has ↔ ArePathRows (records_of world.now) rows.now) }
 {
     match are_path_rows(alloc, &world.inventory, &world.config, rows) {
         Ok(are) => Ok(are),

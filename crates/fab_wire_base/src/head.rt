@@ -2,6 +2,7 @@
 
 ghost use Rattle.std.specs.Prelude.{◌≡◌, ◌==◌, length, if◌then◌else◌};
 ghost use Rattle.fab_wire_streams.specs.Counting.{inner_of, failures_of};
+ghost use Rattle.fab_wire_base.specs.Limits.{most_head, most_lines};
 ghost use Rattle.fab_wire_base.specs.Reading.{ReadsHead, IsParsed, failures_after_head};
 
 use fab_wire_streams::counted::Counted;
@@ -35,8 +36,8 @@ pub fn read_head<R: Read>(
     buf: &mut [u8],
     headers: &mut [HeaderSpan],
 ) -> HeadRead
-    requires room { length buf.old ≡ MOST_HEAD }
-    requires lines { length headers.old ≡ MOST_LINES }
+    requires room { length buf.old ≡ most_head }
+    requires lines { length headers.old ≡ most_lines }
     ensures head { ReadsHead (R.remaining (inner_of reader.old))
         (R.remaining (inner_of reader.new)) buf.new headers.new result }
     ensures count { failures_of reader.new ≡ failures_after_head result (failures_of reader.old) }
@@ -69,7 +70,7 @@ pub(crate) enum Parsed {
 
 /// Looks for a head in the bytes so far.
 pub(crate) fn parse_so_far(got: &[u8], headers: &mut [HeaderSpan]) -> Parsed
-    requires { length headers.old ≡ MOST_LINES }
+    requires { length headers.old ≡ most_lines }
     ensures { IsParsed got.now headers.new result }
 {
     match parse_request(got, headers) {

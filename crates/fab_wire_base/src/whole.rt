@@ -2,7 +2,7 @@
 
 ghost use Rattle.std.specs.Prelude.{◌≡◌, ◌≤◌, ◌<◌, ◌+◌, ◌++◌, length, IfSome, IfNone};
 ghost use Rattle.httparse.specs.Spans.{IsRequestOf, IsRequestWithin};
-ghost use Rattle.fab_wire_base.specs.Limits.{most_head, most_body};
+ghost use Rattle.fab_wire_base.specs.Limits.{most_head, most_lines, most_body};
 ghost use Rattle.fab_wire_base.specs.Whole.{IsWhole, Lacks};
 
 use crate::callers::Callers;
@@ -37,7 +37,7 @@ fn lacks_parted<C: Callers>(
 ) -> Option<usize>
     requires short { length got.now ≤ most_head }
     requires full { length got.now < most_head → length behind.now ≡ 0 }
-    requires lines { length headers.old ≡ MOST_LINES }
+    requires lines { length headers.old ≡ most_lines }
     ensures whole { IfNone result (IsWhole (C.knows_token callers.now) (got.now ++ behind.now)) }
     ensures lacks { IfSome result (Lacks (C.knows_token callers.now) (got.now ++ behind.now)) }
     ensures bound { IfSome result (λ size. (length (got.now ++ behind.now) < size) × (size ≤ most_head + most_body)) }

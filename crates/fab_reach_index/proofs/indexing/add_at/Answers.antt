@@ -1,6 +1,6 @@
 use Rattle.fab_zoning.specs.Edits.{IsIn}
 use Rattle.fab_zoning.proofs.SeenItems.{on_ok}
-use Rattle.fab_reach_index.proofs.Placed.{adds_one}
+use Rattle.fab_reach_base.proofs.Services.{adds_one}
 use Rattle.fab_reach_index.proofs.indexing.add_at.Goals as goal
 
 pub returns : goal.returns
