@@ -9,7 +9,7 @@ use Rattle.std.proofs.lemmas.Bool.{cases_lt}
 use Rattle.std.proofs.lemmas.Cmp.{upto}
 use Rattle.std.proofs.lemmas.Option.{slice_get_within}
 use Rattle.fab_wire_gathering.specs.Seats.{Seats, HasSeat, ComesFirst}
-use Rattle.fab_wire_gathering.specs.Seating.{nearer, earlier}
+use Rattle.fab_wire_gathering.specs.Inner.Seating.{nearer, earlier}
 use Rattle.fab_wire_gathering.specs.declared.guest.Guest.{Guest}
 
 module _ {K : Type 0} {R : K → K → Ordering} (total : IsTotalOrder R) (has : Guest → Option K) (seats : Seats) where

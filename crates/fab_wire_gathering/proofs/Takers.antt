@@ -5,8 +5,8 @@ use Rattle.std.proofs.Math.Seq.{drop-length}
 use Rattle.fab_wire_deadlines.specs.Deadlines.{end_time}
 use Rattle.fab_wire_gathering.specs.Guests.{given_up, given_up_stage}
 use Rattle.fab_wire_gathering.specs.Seats.{Seats, HasSeat, given_up_at, numbered_in, kept_at, kept_by, kept_in, takes_in, takes_until}
-use Rattle.fab_wire_gathering.specs.Takers.{takers_in}
-use Rattle.fab_wire_gathering.specs.Takers as takers
+use Rattle.fab_wire_gathering.specs.Inner.Takers.{takers_in}
+use Rattle.fab_wire_gathering.specs.Inner.Takers as takers
 use Rattle.fab_wire_gathering.specs.declared.guest.Guest.{Guest}
 use Rattle.fab_wire_gathering.specs.declared.guest.Stage.{Stage}
 use Rattle.fab_wire_gathering.specs.declared.guest.Stage.TheVariants.{Sends, Waits, Takes, Taken, Unsent, Told, Leaves, Gone}

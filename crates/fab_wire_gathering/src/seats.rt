@@ -3,7 +3,7 @@ ghost use Rattle.std.specs.Prelude.{◌≡◌, ◌*◌, nat_le};
 ghost use Rattle.std.specs.Option.{option_and_then};
 ghost use Rattle.std.specs.Time.{instant_nanos};
 ghost use Rattle.fab_wire_deadlines.specs.Deadlines.{end_after};
-ghost use Rattle.fab_wire_gathering.specs.Seating.{earlier};
+ghost use Rattle.fab_wire_gathering.specs.Inner.Seating.{earlier};
 ghost use Rattle.fab_wire_gathering.specs.Seats.{IsFirstSeat};
 
 use crate::guest::{Guest, Stage};

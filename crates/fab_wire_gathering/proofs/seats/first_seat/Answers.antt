@@ -1,6 +1,6 @@
 use Rattle.std.proofs.Common.{refl, sym, subst, ◌+◌}
 use Rattle.std.proofs.lemmas.Option.{slice_get_read}
-use Rattle.fab_wire_gathering.specs.Seating.{earlier}
+use Rattle.fab_wire_gathering.specs.Inner.Seating.{earlier}
 use Rattle.fab_wire_gathering.proofs.Seating.{SoFar, all_first, all_none, one_more}
 use Rattle.fab_wire_gathering.proofs.seats.first_seat.Goals as goal
 

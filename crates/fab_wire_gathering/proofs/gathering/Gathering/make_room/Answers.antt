@@ -1,7 +1,7 @@
 use Rattle.std.proofs.Common.{◌<◌, sym, subst, arith}
 use Rattle.fab_wire_deadlines.specs.Deadlines.{end_time}
 use Rattle.fab_wire_gathering.specs.Seats.{Seats, IsFirstSeat, KeepAnswers, takes_until}
-use Rattle.fab_wire_gathering.specs.Takers.{takers_in}
+use Rattle.fab_wire_gathering.specs.Inner.Takers.{takers_in}
 use Rattle.fab_wire_gathering.proofs.Taken.{keep_all, keep_given_up}
 use Rattle.fab_wire_gathering.proofs.Takers.{fewer_take, none_kept, takes}
 use Rattle.fab_wire_gathering.proofs.gathering.Gathering.make_room.Goals as goal

@@ -1,5 +1,5 @@
 use Rattle.fab_wire_gathering.specs.Seats.{KeepAnswers}
-use Rattle.fab_wire_gathering.specs.Takers.{takers_in}
+use Rattle.fab_wire_gathering.specs.Inner.Takers.{takers_in}
 use Rattle.fab_wire_gathering.proofs.gathering.Gathering.make_room.Given as goal
 
 abbrev pub invariant-loop-self : goal.invariant-loop-self

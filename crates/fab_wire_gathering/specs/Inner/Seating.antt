@@ -1,4 +1,4 @@
--- The first of the seats so far. No public contract names anything of this file.
+-- The first of the seats so far.
 use Rattle.std.specs.Prelude.{ℕ, Option, Some, None}
 use Rattle.std.specs.declared.cmp.Ordering.{Ordering}
 use Rattle.std.specs.declared.cmp.Ordering.TheVariants.{Less}

@@ -1,4 +1,4 @@
--- How many take their answers: the measure of a private loop. No public contract names anything of this file.
+-- How many take their answers: the measure of a loop.
 use Rattle.std.specs.Prelude.{ℕ, ◌+◌, [], ◌∷◌, Option, Some, None}
 use Rattle.fab_wire_gathering.specs.Seats.{Seats}
 use Rattle.fab_wire_gathering.specs.declared.guest.Guest.{Guest}
