@@ -1,5 +1,9 @@
 mod Seating
 mod Mapped
-mod Ways
 mod Taken
 mod Takers
+mod Rounds
+mod Each
+mod Ends
+mod Resting
+mod Order

@@ -9,7 +9,7 @@ use Rattle.std.proofs.lemmas.Bool.{cases_lt}
 use Rattle.std.proofs.lemmas.Cmp.{upto}
 use Rattle.std.proofs.lemmas.Option.{slice_get_within}
 use Rattle.fab_wire_gathering.specs.Seats.{Seats, HasSeat, ComesFirst}
-use Rattle.fab_wire_gathering.specs.Inner.Seating.{nearer, earlier}
+use Rattle.fab_wire_gathering.specs.Inner.Seating.{earlier_of, earlier}
 use Rattle.fab_wire_gathering.specs.declared.guest.Guest.{Guest}
 
 module _ {K : Type 0} {R : K → K → Ordering} (total : IsTotalOrder R) (has : Guest → Option K) (seats : Seats) where
@@ -106,7 +106,7 @@ module _ {K : Type 0} {R : K → K → Ordering} (total : IsTotalOrder R) (has :
       more_some guest is None so_far = leads_here guest is (λ q other y less seated have. let e : ◌≡◌ {A = Option K} None (Some y) = sym (so_far q other less seated) ∙ have in absurd cc)
       more_some guest is (Some first) so_far = by (R k first.1) refl
         where
-          by : (r : Ordering) → R k first.1 ≡ r → SoFar (n + 1) (nearer first n k r)
+          by : (r : Ordering) → R k first.1 ≡ r → SoFar (n + 1) (earlier_of first n k r)
           by Less e = leads_here guest is (λ q other y less seated have. upto total k first.1 y (less_upto k first.1 e) (so_far.least q other y less seated have))
           by Equal e = leads_on first so_far (not_less_upto k first.1 Equal e refl)
           by Greater e = leads_on first so_far (not_less_upto k first.1 Less e refl)

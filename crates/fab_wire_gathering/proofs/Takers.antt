@@ -61,7 +61,7 @@ stays_numbered : (was is : Stage) (number : ℕ) (guest : Guest) → (numbered_i
 stays_numbered Sends Waits number guest = refl
 stays_numbered was is number guest = refl
 
-given_up_takes_none : (waited : ℕ) (guest : Guest) → guest.stage ≡ Takes → takers.takes_in (Some (given_up_at waited guest)) ≡ 0
+given_up_takes_none : (waited : ℕ) (guest : Guest) → guest.stage ≡ Takes → takers.taker_in (Some (given_up_at waited guest)) ≡ 0
 given_up_takes_none waited guest is = ap takers.takes_at (stays_numbered guest.stage (given_up_stage guest.stage) waited (given_up guest)) ∙ given_up_in guest.stage is
 
 -- one less takes the answer
@@ -70,6 +70,6 @@ fewer_take [] place waited guest seated is = let e : ◌≡◌ {A = Option (Opti
 fewer_take (seat ∷ seats) zero waited guest seated is =
     let none = given_up_takes_none waited guest is in
     let same : seat ≡ Some guest = let e : ◌≡◌ {A = Option (Option Guest)} (Some seat) (Some (Some guest)) = seated in cc in
-    let one : takers.takes_in seat ≡ 1 = ap takers.takes_in same ∙ ap takers.takes_at is in
+    let one : takers.taker_in seat ≡ 1 = ap takers.taker_in same ∙ ap takers.takes_at is in
     omega (arith, none, one)
 fewer_take (seat ∷ seats) (suc place) waited guest seated is = let less = fewer_take seats place waited guest seated is in omega (arith, less)

@@ -1,5 +1,7 @@
 -- What is known of the request of a guest, and of its answer.
-use Rattle.std.specs.Prelude.{ℕ, ◌≡◌, List, Option, Some, None}
+use Rattle.std.specs.Prelude.{ℕ, zero, suc, ◌≡◌, ◌⊎◌, List, Option, Some, None, Bool, true, false, Vec}
+use Rattle.std.specs.declared.alloc.Global.{Global}
+use Rattle.fab_wire_deadlines.specs.declared.deadline.Deadline.{Deadline}
 use Rattle.fab_wire_gathering.specs.declared.guest.Ending.{Ending}
 use Rattle.fab_wire_gathering.specs.declared.guest.Ending.TheVariants as ending
 use Rattle.fab_wire_gathering.specs.declared.guest.Guest.{Guest}
@@ -43,3 +45,24 @@ given_up_ending other how = how
 
 abbrev pub given_up : Guest → Guest
 given_up guest = record guest { stage = given_up_stage guest.stage; ending = given_up_ending guest.stage guest.ending }
+
+-- whether something is still to come of one, or to be sent to it
+abbrev pub goes_on : Stage → Bool
+goes_on stage.Sends = true
+goes_on stage.Takes = true
+goes_on (stage.Leaves left) = true
+goes_on other = false
+
+-- one that is to take this answer of this number until the deadline, and has taken nothing of it
+abbrev pub answered : Vec ℕ Global → ℕ → Deadline → Guest → Guest
+answered answer number deadline guest = record guest { bytes = answer; sent = 0; number = number; deadline = deadline; stage = stage.Takes }
+
+-- one more piece is taken behind a request, of so many that are left to take
+abbrev pub one_taken : ℕ → Stage
+one_taken zero = stage.Gone
+one_taken (suc left) = stage.Leaves left
+
+-- one that has its answer: nothing came of it, or a piece, or it is gone; with others nothing is done
+abbrev pub TakesRest : Stage → Stage → Type 0
+TakesRest (stage.Leaves left) after = (after ≡ stage.Leaves left) ⊎ (after ≡ one_taken left) ⊎ (after ≡ stage.Gone)
+TakesRest other after = after ≡ other

@@ -2,4 +2,5 @@ pub mod Guests
 pub mod Pieces
 pub mod Seats
 pub mod Ends
+pub mod Rounds
 pub mod Inner

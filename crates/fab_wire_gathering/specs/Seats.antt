@@ -1,5 +1,5 @@
 -- The seats of those who are there, and which of them comes first.
-use Rattle.std.specs.Prelude.{ℕ, ◌≡◌, List, Option, Some, None, Bool, true, false, nat_le, min, ◌+◌, ◌-◌, ◌^◌, length, [], ◌∷◌, slice_get, if◌then◌else◌}
+use Rattle.std.specs.Prelude.{ℕ, ◌≡◌, List, Option, Some, None, Bool, true, false, nat_le, min, ◌+◌, ◌-◌, ◌^◌, ◌↔◌, length, [], ◌∷◌, slice_get, if◌then◌else◌}
 use Rattle.std.specs.declared.cmp.Ordering.{Ordering}
 use Rattle.std.specs.declared.time.Instant.{Instant}
 use Rattle.std.specs.Ordering.{is_gt}
@@ -19,6 +19,10 @@ Seats = List (Option Guest)
 -- this one has the seat of this place
 abbrev pub HasSeat : Seats → ℕ → Guest → Type 0
 HasSeat seats place guest = slice_get seats place ≡ Some (Some guest)
+
+-- how many connections are there at most
+abbrev pub most_guests : ℕ
+most_guests = 256
 
 -- ---- who comes first by what some of them have
 
@@ -60,7 +64,7 @@ leaves_in other end = None
 abbrev pub leaves_at : Guest → Option Instant
 leaves_at guest = leaves_in guest.stage (end_time guest.deadline)
 
--- when one is given up that takes its answer, of which some bytes are kept
+-- when one is given up that takes its answer
 abbrev pub takes_in : Stage → Instant → Option Instant
 takes_in Takes end = Some end
 takes_in other end = None
@@ -140,9 +144,9 @@ abbrev pub without_gone : Option Guest → Option Guest
 without_gone None = None
 without_gone (Some guest) = without_gone_in guest.stage guest
 
--- everybody keeps the seat
-abbrev pub KeepSeats : Seats → Seats → Type 0
-KeepSeats old new = (place : ℕ) (guest : Guest) → HasSeat old place guest → HasSeat new place guest
+-- everybody has the seat still, and nobody else has one
+abbrev pub SameSeats : Seats → Seats → Type 0
+SameSeats old new = (place : ℕ) (guest : Guest) → HasSeat old place guest ↔ HasSeat new place guest
 
 -- ---- numbers of those who wait
 
@@ -179,13 +183,3 @@ kept_in (seat ∷ seats) = kept_by seat + kept_in seats
 -- how many bytes are kept at most, between two turns: 64 MiB
 abbrev pub most_kept : ℕ
 most_kept = 67108864
-
--- ---- answers in their turns
-
--- everybody keeps the seat, the number and what was sent, or is to be
-abbrev pub KeepAnswers : Seats → Seats → Type 0
-KeepAnswers old new = (place : ℕ) (guest : Guest) → HasSeat old place guest → (after : Guest) × HasSeat new place after × (after.number ≡ guest.number) × (after.bytes ≡ guest.bytes)
-
--- somebody has this seat, with the answer of the turn of this number
-abbrev pub HasAnswer : Seats → ℕ → List ℕ → ℕ → Type 0
-HasAnswer seats place answer number = (guest : Guest) × HasSeat seats place guest × (guest.number ≡ number) × (guest.bytes.items ≡ answer)

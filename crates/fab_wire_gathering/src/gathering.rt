@@ -1,18 +1,24 @@
 //! Connections whose requests are gathered, and whose answers are sent, side by side.
-ghost use Rattle.std.specs.Prelude.{◌≡◌, ◌↔◌, ◌≤◌, ◌+◌, ◌-◌, ◌^◌, ℕ, min, All, Some, None, IsTrue, IfSome, IfNone, false, map, slice_get, slice_set};
+ghost use Rattle.std.specs.Prelude.{◌≡◌, ◌↔◌, ◌≤◌, ◌+◌, ◌-◌, ◌^◌, ℕ, min, All, Option, Some, None, IsTrue, IfSome, IfNone, length, map, nat_le, slice_get, slice_set};
 ghost use Rattle.std.specs.Duration.{as_nanos};
 ghost use Rattle.std.specs.Option.{option_map};
 ghost use Rattle.std.specs.Ordering.{nat_cmp};
 ghost use Rattle.std.specs.Time.{instant_nanos};
 ghost use Rattle.fab_wire_deadlines.specs.Deadlines.{end_after};
-ghost use Rattle.fab_wire_gathering.specs.Ends.{IsNextEnded, IsSeated, GivesUpSilent};
-ghost use Rattle.fab_wire_gathering.specs.Seats.{HasSeat, IsFirstSeat, turn_of, ended_of, leaves_at, takes_until, silent_since, ends_at, has_taken, dismissed, takers_given_up, without_gone, given_up_at, numbered_in, waited_in, most_waiting, most_kept, kept_by, kept_in, HasAnswer, KeepAnswers, KeepSeats};
+ghost use Rattle.fab_wire_gathering.specs.Ends.{HasNoPlace, IsSeated, IsFirstEnd, IsNextEnded, FreesLeaver, LeavesIf, GivesUpSilent, MakesWay, MakesRoom, IsHanded};
+ghost use Rattle.fab_wire_gathering.specs.Guests.{answered};
+ghost use Rattle.fab_wire_gathering.specs.Inner.Seating.{IsSooner};
+ghost use Rattle.fab_wire_gathering.specs.Rounds.{EachGoesOn, GoesOnSo, HasGoneOn, IsPutOff, IsSeenOff, IsTimed, KeepResting, NobodyIsLate};
+ghost use Rattle.fab_wire_gathering.specs.Seats.{HasSeat, IsFirstSeat, turn_of, ended_of, leaves_at, takes_until, silent_since, ends_at, has_taken, dismissed, takers_given_up, without_gone, given_up_at, numbered_in, waited_in, most_waiting, kept_by, kept_in, SameSeats};
 ghost use Rattle.fab_wire_gathering.specs.declared.guest.Guest.{Guest};
+ghost use Rattle.fab_wire_gathering.specs.declared.guest.Stage.{Stage};
 ghost use Rattle.fab_wire_gathering.specs.declared.guest.Stage.TheVariants as stage;
 
 use crate::framing::Framing;
 use crate::guest::{Ending, Guest, Stage};
-use crate::seats::{EndedTurns, Leavers, MOST_SILENCE, Silent, Takers, Turns, first_seat, later};
+use crate::seats::{
+    EndedTurns, Leavers, MOST_SILENCE, Silent, Takers, Turns, first_seat, has_come, later,
+};
 use fab_wire_deadlines::deadline::{Deadline, sooner};
 use mio::unix::SourceFd;
 use mio::{Events, Interest, Poll, Token};
@@ -114,6 +120,7 @@ fn go_on<F: Framing>(
     waited: &mut u64,
 )
     ensures numbered { guest.old.stage ≡ stage.Sends → guest.new.stage ≡ stage.Waits → (guest.new.number ≡ waited.old) × (waited.new ≡ min (waited.old + 1) (2 ^ 64 - 1)) }
+    ensures on { HasGoneOn guest.old guest.new }
 {
     let was = guest.stage();
     if guest.go_on(framing, piece, now) {
@@ -165,7 +172,8 @@ impl Gathering {
     /// A seat that is free, if there is one.
     fn free_place(&mut self) -> Option<usize>
         ensures free { IfSome result (λ place. slice_get self.new.seats.items place ≡ Some None) }
-        ensures keep { KeepSeats self.old.seats.items self.new.seats.items }
+        ensures none { IfNone result (HasNoPlace self.old.seats × (self.new.seats.items ≡ self.old.seats.items)) }
+        ensures same { SameSeats self.old.seats.items self.new.seats.items }
     {
         let free = self.seats.iter().position(|seat| seat.is_none());
         if free.is_some() {
@@ -197,8 +205,7 @@ impl Gathering {
         now: Instant,
         most: Duration,
     ) -> Seating
-        ensures at { IsSeated self.new.seats.items result }
-        ensures keep { KeepSeats self.old.seats.items self.new.seats.items }
+        ensures { IsSeated self.old.seats self.new.seats.items stream result }
     {
         let Some(place) = self.free_place() else {
             return Seating::Full(stream);
@@ -246,14 +253,11 @@ impl Gathering {
     /// When something is to be done, whatever the system reports. Where another connection waits for a
     /// seat, that is also when one has sent nothing for too long.
     fn next_end(&self, is_crowded: bool) -> Instant
-        ensures tried { instant_nanos result ≤ end_after (instant_nanos self.now.tried) most_waiting }
-        ensures each { (place : ℕ) (guest : Guest) → HasSeat self.now.seats.items place guest → instant_nanos result ≤ ends_at is_crowded guest }
+        ensures { IsFirstEnd is_crowded (instant_nanos self.now.tried) self.now.seats.items (instant_nanos result) }
     {
         let mut first = later(self.tried, MOST_WAITING);
         for seat in &self.seats {
-            if let Some(guest) = seat {
-                first = sooner(first, end_of(guest, is_crowded));
-            }
+            first = sooner_in(first, seat, is_crowded);
         }
         first
     }
@@ -263,8 +267,8 @@ impl Gathering {
     /// nothing for too long.
     pub fn time_to_wait(&self, now: Instant, is_crowded: bool) -> Duration
         ensures ready { (place : ℕ) (guest : Guest) (number : ℕ) → HasSeat self.now.seats.items place guest → turn_of guest ≡ Some number → as_nanos result ≡ 0 }
-        ensures tried { as_nanos result ≤ end_after (instant_nanos self.now.tried) most_waiting - instant_nanos now }
-        ensures each { (place : ℕ) (guest : Guest) → HasSeat self.now.seats.items place guest → as_nanos result ≤ ends_at is_crowded guest - instant_nanos now }
+        ensures waits { IsFirstSeat nat_cmp turn_of self.now.seats.items None
+            → (end : ℕ) × IsFirstEnd is_crowded (instant_nanos self.now.tried) self.now.seats.items end × (as_nanos result ≡ end - instant_nanos now) }
     {
         if self.waiting().is_some() {
             Duration::ZERO
@@ -287,28 +291,31 @@ impl Gathering {
 
     /// Goes on with all that is ready, and gives up those whose time is up. It says whether all were
     /// tried, as they are once in a second: so a report that got lost is no hang.
-    pub fn go_on<F: Framing>(&mut self, poll: &Poll, framing: &F, now: Instant) -> bool {
+    pub fn go_on<F: Framing>(&mut self, poll: &Poll, framing: &F, now: Instant) -> bool
+        ensures tried { result ≡ nat_le (end_after (instant_nanos self.old.tried) most_waiting) (instant_nanos now) }
+        ensures resting { KeepResting self.old.seats.items self.new.seats.items }
+        ensures late { NobodyIsLate (instant_nanos now) self.new.seats.items }
+    {
         self.go_on_with_ready(poll, framing, now);
-        let is_time = later(self.tried, MOST_WAITING) <= now;
-        if is_time {
-            self.tried = now;
-            self.go_on_with_all(poll, framing, now);
-        }
+        let are_tried = self.try_all(poll, framing, now);
         self.give_up_late(now);
         self.let_go();
-        is_time
+        are_tried
     }
 
     /// Goes on with those that were reported.
-    fn go_on_with_ready<F: Framing>(&mut self, poll: &Poll, framing: &F, now: Instant) {
+    fn go_on_with_ready<F: Framing>(&mut self, poll: &Poll, framing: &F, now: Instant)
+        ensures each { EachGoesOn HasGoneOn self.old.seats.items self.new.seats.items }
+        ensures tried { self.new.tried ≡ self.old.tried }
+    {
         for event in &self.events {
             let Token(place) = event.token();
-            if let Some(Some(guest)) = self.seats.get_mut(place) {
-                go_on(
+            if let Some(seat) = self.seats.get_mut(place) {
+                go_on_in(
                     poll,
                     framing,
                     place,
-                    guest,
+                    seat,
                     &mut self.piece,
                     now,
                     &mut self.waited,
@@ -317,37 +324,48 @@ impl Gathering {
         }
     }
 
+    /// Goes on with everybody, if it is a second since that was done. It says whether it is.
+    fn try_all<F: Framing>(&mut self, poll: &Poll, framing: &F, now: Instant) -> bool
+        ensures tried { result ≡ nat_le (end_after (instant_nanos self.old.tried) most_waiting) (instant_nanos now) }
+        ensures each { EachGoesOn HasGoneOn self.old.seats.items self.new.seats.items }
+    {
+        if !has_come(later(self.tried, MOST_WAITING), now) {
+            return false;
+        }
+        self.tried = now;
+        self.go_on_with_all(poll, framing, now);
+        true
+    }
+
     /// Goes on with everybody.
-    fn go_on_with_all<F: Framing>(&mut self, poll: &Poll, framing: &F, now: Instant) {
+    fn go_on_with_all<F: Framing>(&mut self, poll: &Poll, framing: &F, now: Instant)
+        ensures { EachGoesOn HasGoneOn self.old.seats.items self.new.seats.items }
+    {
         for (place, seat) in self.seats.iter_mut().enumerate() {
-            if let Some(guest) = seat {
-                go_on(
-                    poll,
-                    framing,
-                    place,
-                    guest,
-                    &mut self.piece,
-                    now,
-                    &mut self.waited,
-                );
-            }
+            go_on_in(
+                poll,
+                framing,
+                place,
+                seat,
+                &mut self.piece,
+                now,
+                &mut self.waited,
+            );
         }
     }
 
     /// Gives up those whose time is up.
-    fn give_up_late(&mut self, now: Instant) {
-        for seat in &mut self.seats {
-            if let Some(guest) = seat
-                && guest.is_late(now)
-            {
-                give_up(guest, &mut self.waited);
-            }
+    fn give_up_late(&mut self, now: Instant)
+        ensures { EachGoesOn (IsTimed (instant_nanos now)) self.old.seats.items self.new.seats.items }
+    {
+        for seat in self.seats.iter_mut() {
+            give_up_late_in(seat, now, &mut self.waited);
         }
     }
 
     /// Lets those go that are gone, and forgets the last seats that are free.
     fn let_go(&mut self)
-        ensures { KeepSeats (map without_gone self.old.seats.items) self.new.seats.items }
+        ensures { SameSeats (map without_gone self.old.seats.items) self.new.seats.items }
     {
         self.free_gone();
         self.forget_free();
@@ -364,7 +382,7 @@ impl Gathering {
 
     /// Forgets the last seats that are free.
     fn forget_free(&mut self)
-        ensures { KeepSeats self.old.seats.items self.new.seats.items }
+        ensures { SameSeats self.old.seats.items self.new.seats.items }
     {
         for _ in 0..self.seats.len() {
             match self.seats.last() {
@@ -378,8 +396,7 @@ impl Gathering {
     /// more goes, the first to be given up; or else the one that has sent nothing for the longest, if
     /// that is two seconds at least, is given up.
     pub fn make_way(&mut self, now: Instant)
-        ensures silent { IsFirstSeat ⟦<Instant as Ord>⟧.cmp leaves_at self.old.seats.items None
-            → GivesUpSilent ⟦<Instant as Ord>⟧.cmp (instant_nanos now) self.old.waited self.old.seats.items self.new.seats.items }
+        ensures { MakesWay ⟦<Instant as Ord>⟧.cmp (instant_nanos now) self.old.waited self.old.seats.items self.new.seats.items }
     {
         if !self.free_leaving() {
             self.give_up_silent(now);
@@ -389,18 +406,24 @@ impl Gathering {
     /// Lets one go that has its answer and sends nothing more, the first to be given up. It says whether
     /// there was one.
     fn free_leaving(&mut self) -> bool
-        ensures none { IsFirstSeat ⟦<Instant as Ord>⟧.cmp leaves_at self.old.seats.items None → (result ≡ false) × (self.new ≡ self.old) }
+        ensures free { FreesLeaver ⟦<Instant as Ord>⟧.cmp self.old.seats.items self.new.seats.items result }
+        ensures waited { self.new.waited ≡ self.old.waited }
     {
-        let Some(place) = self.leaving() else {
-            return false;
-        };
-        if let Some(seat) = self.seats.get_mut(place)
-            && is_quiet(seat, &mut self.piece)
-        {
-            *seat = None;
-            true
-        } else {
-            false
+        match self.leaving() {
+            Some(place) => self.free_quiet(place),
+            None => false,
+        }
+    }
+
+    /// Lets the one in a seat go that has its answer, if it sends nothing more. It says whether it does.
+    fn free_quiet(&mut self, place: usize) -> bool
+        ensures free { (guest : Guest) → HasSeat self.old.seats.items place guest
+            → (after : Option Guest) × LeavesIf result guest after × (self.new.seats.items ≡ slice_set self.old.seats.items place after) }
+        ensures waited { self.new.waited ≡ self.old.waited }
+    {
+        match self.seats.get_mut(place) {
+            Some(seat) => free_from_quiet(seat, &mut self.piece),
+            None => false,
         }
     }
 
@@ -438,11 +461,11 @@ impl Gathering {
     }
 
     /// Gives those who are there so much more time: nobody could go on meanwhile.
-    pub fn put_off(&mut self, by: Duration) {
-        for seat in &mut self.seats {
-            if let Some(guest) = seat {
-                guest.put_off(by);
-            }
+    pub fn put_off(&mut self, by: Duration)
+        ensures { EachGoesOn (IsPutOff (as_nanos by)) self.old.seats.items self.new.seats.items }
+    {
+        for seat in self.seats.iter_mut() {
+            put_off_in(seat, by);
         }
     }
 
@@ -457,8 +480,7 @@ impl Gathering {
         number: u64,
         deadline: Deadline,
     )
-        ensures answer { slice_get self.old.seats.items place ≡ Some None → HasAnswer self.new.seats.items place answer.items number }
-        ensures few { kept_in self.new.seats.items ≤ most_kept }
+        ensures { IsHanded ⟦<Instant as Ord>⟧.cmp self.old.seats.items self.new.seats.items place (answered answer number deadline guest) }
     {
         guest.answer(answer, number, deadline);
         begin_to_send(poll, place, &mut guest);
@@ -486,8 +508,7 @@ impl Gathering {
 
     /// Gives up the first to be given up, while too many bytes are kept.
     fn make_room(&mut self)
-        ensures few { kept_in self.new.seats.items ≤ most_kept }
-        ensures keep { KeepAnswers self.old.seats.items self.new.seats.items }
+        ensures { MakesRoom ⟦<Instant as Ord>⟧.cmp self.old.seats.items self.new.seats.items }
     {
         while self.kept() > MOST_KEPT {
             match self.taking() {
@@ -513,16 +534,11 @@ impl Gathering {
     }
 
     /// Sees off those of whom was told that they have their answers.
-    pub fn see_off(&mut self, poll: &Poll, now: Instant) {
+    pub fn see_off(&mut self, poll: &Poll, now: Instant)
+        ensures { EachGoesOn (IsSeenOff (instant_nanos now)) self.old.seats.items self.new.seats.items }
+    {
         for (place, seat) in self.seats.iter_mut().enumerate() {
-            if let Some(guest) = seat
-                && guest.stage() == Stage::Told
-            {
-                guest.leave(now);
-                if guest.take_rest(&mut self.piece) {
-                    watch_again(poll, place, guest.stream().as_raw_fd());
-                }
-            }
+            see_off_in(poll, place, seat, &mut self.piece, now);
         }
     }
 
@@ -542,6 +558,74 @@ impl Gathering {
         for seat in self.seats.iter_mut() {
             dismiss_from(seat);
         }
+    }
+}
+
+/// Goes on with the one in a seat, if there is one.
+fn go_on_in<F: Framing>(
+    poll: &Poll,
+    framing: &F,
+    place: usize,
+    seat: &mut Option<Guest>,
+    piece: &mut [u8],
+    now: Instant,
+    waited: &mut u64,
+)
+    ensures { GoesOnSo HasGoneOn seat.old seat.new }
+{
+    if let Some(guest) = seat {
+        go_on(poll, framing, place, guest, piece, now, waited);
+    }
+}
+
+/// Gives one up whose time is up.
+fn give_up_if_late(guest: &mut Guest, now: Instant, waited: &mut u64)
+    ensures { IsTimed (instant_nanos now) guest.old guest.new }
+{
+    if guest.is_late(now) {
+        give_up(guest, waited);
+    }
+}
+
+/// Gives up the one in a seat, if its time is up.
+fn give_up_late_in(seat: &mut Option<Guest>, now: Instant, waited: &mut u64)
+    ensures { GoesOnSo (IsTimed (instant_nanos now)) seat.old seat.new }
+{
+    if let Some(guest) = seat {
+        give_up_if_late(guest, now, waited);
+    }
+}
+
+/// Gives the one in a seat so much more time.
+fn put_off_in(seat: &mut Option<Guest>, by: Duration)
+    ensures { GoesOnSo (IsPutOff (as_nanos by)) seat.old seat.new }
+{
+    if let Some(guest) = seat {
+        guest.put_off(by);
+    }
+}
+
+/// Sees one off of whom was told that it has its answer.
+fn see_off(poll: &Poll, place: usize, guest: &mut Guest, piece: &mut [u8], now: Instant)
+    ensures { IsSeenOff (instant_nanos now) guest.old guest.new }
+{
+    match guest.stage() {
+        Stage::Told => {
+            guest.leave(now);
+            if guest.take_rest(piece) {
+                watch_again(poll, place, guest.stream().as_raw_fd());
+            }
+        }
+        _ => {}
+    }
+}
+
+/// Sees off the one in a seat, if it was told of it that it has its answer.
+fn see_off_in(poll: &Poll, place: usize, seat: &mut Option<Guest>, piece: &mut [u8], now: Instant)
+    ensures { GoesOnSo (IsSeenOff (instant_nanos now)) seat.old seat.new }
+{
+    if let Some(guest) = seat {
+        see_off(poll, place, guest, piece, now);
     }
 }
 
@@ -599,8 +683,8 @@ fn is_watched(poll: &Poll, place: usize, stream: &TcpStream) -> io::Result<()> {
 
 /// Sends what can be sent of an answer without waiting. Where its socket would wait, one is given up.
 fn begin_to_send(poll: &Poll, place: usize, guest: &mut Guest)
-    ensures bytes { guest.new.bytes ≡ guest.old.bytes }
-    ensures number { guest.new.number ≡ guest.old.number }
+    ensures rest { guest.old.stage ≡ stage.Takes → guest.new ≡ record guest.old { stage = guest.new.stage; sent = guest.new.sent } }
+    ensures whole { guest.old.stage ≡ stage.Takes → guest.new.stage ≡ stage.Taken → length guest.new.bytes.items ≤ guest.new.sent }
 {
     if guest.stream().set_nonblocking(true).is_err() {
         guest.give_up();
@@ -637,11 +721,30 @@ fn give_up_in(seat: &mut Option<Guest>, waited: &mut u64)
     }
 }
 
-/// Whether the one in a seat has its answer, and nothing more has come of it.
-fn is_quiet(seat: &mut Option<Guest>, piece: &mut [u8]) -> bool {
+/// Lets the one in a seat go that has its answer, if nothing more has come of it. It says whether it does.
+fn free_from_quiet(seat: &mut Option<Guest>, piece: &mut [u8]) -> bool
+    ensures { (guest : Guest) → seat.old ≡ Some guest → LeavesIf result guest seat.new }
+{
     match seat {
-        Some(guest) => !guest.take_rest(piece),
+        Some(guest) => {
+            if guest.take_rest(piece) {
+                false
+            } else {
+                *seat = None;
+                true
+            }
+        }
         None => false,
+    }
+}
+
+/// The sooner of an end and that of the one in a seat.
+fn sooner_in(first: Instant, seat: &Option<Guest>, is_crowded: bool) -> Instant
+    ensures { IsSooner is_crowded seat.now (instant_nanos first) (instant_nanos result) }
+{
+    match seat {
+        Some(guest) => sooner(first, end_of(guest, is_crowded)),
+        None => first,
     }
 }
 

@@ -4,7 +4,7 @@ ghost use Rattle.std.specs.Prelude.{◌≡◌, ◌≢◌, ◌++◌, ◌-◌, ◌
 ghost use Rattle.std.specs.Duration.{as_nanos};
 ghost use Rattle.std.specs.Time.{instant_nanos};
 ghost use Rattle.fab_wire_deadlines.specs.Deadlines.{end_of, end_time, end_after, seen_by};
-ghost use Rattle.fab_wire_gathering.specs.Guests.{most_lingering, most_first, WaitsSo, given_up};
+ghost use Rattle.fab_wire_gathering.specs.Guests.{most_lingering, most_first, WaitsSo, TakesRest, answered, given_up, goes_on};
 ghost use Rattle.fab_wire_gathering.specs.Seats.{told, kept_at};
 ghost use Rattle.fab_wire_gathering.specs.declared.guest.Ending.TheVariants as ending;
 ghost use Rattle.fab_wire_gathering.specs.declared.guest.Stage.TheVariants as stage;
@@ -82,6 +82,7 @@ impl Guest {
     /// A connection of which nothing has been read yet, at a reading of the clock. It is given up where
     /// its request is not there by the deadline.
     pub fn new(alloc: Global, stream: TcpStream, now: Instant, deadline: Deadline) -> Self
+        ensures stream { result.stream ≡ stream }
         ensures sends { result.stage ≡ stage.Sends }
         ensures none { result.bytes.items ≡ [] }
         ensures deadline { result.deadline ≡ deadline }
@@ -101,6 +102,7 @@ impl Guest {
 
     /// The same, whose request is not gathered: all of it is still to be read, in its turn.
     pub fn carried(alloc: Global, stream: TcpStream, now: Instant, deadline: Deadline) -> Self
+        ensures stream { result.stream ≡ stream }
         ensures waits { WaitsSo ending.Starved result }
         ensures deadline { result.deadline ≡ deadline }
     {
@@ -110,7 +112,9 @@ impl Guest {
     }
 
     /// Its socket.
-    pub fn stream(&self) -> &TcpStream {
+    pub fn stream(&self) -> &TcpStream
+        ensures { result.now ≡ self.now.stream }
+    {
         &self.stream
     }
 
@@ -151,8 +155,7 @@ impl Guest {
 
     /// When it is given up, on the monotonic clock.
     pub fn end(&self) -> Instant
-        ensures is { result ≡ end_time self.now.deadline }
-        ensures end { instant_nanos result ≡ end_of self.now.deadline }
+        ensures { result ≡ end_time self.now.deadline }
     {
         self.deadline.end()
     }
@@ -177,7 +180,8 @@ impl Guest {
 
     /// Gives it so much more time.
     pub fn put_off(&mut self, by: Duration)
-        ensures { end_of self.new.deadline ≡ end_after (end_of self.old.deadline) (as_nanos by) }
+        ensures end { end_of self.new.deadline ≡ end_after (end_of self.old.deadline) (as_nanos by) }
+        ensures rest { self.new ≡ record self.old { deadline = self.new.deadline } }
     {
         self.deadline.put_off(by);
     }
@@ -197,6 +201,8 @@ impl Guest {
     pub fn go_on<F: Framing>(&mut self, framing: &F, piece: &mut [u8], now: Instant) -> bool
         ensures whole { self.old.stage ≡ stage.Sends → WaitsSo ending.Whole self.new → F.is_whole framing.now self.new.bytes.items }
         ensures sent { self.old.stage ≡ stage.Takes → self.new.bytes ≡ self.old.bytes }
+        ensures stream { self.new.stream ≡ self.old.stream }
+        ensures rests { goes_on self.old.stage ≡ false → self.new ≡ self.old }
     {
         match self.stage {
             Stage::Sends => self.receive(framing, piece, now),
@@ -221,6 +227,7 @@ impl Guest {
     fn receive<F: Framing>(&mut self, framing: &F, piece: &mut [u8], now: Instant) -> bool
         ensures bytes { (more : List ℕ) × (self.new.bytes.items ≡ self.old.bytes.items ++ more) }
         ensures whole { self.old.stage ≡ stage.Sends → WaitsSo ending.Whole self.new → F.is_whole framing.now self.new.bytes.items }
+        ensures stream { self.new.stream ≡ self.old.stream }
     {
         for _ in 0..MOST_PIECES {
             let lacking = self.lacking();
@@ -246,6 +253,7 @@ impl Guest {
     fn starve(&mut self, piece: &mut [u8])
         ensures bytes { self.new.bytes ≡ self.old.bytes }
         ensures waits { (self.new ≡ self.old) ⊎ WaitsSo ending.Starved self.new }
+        ensures stream { self.new.stream ≡ self.old.stream }
     {
         match Went::of(self.stream.peek(room_in(piece, 1))) {
             Went::Waits => {}
@@ -258,6 +266,7 @@ impl Guest {
         ensures bytes { (self.new.bytes.items ≡ self.old.bytes.items ++ piece.now)
             ⊎ ((self.new.bytes.items ≡ self.old.bytes.items) × WaitsSo ending.Failed self.new) }
         ensures whole { self.old.stage ≡ stage.Sends → WaitsSo ending.Whole self.new → F.is_whole framing.now self.new.bytes.items }
+        ensures stream { self.new.stream ≡ self.old.stream }
     {
         self.heard = now;
         if self.bytes.extend_from_slice(piece).is_err() {
@@ -275,8 +284,7 @@ impl Guest {
 
     /// Sends what is left of the answer. It says whether something may be left that the socket takes.
     pub fn send(&mut self) -> bool
-        ensures bytes { self.new.bytes ≡ self.old.bytes }
-        ensures number { self.new.number ≡ self.old.number }
+        ensures rest { self.new ≡ record self.old { stage = self.new.stage; sent = self.new.sent } }
         ensures taken { self.old.stage ≡ stage.Takes → self.new.stage ≡ stage.Taken → length self.new.bytes.items ≤ self.new.sent }
     {
         for _ in 0..MOST_PIECES {
@@ -298,7 +306,10 @@ impl Guest {
     }
 
     /// Takes what comes behind the request of one that has its answer. It says whether something came.
-    pub fn take_rest(&mut self, piece: &mut [u8]) -> bool {
+    pub fn take_rest(&mut self, piece: &mut [u8]) -> bool
+        ensures rest { self.new ≡ record self.old { stage = self.new.stage } }
+        ensures stage { TakesRest self.old.stage self.new.stage }
+    {
         let Stage::Leaves(left) = self.stage else {
             return false;
         };
@@ -343,11 +354,7 @@ impl Guest {
 
     /// It has this answer now, in the turn of this number, and until the deadline to take it.
     pub fn answer(&mut self, answer: Vec<u8>, number: u64, deadline: Deadline)
-        ensures bytes { self.new.bytes ≡ answer }
-        ensures none { self.new.sent ≡ 0 }
-        ensures takes { self.new.stage ≡ stage.Takes }
-        ensures number { self.new.number ≡ number }
-        ensures deadline { self.new.deadline ≡ deadline }
+        ensures { self.new ≡ answered answer number deadline self.old }
     {
         self.bytes = answer;
         self.sent = 0;

@@ -3,11 +3,9 @@
 //!
 //! A connection that is there is a `Guest`. The `Gathering` has their seats, and goes on with those of
 //! which `mio` says that they are ready. What tells where a request ends is a `Framing`. A connection
-//! that is not gathered goes over a stream whose reads and writes end in time (`fab_wire_deadlines`);
-//! the request of a guest is read, and its answer written, by such a stream too (`exchange`).
+//! that is not gathered goes over a stream whose reads and writes end in time (`fab_wire_deadlines`).
 #![tactic(auto)]
 
-pub mod exchange;
 pub mod framing;
 pub mod gathering;
 pub mod guest;

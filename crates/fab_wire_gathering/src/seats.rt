@@ -24,7 +24,7 @@ pub(crate) fn later(time: Instant, seconds: u64) -> Instant
 }
 
 /// Whether a time is there, at a reading of the clock.
-fn is_there(time: Instant, now: Instant) -> bool
+pub(crate) fn has_come(time: Instant, now: Instant) -> bool
     ensures { result ≡ nat_le (instant_nanos time) (instant_nanos now) }
 {
     now.checked_duration_since(time).is_some()
@@ -126,7 +126,7 @@ impl Measure<Instant> for Silent {
     fn of(&self, guest: &Guest) -> Option<Instant> {
         match guest.stage() {
             Stage::Sends => {
-                if is_there(later(guest.heard(), MOST_SILENCE), self.now) {
+                if has_come(later(guest.heard(), MOST_SILENCE), self.now) {
                     Some(guest.heard())
                 } else {
                     None

@@ -11,6 +11,7 @@
 
 mod alone;
 pub mod connection;
+pub mod exchange;
 pub mod listener;
 mod room;
 pub mod server;

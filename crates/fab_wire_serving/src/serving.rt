@@ -18,11 +18,11 @@ ghost use Rattle.fab_wire_serving.specs.declared.connection.Came.{Came};
 
 use crate::alone::{begun, serve_alone};
 use crate::connection::{Came, serve_stream};
+use crate::exchange::{Answer, Request};
 use crate::room::{Room, Turn};
 use crate::{Forgets, Listens, Server};
 use fab_wire_deadlines::clock::Ticks;
 use fab_wire_deadlines::deadline::Deadline;
-use fab_wire_gathering::exchange::{Answer, Request};
 use fab_wire_gathering::guest::Guest;
 use fab_wire_log::pending::Line;
 use fab_wire_log::{Shown, Watch};

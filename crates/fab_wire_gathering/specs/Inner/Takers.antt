@@ -9,10 +9,10 @@ abbrev pub takes_at : Stage → ℕ
 takes_at Takes = 1
 takes_at other = 0
 
-abbrev pub takes_in : Option Guest → ℕ
-takes_in None = 0
-takes_in (Some guest) = takes_at guest.stage
+abbrev pub taker_in : Option Guest → ℕ
+taker_in None = 0
+taker_in (Some guest) = takes_at guest.stage
 
 abbrev pub takers_in : Seats → ℕ
 takers_in [] = 0
-takers_in (seat ∷ seats) = takes_in seat + takers_in seats
+takers_in (seat ∷ seats) = taker_in seat + takers_in seats

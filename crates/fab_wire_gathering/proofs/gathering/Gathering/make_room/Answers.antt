@@ -1,8 +1,9 @@
-use Rattle.std.proofs.Common.{◌<◌, sym, subst, arith}
+use Rattle.std.proofs.Common.{◌<◌, Some, refl, suc, set, sym, ap, ◌∙◌, subst, arith}
 use Rattle.fab_wire_deadlines.specs.Deadlines.{end_time}
-use Rattle.fab_wire_gathering.specs.Seats.{Seats, IsFirstSeat, KeepAnswers, takes_until}
+use Rattle.fab_wire_gathering.specs.Seats.{Seats, IsFirstSeat, kept_in, most_kept, takes_until}
 use Rattle.fab_wire_gathering.specs.Inner.Takers.{takers_in}
-use Rattle.fab_wire_gathering.proofs.Taken.{keep_all, keep_given_up}
+use Rattle.fab_wire_gathering.specs.declared.guest.Guest.{Guest}
+use Rattle.fab_wire_gathering.proofs.Taken.{keeps_number}
 use Rattle.fab_wire_gathering.proofs.Takers.{fewer_take, none_kept, takes}
 use Rattle.fab_wire_gathering.proofs.gathering.Gathering.make_room.Goals as goal
 
@@ -14,17 +15,22 @@ loop-self-smaller c =
     (fewer_take seats c.in-Some.place c.loop-self.self.waited first.guest first.seated (takes first.guest.stage (end_time first.guest.deadline) first.has first.is))
 
 pub loop-self-init : goal.loop-self-init
-loop-self-init c = keep_all c.args.self.now.seats.items
+loop-self-init c = (0, refl)
 
 pub loop-self-preserved : goal.loop-self-preserved
 loop-self-preserved c =
     let seats = c.loop-self.self.seats.items in
+    let place = c.in-Some.place in
     let first = subst (IsFirstSeat _ takes_until seats) c.in-Some.is c.taking.ensures in
-    subst (KeepAnswers c.args.self.now.seats.items) (sym (c.give_up_seat.ensures first.guest first.seated))
-    (keep_given_up c.args.self.now.seats.items seats c.in-Some.place c.loop-self.self.waited first.guest first.seated (takes first.guest.stage (end_time first.guest.deadline) first.has first.is) c.loop-self.invariant)
+    let takes_answer = takes first.guest.stage (end_time first.guest.deadline) first.has first.is in
+    let kept = c.kept.ensures in
+    let past = c.loop-self-test.true in
+    let many : most_kept < kept_in seats = omega (arith, kept, past) in
+    let given_up = c.give_up_seat.ensures first.guest first.seated ∙ ap (λ (g : Guest). set seats place (Some g)) (keeps_number c.loop-self.self.waited first.guest takes_answer) in
+    (suc c.loop-self.invariant.0, (seats, c.loop-self.invariant.1, many, place, first.guest, first, first.seated, given_up))
 
-pub returns-in-None-clause-few : goal.returns-in-None-clause-few
-returns-in-None-clause-few c =
+pub returns-in-None : goal.returns-in-None
+returns-in-None c =
     let seats = c.loop-self.self.seats.items in
     let none = none_kept seats (subst (IsFirstSeat _ takes_until seats) c.in-None.is c.taking.ensures) in
-    omega (arith, none)
+    record { count = c.loop-self.invariant.0; given_up = c.loop-self.invariant.1; few = omega (arith, none) }

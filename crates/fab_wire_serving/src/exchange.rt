@@ -4,8 +4,8 @@ ghost use Rattle.std.specs.Prelude.{◌≡◌, ◌++◌, ⊤, ℕ, take, drop, I
 ghost use Rattle.std.specs.Io.{WritesAtMost};
 ghost use Rattle.fab_wire_gathering.specs.Guests.{gathered_of, read_of};
 
-use crate::guest::{Ending, Guest};
 use fab_wire_deadlines::stream::{Sink, Source};
+use fab_wire_gathering::guest::{Ending, Guest};
 use std::alloc::Global;
 use std::cell::Cell;
 use std::io;

@@ -1,6 +1,6 @@
 use Rattle.std.proofs.Common.{rules, ◌≡◌, ◌∙◌, ◌++◌, ◌≤◌, ℕ, take, drop, length, arith, IfOk, Result, Ok, Err, List, [], sym}
 use Rattle.std.proofs.lemmas.List.{drop_all, length-take, nil_from_length}
-use Rattle.fab_wire_gathering.proofs.exchange.keep.Goals as goal
+use Rattle.fab_wire_serving.proofs.exchange.keep.Goals as goal
 
 -- where nothing was kept, nothing is
 none_kept : {E : Type 0} (r : Result ℕ E) (old new buf : List ℕ) → old ≡ [] → new ≡ [] → IfOk r (λ size. (sent : ℕ) × (new ≡ drop sent (old ++ take size buf)))

@@ -1,0 +1,21 @@
+use Rattle.std.proofs.Common.{◌<◌, ◌≤◌, List, length, sym, subst}
+use Rattle.std.specs.Time.{instant_nanos}
+use Rattle.fab_wire_gathering.specs.Rounds.{IsSeenOff}
+use Rattle.fab_wire_gathering.proofs.Each.{HaveGoneOn, all_written, next_one, none_yet}
+use Rattle.fab_wire_gathering.proofs.gathering.Gathering.see_off.Goals as goal
+
+pub loop-place-init : goal.loop-place-init
+loop-place-init c = subst (HaveGoneOn (IsSeenOff (instant_nanos c.args.now)) c.args.self.now.seats.items 0) (sym c.deref_mut-seat-items.ensures.value) (none_yet (IsSeenOff (instant_nanos c.args.now)) c.args.self.now.seats.items)
+
+pub loop-place-preserved : goal.loop-place-preserved
+loop-place-preserved c =
+    let now = c.loop-place.seat-items in
+    let i = c.loop-place.place in
+    let within = subst (λ n. i < n) (sym c.loop-place.auto.seat-items) c.loop-place-test.true in
+    next_one (IsSeenOff (instant_nanos c.args.now)) c.args.self.now.seats.items i now c.seat-item.result c.see_off_in.new.seat within c.loop-place.invariant c.see_off_in.ensures
+
+pub returns : goal.returns
+returns c =
+    let seats = c.args.self.now.seats in
+    let all = subst (λ (xs : List _). length xs ≤ c.loop-place.place) c.deref_mut-seat-items.ensures.value c.loop-place-test.false in
+    all_written (IsSeenOff (instant_nanos c.args.now)) seats.items c.loop-place.place seats.len c.loop-place.seat-items seats.ok.0 all c.loop-place.invariant
