@@ -1,338 +1,281 @@
 //! Tables that somebody else has changed.
 
-use crate::desks::{is_counted, open, refusals};
 use crate::lists::List;
-use crate::memory::{changed, tables_after, tables_then};
-use crate::migrations::EARLIER;
+use crate::migrations::{EARLIER, STORE};
+use crate::steps::{Call, Came, Step, play};
 use fab_names::Fabric;
-use fab_store::{OpenFault, Store, Table};
+use fab_store::{OpenFault, Table};
 use fab_test_machine::{ADA, Ask, FIRST_INITIATOR, FIRST_TARGET, NO_PORTS, See, Turn};
-use std::alloc::Global;
 use std::process::Abort;
 
-/// Why no desk is opened over the store. If the store refused a call, that is counted once, and nothing
-/// else is.
-fn fault_of<S: Store<Global>>(rt: &(impl Abort + AllocGlobal), store: S) -> Option<OpenFault> {
-    match open(rt, store) {
-        Ok(_) => None,
-        Err((fault, store)) => {
-            let is_refused = fault == OpenFault::Store;
-            assert!(rt; is_counted(0, refusals(&store), is_refused));
-            Some(fault)
-        }
-    }
-}
-
-/// Why no desk is opened over the tables after these lists and statements.
-fn fault_after(
-    rt: &(impl Abort + AllocGlobal),
-    before: &[List],
-    statements: &str,
-) -> Option<OpenFault> {
-    let tables = tables_after(rt, before, &[]);
-    fault_of(rt, changed(rt, tables, statements))
+/// What comes of loading the tables after the lists and the statements has to be this.
+fn is_loaded(rt: &(impl Abort + AllocGlobal), before: &[List], statements: &str, wanted: Came) {
+    let come = Step::Come(statements, Call::Load, wanted);
+    play(rt, before, &[Step::Change(statements), come]);
 }
 
 /// The first plan, and a second array.
 const PLANNED: &[List] = &[List::World, List::First, List::Moved];
 
-/// Statements, and the table that is named then: the first that is damaged, in the order of tables.
-const DAMAGED: &[(&str, Table)] = &[
-    ("DELETE FROM meta WHERE key = 'schema'", Table::Meta),
+/// A table, and statements after each of which it is named: it is the first that is damaged, in the order
+/// of tables. Of two tables, one behind the other, the first is named, though the fault of the second is one
+/// of form and that of the first is not.
+type Damage = (Table, &'static [&'static str]);
+
+const DAMAGED: &[Damage] = &[
     (
-        "UPDATE meta SET value = '02' WHERE key = 'schema'",
         Table::Meta,
+        &[
+            "DELETE FROM meta WHERE key = 'schema'",
+            "UPDATE meta SET value = '02' WHERE key = 'schema'",
+            "UPDATE meta SET value = '1000000001' WHERE key = 'revision'",
+            "DELETE FROM meta WHERE key = 'active.B'",
+            "UPDATE ports SET domain = 240 WHERE wwpn = '1000000000000001'; DELETE FROM meta WHERE key = 'active.B'",
+        ],
     ),
     (
-        "UPDATE meta SET value = '1000000001' WHERE key = 'revision'",
-        Table::Meta,
-    ),
-    ("DELETE FROM meta WHERE key = 'active.B'", Table::Meta),
-    (
-        "UPDATE ports SET domain = 240 WHERE wwpn = '1000000000000001'",
         Table::Ports,
+        &[
+            "UPDATE ports SET domain = 240 WHERE wwpn = '1000000000000001'",
+            "UPDATE ports SET holder = 'db9' WHERE wwpn = '1000000000000002'",
+            "DELETE FROM holders WHERE name = 'db2'",
+            "INSERT INTO zoning VALUES ('A', 'box', 'z2', 'z1'); UPDATE ports SET holder = 'db9' WHERE wwpn = '1000000000000002'",
+        ],
     ),
     (
-        "UPDATE ports SET holder = 'db9' WHERE wwpn = '1000000000000002'",
-        Table::Ports,
-    ),
-    ("DELETE FROM holders WHERE name = 'db2'", Table::Ports),
-    (
-        "UPDATE holders SET kind = 'printer' WHERE name = 'db2'",
         Table::Holders,
+        &[
+            "UPDATE holders SET kind = 'printer' WHERE name = 'db2'",
+            "UPDATE volumes SET bytes = 0 WHERE name = 'v2'; UPDATE holders SET kind = 'printer' WHERE name = 'db2'",
+        ],
     ),
     (
-        "UPDATE volumes SET array = 'db1' WHERE name = 'v2'",
         Table::Volumes,
+        &[
+            "UPDATE volumes SET array = 'db1' WHERE name = 'v2'",
+            "UPDATE volumes SET bytes = 0 WHERE name = 'v2'",
+            "UPDATE plans SET state = 'waiting'; UPDATE volumes SET array = 'db1' WHERE name = 'v2'",
+            "INSERT INTO zoning VALUES ('A', 'box', 'z2', 'z1'); UPDATE volumes SET array = 'db1' WHERE name = 'v2'",
+        ],
     ),
     (
-        "UPDATE volumes SET bytes = 0 WHERE name = 'v2'",
-        Table::Volumes,
-    ),
-    (
-        "INSERT INTO zoning VALUES ('A', 'alias', 'spare', 'alias=disk')",
         Table::Zoning,
+        &[
+            "INSERT INTO zoning VALUES ('A', 'alias', 'spare', 'alias=disk')",
+            "INSERT INTO zoning VALUES ('A', 'box', 'z2', 'z1')",
+            "INSERT INTO active VALUES ('C', 'z1', 'dp=1,1'); INSERT INTO zoning VALUES ('A', 'alias', 'spare', 'alias=disk')",
+        ],
     ),
     (
-        "INSERT INTO zoning VALUES ('A', 'box', 'z2', 'z1')",
-        Table::Zoning,
-    ),
-    (
-        "UPDATE meta SET value = '' WHERE key = 'active.A'",
         Table::Active,
+        &[
+            "UPDATE meta SET value = '' WHERE key = 'active.A'",
+            "INSERT INTO active VALUES ('C', 'z1', 'dp=1,1')",
+            "INSERT INTO groups VALUES ('host', 'hosts2', 'blue', 'arr1', 0); UPDATE meta SET value = '' WHERE key = 'active.A'",
+        ],
     ),
     (
-        "INSERT INTO active VALUES ('C', 'z1', 'dp=1,1')",
-        Table::Active,
-    ),
-    (
-        "UPDATE groups SET array = 'arr9' WHERE name = 'g1'",
         Table::Groups,
+        &[
+            "UPDATE groups SET array = 'arr9' WHERE name = 'g1'",
+            "INSERT INTO groups VALUES ('host', 'hosts2', 'blue', 'arr1', 0)",
+            "INSERT INTO group_parts VALUES ('storage', 'g1', 'unit', '16384', 'v2'); UPDATE groups SET array = 'arr9' WHERE name = 'g1'",
+        ],
     ),
     (
-        "INSERT INTO groups VALUES ('host', 'hosts2', 'blue', 'arr1', 0)",
-        Table::Groups,
-    ),
-    // The port is of another array than the storage group.
-    (
-        "INSERT INTO group_parts VALUES ('storage', 'g1', 'target', '5000000000000002', '')",
         Table::GroupParts,
+        &[
+            // The port is of another array than the storage group.
+            "INSERT INTO group_parts VALUES ('storage', 'g1', 'target', '5000000000000002', '')",
+            "INSERT INTO group_parts VALUES ('storage', 'g1', 'unit', '16384', 'v2')",
+            // Another volume at the same host, target and unit, of a group that is exposed.
+            "INSERT INTO groups VALUES ('storage', 'g2', 'blue', 'arr1', 1); INSERT INTO group_parts VALUES ('storage', 'g2', 'hostgroup', 'hosts1', ''), ('storage', 'g2', 'target', '5000000000000001', ''), ('storage', 'g2', 'unit', '0', 'v2')",
+            "UPDATE plans SET state = 'waiting'; INSERT INTO group_parts VALUES ('storage', 'g1', 'target', '5000000000000002', '')",
+        ],
     ),
     (
-        "INSERT INTO group_parts VALUES ('storage', 'g1', 'unit', '16384', 'v2')",
-        Table::GroupParts,
+        Table::Plans,
+        &[
+            "UPDATE plans SET position = 2",
+            "UPDATE plans SET state = 'waiting'",
+            // No printed form of a step.
+            "INSERT INTO plans VALUES ('p5', 'ada', 'deactivate A', 'staged', 0)",
+            "INSERT INTO approvals VALUES ('p1', '0', 6); UPDATE plans SET position = 2",
+        ],
     ),
-    ("UPDATE plans SET position = 2", Table::Plans),
-    ("UPDATE plans SET state = 'waiting'", Table::Plans),
     (
-        "INSERT INTO approvals VALUES ('p9', 'bob', 6)",
         Table::Approvals,
+        &[
+            "INSERT INTO approvals VALUES ('p9', 'bob', 6)",
+            "INSERT INTO approvals VALUES ('p1', '0', 6)",
+            "INSERT INTO undo VALUES ('p1', '=', 'meta active.A s1'); INSERT INTO approvals VALUES ('p9', 'bob', 6)",
+        ],
     ),
     (
-        "INSERT INTO approvals VALUES ('p1', '0', 6)",
-        Table::Approvals,
-    ),
-    (
-        "INSERT INTO undo VALUES ('p1', '=', 'meta active.A s1')",
         Table::Undo,
+        &[
+            "INSERT INTO undo VALUES ('p1', '=', 'meta active.A s1')",
+            "INSERT INTO undo VALUES ('p1', '-', 'meta active.A s1')",
+            "DELETE FROM undo WHERE entry = 'meta active.A s1'",
+            "DELETE FROM group_parts WHERE part = 'unit'",
+            // The same of a group that is not, which serves a host group that was not there before the plan.
+            "INSERT INTO groups VALUES ('storage', 'g2', 'blue', 'arr1', 0); INSERT INTO group_parts VALUES ('storage', 'g2', 'hostgroup', 'hosts1', ''), ('storage', 'g2', 'target', '5000000000000001', ''), ('storage', 'g2', 'unit', '0', 'v2')",
+            "UPDATE paths SET lun = 16384; DELETE FROM undo WHERE entry = 'meta active.A s1'",
+        ],
     ),
     (
-        "INSERT INTO undo VALUES ('p1', '-', 'meta active.A s1')",
-        Table::Undo,
-    ),
-    (
-        "DELETE FROM undo WHERE entry = 'meta active.A s1'",
-        Table::Undo,
-    ),
-    ("DELETE FROM group_parts WHERE part = 'unit'", Table::Undo),
-    (
-        "INSERT INTO paths VALUES ('db1', 'A', '1000000000000001', '5000000000000002', 'v1', 0)",
         Table::Paths,
-    ),
-    (
-        "INSERT INTO paths VALUES ('db1', 'A', '1000000000000001', '5000000000000001', 'v1', 16384)",
-        Table::Paths,
-    ),
-    ("DELETE FROM paths", Table::Paths),
-    (
-        "DELETE FROM paths; INSERT INTO approvals VALUES ('p9', 'bob', 6)",
-        Table::Approvals,
-    ),
-    (
-        "INSERT INTO zoning VALUES ('A', 'box', 'z2', 'z1'); UPDATE ports SET domain = 240 WHERE wwpn = '1000000000000001'",
-        Table::Ports,
-    ),
-    (
-        "INSERT INTO active VALUES ('C', 'z1', 'dp=1,1'); UPDATE holders SET kind = 'printer' WHERE name = 'db2'",
-        Table::Holders,
-    ),
-    (
-        "INSERT INTO zoning VALUES ('A', 'box', 'z2', 'z1'); UPDATE ports SET holder = 'db9' WHERE wwpn = '1000000000000002'",
-        Table::Ports,
-    ),
-    (
-        "UPDATE plans SET state = 'waiting'; UPDATE volumes SET array = 'db1' WHERE name = 'v2'",
-        Table::Volumes,
-    ),
-    // Another volume at the same host, target and unit: of a group that is exposed, and of one that is not,
-    // which serves a host group that was not there before the plan.
-    (
-        "INSERT INTO groups VALUES ('storage', 'g2', 'blue', 'arr1', 1); INSERT INTO group_parts VALUES ('storage', 'g2', 'hostgroup', 'hosts1', ''), ('storage', 'g2', 'target', '5000000000000001', ''), ('storage', 'g2', 'unit', '0', 'v2')",
-        Table::GroupParts,
-    ),
-    (
-        "INSERT INTO groups VALUES ('storage', 'g2', 'blue', 'arr1', 0); INSERT INTO group_parts VALUES ('storage', 'g2', 'hostgroup', 'hosts1', ''), ('storage', 'g2', 'target', '5000000000000001', ''), ('storage', 'g2', 'unit', '0', 'v2')",
-        Table::Undo,
-    ),
-    // No printed forms of steps.
-    (
-        "INSERT INTO plans VALUES ('p5', 'ada', 'deactivate A', 'staged', 0)",
-        Table::Plans,
-    ),
-    (
-        "INSERT INTO plans VALUES ('p5', 'ada', 'deactivate  A\n', 'staged', 0)",
-        Table::Plans,
-    ),
-    (
-        "INSERT INTO plans VALUES ('p5', 'ada', '', 'staged', 0)",
-        Table::Plans,
-    ),
-    // The path is another host's.
-    ("UPDATE paths SET host = 'db2'", Table::Paths),
-    // Of two tables, one behind the other, the first is named, though the fault of the second is one of
-    // form and that of the first is not.
-    (
-        "UPDATE ports SET domain = 240 WHERE wwpn = '1000000000000001'; DELETE FROM meta WHERE key = 'active.B'",
-        Table::Meta,
-    ),
-    (
-        "UPDATE volumes SET bytes = 0 WHERE name = 'v2'; UPDATE holders SET kind = 'printer' WHERE name = 'db2'",
-        Table::Holders,
-    ),
-    (
-        "INSERT INTO zoning VALUES ('A', 'box', 'z2', 'z1'); UPDATE volumes SET array = 'db1' WHERE name = 'v2'",
-        Table::Volumes,
-    ),
-    (
-        "INSERT INTO active VALUES ('C', 'z1', 'dp=1,1'); INSERT INTO zoning VALUES ('A', 'alias', 'spare', 'alias=disk')",
-        Table::Zoning,
-    ),
-    (
-        "INSERT INTO groups VALUES ('host', 'hosts2', 'blue', 'arr1', 0); UPDATE meta SET value = '' WHERE key = 'active.A'",
-        Table::Active,
-    ),
-    (
-        "INSERT INTO group_parts VALUES ('storage', 'g1', 'unit', '16384', 'v2'); UPDATE groups SET array = 'arr9' WHERE name = 'g1'",
-        Table::Groups,
-    ),
-    (
-        "UPDATE plans SET state = 'waiting'; INSERT INTO group_parts VALUES ('storage', 'g1', 'target', '5000000000000002', '')",
-        Table::GroupParts,
-    ),
-    (
-        "INSERT INTO approvals VALUES ('p1', '0', 6); UPDATE plans SET position = 2",
-        Table::Plans,
-    ),
-    (
-        "INSERT INTO undo VALUES ('p1', '=', 'meta active.A s1'); INSERT INTO approvals VALUES ('p9', 'bob', 6)",
-        Table::Approvals,
-    ),
-    (
-        "UPDATE paths SET lun = 16384; DELETE FROM undo WHERE entry = 'meta active.A s1'",
-        Table::Undo,
+        &[
+            "INSERT INTO paths VALUES ('db1', 'A', '1000000000000001', '5000000000000002', 'v1', 0)",
+            "INSERT INTO paths VALUES ('db1', 'A', '1000000000000001', '5000000000000001', 'v1', 16384)",
+            "DELETE FROM paths",
+            // The path is another host's.
+            "UPDATE paths SET host = 'db2'",
+        ],
     ),
 ];
 
 /// The first plan, and a zone of the address of the first initiator.
 const ADDRESSED: &[List] = &[List::World, List::First, List::Addressed];
 
-/// The same of rows of addresses: statements, and the table that is named then.
-const ADDRESSES: &[(&str, Table)] = &[
-    ("UPDATE addresses SET address = '0x0101'", Table::Addresses),
+/// The same of rows of addresses.
+const ADDRESSES: &[Damage] = &[
     (
-        "UPDATE addresses SET address = '0x010100'",
-        Table::Addresses,
-    ),
-    ("UPDATE addresses SET address = '0101AB'", Table::Addresses),
-    ("UPDATE addresses SET address = 'f00000'", Table::Addresses),
-    ("UPDATE addresses SET address = '00ffff'", Table::Addresses),
-    ("UPDATE addresses SET address = ''", Table::Addresses),
-    ("UPDATE addresses SET address = '01010'", Table::Addresses),
-    (
-        "UPDATE addresses SET wwpn = '10:00:00:00:00:00:00:01'",
-        Table::Addresses,
-    ),
-    (
-        "UPDATE addresses SET wwpn = '100000000000000G'",
-        Table::Addresses,
-    ),
-    // No such port is known.
-    (
-        "UPDATE addresses SET wwpn = '1000000000000009'",
-        Table::Addresses,
-    ),
-    (
-        "INSERT INTO addresses VALUES ('5000000000000009', '010200')",
-        Table::Addresses,
-    ),
-    // The port is known and logged in nowhere.
-    (
-        "UPDATE ports SET fabric = NULL, domain = NULL, slot = NULL WHERE wwpn = '1000000000000003'; INSERT INTO addresses VALUES ('1000000000000003', '010200')",
-        Table::Addresses,
-    ),
-    (
-        "UPDATE ports SET fabric = NULL, domain = NULL, slot = NULL WHERE wwpn = '1000000000000001'",
-        Table::Addresses,
-    ),
-    // The path is by the address.
-    ("UPDATE addresses SET address = '010101'", Table::Paths),
-    ("DELETE FROM addresses", Table::Paths),
-    (
-        "UPDATE addresses SET address = 'x'; UPDATE ports SET wwnn = 'x' WHERE wwpn = '1000000000000001'",
         Table::Ports,
+        &[
+            "UPDATE addresses SET address = 'x'; UPDATE ports SET wwnn = 'x' WHERE wwpn = '1000000000000001'",
+        ],
     ),
     (
-        "UPDATE addresses SET address = 'x'; UPDATE holders SET kind = 'x'",
         Table::Addresses,
+        &[
+            "UPDATE addresses SET address = '0x010100'",
+            "UPDATE addresses SET address = 'f00000'",
+            "UPDATE addresses SET wwpn = '10:00:00:00:00:00:00:01'",
+            // No such port is known.
+            "UPDATE addresses SET wwpn = '1000000000000009'",
+            "INSERT INTO addresses VALUES ('5000000000000009', '010200')",
+            // The port is known and logged in nowhere.
+            "UPDATE ports SET fabric = NULL, domain = NULL, slot = NULL WHERE wwpn = '1000000000000003'; INSERT INTO addresses VALUES ('1000000000000003', '010200')",
+            "UPDATE ports SET fabric = NULL, domain = NULL, slot = NULL WHERE wwpn = '1000000000000001'",
+            "UPDATE addresses SET address = 'x'; UPDATE holders SET kind = 'x'",
+        ],
+    ),
+    (
+        Table::Paths,
+        &[
+            // The path is by the address.
+            "UPDATE addresses SET address = '010101'",
+            "DELETE FROM addresses",
+        ],
     ),
 ];
 
-/// Whether the table is named after the lists and the statements.
-fn is_named(
-    rt: &(impl Abort + AllocGlobal),
-    before: &[List],
-    statements: &str,
-    table: Table,
-) -> bool {
-    fault_after(rt, before, statements) == Some(OpenFault::Damaged(table))
-}
-
-/// Ends the test where another table is named, or none.
-fn are_named(rt: &(impl Abort + AllocGlobal), before: &[List], cases: &[(&str, Table)]) {
-    for (place, case) in cases.iter().enumerate() {
-        assert!(rt; is_named(rt, before, case.0, case.1), "{place}");
+/// Ends the test where another table is named after one of these, or none.
+fn are_named(rt: &(impl Abort + AllocGlobal), before: &[List], damage: &Damage) {
+    for statements in damage.1 {
+        is_loaded(rt, before, statements, Err(OpenFault::Damaged(damage.0)));
     }
 }
 
 #[test]
 fn damage_is_told(rt: HostRuntime) {
-    are_named(&rt, PLANNED, DAMAGED);
-    are_named(&rt, ADDRESSED, ADDRESSES);
+    for damage in DAMAGED {
+        are_named(&rt, PLANNED, damage);
+    }
+    for damage in ADDRESSES {
+        are_named(&rt, ADDRESSED, damage);
+    }
 }
 
-/// Statements, and why else no desk is opened then, or that one is.
-const OTHERS: &[(&str, Option<OpenFault>)] = &[
+/// A plan with two approvals.
+const SIGNED: &[List] = &[List::World, List::Staged, List::Signed];
+
+/// What comes before, statements, and whether the world that is loaded then is that of before, or why none
+/// is.
+const OTHERS: &[(&[List], &str, Came)] = &[
+    (ADDRESSED, "", Ok(true)),
     (
+        ADDRESSED,
         "UPDATE meta SET value = '3' WHERE key = 'schema'",
-        Some(OpenFault::NewerSchema(3)),
+        Err(OpenFault::NewerSchema(3)),
     ),
     (
+        ADDRESSED,
         "UPDATE meta SET value = '1' WHERE key = 'schema'",
-        Some(OpenFault::OldSchema(1)),
+        Err(OpenFault::OldSchema(1)),
     ),
-    (EARLIER, Some(OpenFault::OldSchema(1))),
-    ("DROP TABLE paths", Some(OpenFault::Store)),
-    ("DROP TABLE addresses", Some(OpenFault::Store)),
-    ("CREATE TABLE extra (x TEXT) STRICT", Some(OpenFault::Store)),
+    (ADDRESSED, EARLIER, Err(OpenFault::OldSchema(1))),
+    (ADDRESSED, "DROP TABLE paths", STORE),
+    (ADDRESSED, "DROP TABLE addresses", STORE),
+    (ADDRESSED, "CREATE TABLE extra (x TEXT) STRICT", STORE),
     (
+        ADDRESSED,
         "INSERT INTO addresses VALUES ('1000000000000002', '010100')",
-        None,
+        Ok(false),
     ),
     // In another order than that of ports.
     (
+        ADDRESSED,
         "DELETE FROM addresses; INSERT INTO addresses VALUES ('5000000000000002', '010300'), ('1000000000000001', '010100')",
-        None,
+        Ok(false),
     ),
     (
+        ADDRESSED,
+        "INSERT INTO holders VALUES ('db9', 'host', 'blue')",
+        Ok(false),
+    ),
+    (
+        ADDRESSED,
+        "INSERT INTO volumes VALUES ('v9', 'arr1', 'blue', 1)",
+        Ok(false),
+    ),
+    (
+        ADDRESSED,
+        "DELETE FROM volumes WHERE name = 'v2'",
+        Ok(false),
+    ),
+    (
+        ADDRESSED,
+        "UPDATE meta SET value = 'permit' WHERE key = 'default.B'",
+        Ok(false),
+    ),
+    (
+        SIGNED,
+        "UPDATE meta SET value = '1000000000' WHERE key = 'revision'",
+        Ok(false),
+    ),
+    (
+        SIGNED,
         "INSERT INTO plans VALUES ('p5', 'ada', 'deactivate A\n', 'staged', 0)",
-        None,
+        Ok(false),
+    ),
+    (
+        SIGNED,
+        "DELETE FROM approvals; DELETE FROM plans",
+        Ok(false),
+    ),
+    (
+        SIGNED,
+        "UPDATE plans SET text = 'default B permit\n'",
+        Ok(false),
+    ),
+    (
+        SIGNED,
+        "UPDATE approvals SET revision = 5 WHERE caller = 'bob'",
+        Ok(false),
+    ),
+    (
+        SIGNED,
+        "DELETE FROM approvals WHERE caller = 'bob'",
+        Ok(false),
     ),
 ];
 
 #[test]
-fn other_faults_are_told(rt: HostRuntime) {
-    for (statements, fault) in OTHERS {
-        assert!(rt; fault_after(&rt, ADDRESSED, statements) == *fault);
+fn other_rows_are_another_world_or_none(rt: HostRuntime) {
+    for &(before, statements, wanted) in OTHERS {
+        is_loaded(&rt, before, statements, wanted);
     }
 }
 
@@ -372,15 +315,10 @@ const SHOWN: &[Turn] = &[
 /// Statements, and what a desk answers then.
 const ANSWERED: &[(&str, &[Turn])] = &[(GREATEST, LAST), (SHARED, SHOWN)];
 
-/// Ends the test where a desk over the tables after the statements answers otherwise.
-fn serve(rt: &(impl Abort + AllocGlobal), statements: &str, turns: &[Turn]) {
-    let tables = tables_after(rt, ADDRESSED, &[]);
-    let _tables = tables_then(rt, changed(rt, tables, statements), &[], turns);
-}
-
 #[test]
 fn changed_tables_are_served(rt: HostRuntime) {
-    for (statements, turns) in ANSWERED {
-        serve(&rt, statements, turns);
+    for &(statements, turns) in ANSWERED {
+        let steps = &[Step::Change(statements), Step::Ask(turns)];
+        play(&rt, ADDRESSED, steps);
     }
 }

@@ -1,6 +1,5 @@
 //! Desks over a store, and what they answer.
 
-use crate::lists::{List, all_turns};
 use fab_desk::Desk;
 use fab_desk_base::Reply;
 use fab_reach::IndexBook;
@@ -120,16 +119,10 @@ pub fn ask_all<S: Store<Global>>(
     }
 }
 
-/// The store again, after a desk over it has answered the lists, and then the turns, as they say.
-pub fn store_after<S: Store<Global>>(
-    rt: &(impl Abort + AllocGlobal),
-    store: S,
-    before: &[List],
-    turns: &[Turn],
-) -> S {
-    let turns = all_turns(rt, before, turns);
+/// The store, after a desk over it has answered the turns as they say.
+pub fn asked<S: Store<Global>>(rt: &(impl Abort + AllocGlobal), store: S, turns: &[Turn]) -> S {
     let mut desk = opened(rt, store);
-    ask_all(rt, &mut desk, turns.as_slice());
+    ask_all(rt, &mut desk, turns);
     closed(rt, desk)
 }
 

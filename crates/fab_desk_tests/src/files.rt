@@ -1,8 +1,9 @@
 //! The tables of a desk in files.
 
 use crate::desks::{play, tables_of};
+use crate::migrations::EARLIER;
 use crate::worlds::{are_after, found};
-use fab_store::{SqlStore, Store};
+use fab_store::{OpenFault, Store};
 use fab_test_machine::Turn;
 use sqlite::{Alter, Connection, FileStore, Files, Options};
 use sqlite_disk::Disk;
@@ -10,7 +11,7 @@ use std::alloc::Global;
 use std::process::Abort;
 
 /// A connection to the files, or what is left of them where they can not be opened.
-pub fn connect<D: Disk + Drop>(
+fn connect<D: Disk + Drop>(
     alloc: Global,
     files: Files<D>,
 ) -> Result<Connection<FileStore<D>>, Files<D>> {
@@ -25,115 +26,106 @@ pub fn connect<D: Disk + Drop>(
     }
 }
 
-/// After how many turns the tables stand, after so many were answered.
-fn found_in<S: Store<Global>>(
-    rt: &(impl Abort + AllocGlobal),
-    tables: &mut S,
-    turns: &[Turn],
-    count: Option<usize>,
-) -> usize {
-    match count {
-        Some(count) => found(rt, tables, turns, count),
-        None => {
-            assert!(rt; are_after(rt, tables, turns, 0));
-            0
-        }
-    }
-}
-
-/// Has a desk over the tables answer the turns behind those after which they stand.
-fn serve<S: Store<Global>>(
-    rt: &(impl Abort + AllocGlobal),
-    tables: S,
-    turns: &[Turn],
-    count: usize,
-) -> S {
-    let rest = turns.get(count..).unwrap_or(&[]);
-    let (played, mut tables) = play(rt, tables, rest);
-    assert_eq!(rt; played, rest.len());
-    assert!(rt; are_after(rt, &mut tables, turns, turns.len()));
-    tables
-}
-
 /// What is done with tables.
 #[derive(Clone, Copy)]
 pub enum Work {
-    /// They are made, and a desk over them answers the turns.
+    /// A desk over them answers the turns: how many.
     Play,
+    /// The same. Then they are made tables of schema 1.
+    PlayEarlier,
     /// They are looked at, after so many turns were answered: they stand after these or one more. Then a desk
     /// over them answers the rest.
-    Look(Option<usize>),
+    Look(usize),
+    /// They are brought to the present schema: 1 where a migration tells that it changed them, and 0 where it
+    /// is refused.
+    Migrate,
+    /// They are looked at, after a migration told this of them: they are of schema 1 or of the present one,
+    /// and another migration ends in that. They stand after all turns.
+    LookMigrated(usize),
 }
 
-/// Whether the tables are there. New ones are made, and so are others that were not made before.
-fn are_made<S: Alter + Drop>(tables: &mut SqlStore<S>, work: Work) -> bool {
-    match work {
-        Work::Play => tables.init().is_ok(),
-        Work::Look(None) => {
-            let _are_new = tables.init();
-            true
-        }
-        Work::Look(Some(_)) => true,
-    }
-}
-
-/// How many turns a desk over the tables answers, if they were made, with the tables.
-fn play_made<S: Store<Global>>(
-    rt: &(impl Abort + AllocGlobal),
-    tables: S,
-    is_made: bool,
-    turns: &[Turn],
-) -> (Option<usize>, S) {
-    if !is_made {
-        return (None, tables);
-    }
-    let (count, tables) = play(rt, tables, turns);
-    (Some(count), tables)
-}
-
-/// After how many turns the tables stand, after so many were answered, with the tables after the others.
+/// Looks at the tables, after so many turns were answered, and has the rest answered.
 fn look<S: Store<Global>>(
     rt: &(impl Abort + AllocGlobal),
     tables: S,
     turns: &[Turn],
-    count: Option<usize>,
-) -> (Option<usize>, S) {
+    count: usize,
+) -> (usize, S) {
     let mut tables = tables;
-    let stand = found_in(rt, &mut tables, turns, count);
-    (Some(stand), serve(rt, tables, turns, stand))
+    let stand = found(rt, &mut tables, turns, count);
+    let rest = turns.get(stand..).unwrap_or(&[]);
+    let (played, mut tables) = play(rt, tables, rest);
+    assert_eq!(rt; played, rest.len());
+    assert!(rt; are_after(rt, &mut tables, turns));
+    (stand, tables)
 }
 
-/// Does the work with the tables: how many turns were answered, or after how many the tables stand, with
-/// the tables.
-fn work_with<S: Store<Global>>(
-    rt: &(impl Abort + AllocGlobal),
-    tables: S,
-    is_made: bool,
-    turns: &[Turn],
-    work: Work,
-) -> (Option<usize>, S) {
-    match work {
-        Work::Play => play_made(rt, tables, is_made, turns),
-        Work::Look(count) => look(rt, tables, turns, count),
+/// What a migration tells: 1 where it changed the tables, and 0 where it is refused.
+fn migrate<S: Store<Global>>(rt: &impl Abort, tables: &mut S) -> usize {
+    match Store::<Global>::migrate(tables) {
+        Ok(true) => 1,
+        Err(OpenFault::Store) => 0,
+        _ => panic!(rt; "migration"),
     }
 }
 
-/// The same with the tables of a connection, and what that was over.
+/// Looks at the tables, after a migration told this of them.
+fn look_migrated<S: Store<Global>>(
+    rt: &(impl Abort + AllocGlobal),
+    tables: &mut S,
+    turns: &[Turn],
+    told: usize,
+) {
+    let is_left = matches!(tables.load(rt.alloc()), Err(OpenFault::OldSchema(1)));
+    assert!(rt; !is_left || told == 0);
+    assert!(rt; Store::<Global>::migrate(tables) == Ok(is_left));
+    assert!(rt; are_after(rt, tables, turns));
+}
+
+/// Does the work with the tables, which are given back.
+fn work_with<S: Store<Global>>(
+    rt: &(impl Abort + AllocGlobal),
+    tables: S,
+    turns: &[Turn],
+    work: Work,
+) -> (usize, S) {
+    let mut tables = tables;
+    match work {
+        Work::Play | Work::PlayEarlier => play(rt, tables, turns),
+        Work::Look(count) => look(rt, tables, turns, count),
+        Work::Migrate => (migrate(rt, &mut tables), tables),
+        Work::LookMigrated(told) => {
+            look_migrated(rt, &mut tables, turns, told);
+            (told, tables)
+        }
+    }
+}
+
+/// What a connection was over after the work.
+fn left<S: Alter + Drop>(rt: &impl Abort, conn: Connection<S>, work: Work) -> S {
+    let mut conn = conn;
+    if matches!(work, Work::PlayEarlier) {
+        conn.execute_batch(EARLIER).expect(rt, "statements");
+    }
+    conn.into_store()
+}
+
+/// Does the work with the tables of a connection, and what that was over. They are made first, where none
+/// are there.
 fn work_over<S: Alter + Drop>(
     rt: &(impl Abort + AllocGlobal),
     conn: Connection<S>,
     turns: &[Turn],
     work: Work,
-) -> (Option<usize>, S) {
+) -> (usize, S) {
     let mut tables = tables_of(rt, conn);
-    let is_made = are_made(&mut tables, work);
-    let (count, tables) = work_with(rt, tables, is_made, turns, work);
-    (count, tables.into_connection().into_store())
+    let _made = tables.init();
+    let (count, tables) = work_with(rt, tables, turns, work);
+    (count, left(rt, tables.into_connection(), work))
 }
 
-/// The same with the tables in files, which are given back as they are: how many turns were answered,
-/// or after how many the tables stand. It is none where the files can not be opened, or new tables
-/// were not made. Ends the test where there are other rows, or another answer.
+/// Does the work with the tables in files, which are given back as they are, if they can be opened. Ends the
+/// test where there are other rows, or another answer.
 pub fn run<D: Disk + Drop>(
     rt: &(impl Abort + AllocGlobal),
     files: Files<D>,
@@ -143,7 +135,7 @@ pub fn run<D: Disk + Drop>(
     match connect(rt.alloc(), files) {
         Ok(conn) => {
             let (count, store) = work_over(rt, conn, turns, work);
-            (count, store.close())
+            (Some(count), store.close())
         }
         Err(files) => (None, files),
     }

@@ -7,7 +7,9 @@ use fab_test_machine::rows::{
     PORTS_GONE, REFUSED_PLAN, SHUT, SIGNED, STAGED, THAWED, UNDONE, UNIT_CLASH, UNMAPPED,
     VOLUME_GONE, ZONES_OVERLAP,
 };
-use fab_test_machine::{ADA, Ask, FIRST, FIRST_TARGET, SECOND, SECOND_TARGET, See, Turn, WORLD};
+use fab_test_machine::{
+    ADA, Ask, FIRST, FIRST_TARGET, PORTS, SECOND, SECOND_TARGET, See, Turn, WORLD,
+};
 use std::process::Abort;
 
 /// A worked list of turns.
@@ -54,16 +56,7 @@ pub enum List {
     SignedAgain,
 }
 
-/// The ports of the worked world, without addresses.
-const NO_ADDRESS: &str = "port_name,node_name,domain,port
-10:00:00:00:00:00:00:01,20:00:00:00:00:00:00:01,1,1
-10:00:00:00:00:00:00:02,20:00:00:00:00:00:00:02,12,5
-10:00:00:00:00:00:00:03,20:00:00:00:00:00:00:03,12,5
-50:00:00:00:00:00:00:01,50:00:00:00:00:00:00:00,1,2
-50:00:00:00:00:00:00:02,50:00:00:00:00:00:00:00,1,3
-";
-
-/// The same, where the first initiator has an address.
+/// The ports of the worked world, where the first initiator has an address.
 const ONE_ADDRESS: &str = "port_name,node_name,domain,port,address
 10:00:00:00:00:00:00:01,20:00:00:00:00:00:00:01,1,1,010100
 10:00:00:00:00:00:00:02,20:00:00:00:00:00:00:02,12,5,
@@ -118,7 +111,7 @@ const READDRESSED: &[Turn] = &[
         "changed at 10",
     ),
     (ADA, 0, Ask::Show(See::Paths("db1")), "paths db1"),
-    (ADA, 0, Ask::Import(Fabric::A, NO_ADDRESS), "changed at 11"),
+    (ADA, 0, Ask::Import(Fabric::A, PORTS), "changed at 11"),
     (ADA, 0, Ask::Show(See::Paths("db1")), "paths db1"),
     (
         ADA,
@@ -171,7 +164,7 @@ const ROW_14_UNDONE: &[Turn] = &[
 /// Bob approves again after an import.
 const SIGNED_AGAIN: &[Turn] = &[
     ("t-bob", 0, Ask::Approve("q1"), "approved q1 by 1 at 6"),
-    (ADA, 0, Ask::Import(Fabric::A, NO_ADDRESS), "changed at 7"),
+    (ADA, 0, Ask::Import(Fabric::A, PORTS), "changed at 7"),
     ("t-bob", 0, Ask::Approve("q1"), "approved q1 by 1 at 7"),
 ];
 
@@ -208,12 +201,11 @@ pub fn turns_of(list: List) -> &'static [Turn] {
     }
 }
 
-/// The turns of the lists, one after the other, and then these.
-pub fn all_turns(rt: &(impl Abort + AllocGlobal), before: &[List], turns: &[Turn]) -> Vec<Turn> {
+/// The turns of the lists, one after the other.
+pub fn all_turns(rt: &(impl Abort + AllocGlobal), lists: &[List]) -> Vec<Turn> {
     let mut all = Vec::new(rt.alloc());
-    for list in before {
+    for list in lists {
         all.extend_from_slice(turns_of(*list)).expect(rt, "memory");
     }
-    all.extend_from_slice(turns).expect(rt, "memory");
     all
 }

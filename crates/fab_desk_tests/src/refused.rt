@@ -1,30 +1,18 @@
 //! Each call of the store refused in turn. A read that the store refused is answered so, and the desk
 //! serves on; a change halts it, until it is opened again over the store that it hands out.
 
-use crate::desks::{Came, DeskOver, ask, ask_all, closed, open, opened, refusals};
+use crate::desks::{Came, DeskOver, ask, ask_all, closed, new_tables, open, opened, refusals};
 use crate::lists::{List, all_turns};
-use crate::memory::tables;
-use crate::worlds::are_kept;
+use crate::worlds::are_after;
 use fab_names::Fabric;
 use fab_store::{OpenFault, RefusingStore, Store};
-use fab_test_machine::{ADA, Ask, FIRST_INITIATOR, FIRST_TARGET, NO_PORTS, See, Turn};
+use fab_test_machine::{ADA, Ask, NO_PORTS, See, Turn};
+use sqlite::Connection;
 use std::alloc::Global;
 use std::process::Abort;
 
-/// A store that refuses one call.
-trait Refusing: Store<Global> {
-    /// A store with the same tables, which refuses its first call.
-    fn refusing_at_first(self) -> Self;
-}
-
-impl<S: Store<Global>> Refusing for RefusingStore<S> {
-    fn refusing_at_first(self) -> Self {
-        RefusingStore::new(self.into_inner(), 0)
-    }
-}
-
 /// A desk over a store that may refuse to be read at first.
-fn opened_at_last<S: Refusing>(rt: &(impl Abort + AllocGlobal), store: S) -> DeskOver<S> {
+fn opened_at_last<S: Store<Global>>(rt: &(impl Abort + AllocGlobal), store: S) -> DeskOver<S> {
     match open(rt, store) {
         Ok(desk) => desk,
         Err((OpenFault::Store, store)) => opened(rt, store),
@@ -35,41 +23,23 @@ fn opened_at_last<S: Refusing>(rt: &(impl Abort + AllocGlobal), store: S) -> Des
 /// What a halted desk answers.
 const HALTED: &[Turn] = &[
     (ADA, 0, Ask::Show(See::Paths("db1")), "halted"),
-    (
-        ADA,
-        0,
-        Ask::Show(See::Joined(FIRST_INITIATOR, FIRST_TARGET)),
-        "halted",
-    ),
     (ADA, 0, Ask::Import(Fabric::A, NO_PORTS), "halted"),
-    ("t-zed", 0, Ask::DropVolume("v1"), "no-caller"),
 ];
 
-/// Opens the halted desk again over the store that it hands out, once, though the store refuses to be
-/// read at first. Ends the test where the desk was not halted.
-fn open_again<S: Refusing>(rt: &(impl Abort + AllocGlobal), desk: &mut DeskOver<S>) {
+/// Opens the halted desk again over the store that it hands out, once. Ends the test where the desk was not
+/// halted.
+fn open_again<S: Store<Global>>(rt: &(impl Abort + AllocGlobal), desk: &mut DeskOver<S>) {
     assert!(rt; desk.halted());
     ask_all(rt, desk, HALTED);
     let store = desk.release().expect(rt, "a store");
     assert!(rt; desk.release().is_none());
     assert!(rt; desk.halted());
-    match desk.reopen(store.refusing_at_first()) {
-        Err((OpenFault::Store, store)) => {
-            assert!(rt; desk.halted());
-            assert!(rt; desk.reopen(store).is_ok());
-        }
-        _ => panic!(rt; "a refusal"),
-    }
-}
-
-/// Whether the desk is not halted, and hands out no store.
-fn is_serving<S: Store<Global>>(desk: &mut DeskOver<S>) -> bool {
-    !desk.halted() && desk.release().is_none()
+    assert!(rt; desk.reopen(store).is_ok());
 }
 
 /// What the desk answers to the turn, at once or when it is asked again after the store refused a
 /// call. A change halted it, and a read did not.
-fn ask_at_last<S: Refusing>(
+fn ask_at_last<S: Store<Global>>(
     rt: &(impl Abort + AllocGlobal),
     desk: &mut DeskOver<S>,
     turn: Turn,
@@ -79,7 +49,7 @@ fn ask_at_last<S: Refusing>(
             if !matches!(turn.2, Ask::Show(_)) {
                 open_again(rt, desk);
             }
-            assert!(rt; is_serving(desk));
+            assert!(rt; !desk.halted());
             ask(rt, desk, turn)
         }
         came => came,
@@ -87,7 +57,7 @@ fn ask_at_last<S: Refusing>(
 }
 
 /// The store again, after a desk over it has answered the turns, each at last as it says.
-fn store_at_last<S: Refusing>(rt: &(impl Abort + AllocGlobal), store: S, turns: &[Turn]) -> S {
+fn store_at_last<S: Store<Global>>(rt: &(impl Abort + AllocGlobal), store: S, turns: &[Turn]) -> S {
     let mut desk = opened_at_last(rt, store);
     for turn in turns {
         assert!(rt; matches!(ask_at_last(rt, &mut desk, *turn), Came::Told));
@@ -95,21 +65,26 @@ fn store_at_last<S: Refusing>(rt: &(impl Abort + AllocGlobal), store: S, turns: 
     closed(rt, desk)
 }
 
-/// How many calls are refused, one at most, where a desk answers these lists over a store that refuses
-/// the call after so many. The store has the machine's world then.
+/// How many calls are refused, one at most, where a desk answers the turns over a store that refuses the
+/// call after so many. The store has the machine's world then.
 fn refusals_over<S: Store<Global>>(
     rt: &(impl Abort + AllocGlobal),
     store: S,
     calls: u64,
-    lists: &[List],
+    turns: &[Turn],
 ) -> u64 {
-    let turns = all_turns(rt, lists, &[]);
-    let store = store_at_last(rt, RefusingStore::new(store, calls), turns.as_slice());
+    let store = store_at_last(rt, RefusingStore::new(store, calls), turns);
     let count = refusals(&store);
     assert!(rt; count <= 1);
     let mut inner = store.into_inner();
-    assert!(rt; are_kept(rt, &mut inner, lists, &[]));
+    assert!(rt; are_after(rt, &mut inner, turns));
     count
+}
+
+/// The same over the tables of a new desk in memory.
+fn refusals_in(rt: &(impl Abort + AllocGlobal), calls: u64, turns: &[Turn]) -> u64 {
+    let conn = Connection::open_in_memory(rt.alloc()).expect(rt, "memory");
+    refusals_over(rt, new_tables(rt, conn), calls, turns)
 }
 
 /// More calls than any list of turns makes.
@@ -118,8 +93,9 @@ const MANY: u64 = 100;
 /// How many calls of the store a desk makes for these turns. Each of them is refused, in runs of
 /// their own, until a run meets no refusal.
 fn calls_for(rt: &(impl Abort + AllocGlobal), lists: &[List]) -> u64 {
+    let turns = all_turns(rt, lists);
     for calls in 0..MANY {
-        if refusals_over(rt, tables(rt), calls, lists) == 0 {
+        if refusals_in(rt, calls, turns.as_slice()) == 0 {
             return calls;
         }
     }
@@ -139,17 +115,9 @@ const CASES: &[(&[List], u64)] = &[
     ),
 ];
 
-/// The first case, by its place, in which another number of calls is refused.
-fn first_wrong(rt: &(impl Abort + AllocGlobal)) -> Option<usize> {
-    for (place, (lists, calls)) in CASES.iter().enumerate() {
-        if calls_for(rt, lists) != *calls {
-            return Some(place);
-        }
-    }
-    None
-}
-
 #[test]
 fn each_call_is_refused(rt: HostRuntime) {
-    assert_eq!(rt; first_wrong(&rt), None);
+    for (lists, calls) in CASES {
+        assert_eq!(rt; calls_for(&rt, lists), *calls);
+    }
 }

@@ -2,33 +2,10 @@
 //! configuration when plans are rolled back, the last one first, by one desk or each by a desk that is
 //! opened anew.
 
-use crate::lists::List;
-use crate::memory::{Tables, shown, tables_after, tables_then};
+use crate::lists::{List, turns_of};
+use crate::steps::{Step, play};
 use fab_names::Fabric;
 use fab_test_machine::{ADA, Ask, Turn};
-use std::process::Abort;
-
-/// The lines as one text.
-fn text_of(rt: &(impl Abort + AllocGlobal), lines: &[&str]) -> String {
-    let mut text = String::new(rt.alloc());
-    for line in lines {
-        write!(text, "{line}\n").expect(rt, "memory");
-    }
-    text
-}
-
-/// The tables again. Ends the test where the queries, one after the other, show other lines of them.
-fn looked_at(
-    rt: &(impl Abort + AllocGlobal),
-    tables: Tables,
-    queries: &[&str],
-    lines: &[&str],
-) -> Tables {
-    let (found, tables) = shown(rt, tables, queries);
-    let wanted = text_of(rt, lines);
-    assert_eq!(rt; found.as_str(), wanted.as_str());
-    tables
-}
 
 /// What shows the plan, the sign and the entry of each change to undo.
 const ENTRIES: &[&str] = &[
@@ -84,12 +61,19 @@ const MAPPED_ENTRIES: &[&str] = &[
     "p3 - group_parts storage g1 unit 0 v1",
 ];
 
+/// The plan that lets the default zone join ports.
+const PERMITS: &[Step<'static>] = &[
+    Step::Keep(PERMITTED),
+    Step::Show(ENTRIES, PERMITTED_ENTRIES),
+];
+
+/// The first worked plan, and the one that maps another volume.
+const MAPPED: &[List] = &[List::World, List::First, List::Row14];
+
 #[test]
 fn undo_entries(rt: HostRuntime) {
-    let permitted = tables_after(&rt, &[], PERMITTED);
-    let _tables = looked_at(&rt, permitted, ENTRIES, PERMITTED_ENTRIES);
-    let mapped = tables_after(&rt, &[List::World, List::First, List::Row14], &[]);
-    let _tables = looked_at(&rt, mapped, ENTRIES, MAPPED_ENTRIES);
+    play(&rt, &[], PERMITS);
+    play(&rt, MAPPED, &[Step::Show(ENTRIES, MAPPED_ENTRIES)]);
 }
 
 /// What shows the rows of the configuration, table by table.
@@ -155,106 +139,19 @@ const BEFORE_THIRD: &[&str] = &[
     "storage g2 unit 0 v2",
 ];
 
-/// After the third, which takes a member out of a zone.
-const AFTER_THIRD: &[&str] = &[
-    "active.A s1",
-    "active.B ",
-    "default.A deny",
-    "default.B deny",
-    "A alias disk wwpn=50:00:00:00:00:00:00:01",
-    "A set s1 z1",
-    "A set s1 z3",
-    "A zone z1 alias=disk",
-    "A zone z1 wwpn=10:00:00:00:00:00:00:01",
-    "A zone z3 wwpn=50:00:00:00:00:00:00:01",
-    "A z1 wwpn=10:00:00:00:00:00:00:01",
-    "A z1 wwpn=50:00:00:00:00:00:00:01",
-    "A z3 wwpn=50:00:00:00:00:00:00:01",
-    "host hosts1 blue  0",
-    "host hosts2 green  0",
-    "storage g1 blue arr1 1",
-    "storage g2 green arr1 1",
-    "host hosts1 host db1 ",
-    "host hosts2 host db2 ",
-    "storage g1 hostgroup hosts1 ",
-    "storage g1 target 5000000000000001 ",
-    "storage g1 unit 0 v1",
-    "storage g2 hostgroup hosts2 ",
-    "storage g2 target 5000000000000001 ",
-    "storage g2 unit 0 v2",
-];
+/// The configuration after each rollback, of the third plan, the second and the first.
+const STAGES: &[&[&str]] = &[BEFORE_THIRD, BEFORE_SECOND, BEFORE_FIRST];
 
-/// A third plan behind the worked two, and the way back.
-const THERE_AND_BACK: &[Turn] = &[
-    (
-        ADA,
-        0,
-        Ask::Stage(
-            "p3",
-            "zone.put A z3 wwpn=50:00:00:00:00:00:00:01
-activate A s1
-",
-        ),
-        "staged p3 of 2",
-    ),
-    (
-        ADA,
-        0,
-        Ask::Activate("p3"),
-        "done p3 at 9
--A 10:00:00:00:00:00:00:02 50:00:00:00:00:00:00:01 v2 0
--A 10:00:00:00:00:00:00:03 50:00:00:00:00:00:00:01 v2 0",
-    ),
-    (
-        ADA,
-        0,
-        Ask::Rollback("p3"),
-        "done p3 at 10
-+A 10:00:00:00:00:00:00:02 50:00:00:00:00:00:00:01 v2 0
-+A 10:00:00:00:00:00:00:03 50:00:00:00:00:00:00:01 v2 0",
-    ),
-    (
-        ADA,
-        0,
-        Ask::Rollback("p2"),
-        "done p2 at 11
--A 10:00:00:00:00:00:00:02 50:00:00:00:00:00:00:01 v2 0
--A 10:00:00:00:00:00:00:03 50:00:00:00:00:00:00:01 v2 0",
-    ),
-    (
-        ADA,
-        0,
-        Ask::Rollback("p1"),
-        "done p1 at 12
--A 10:00:00:00:00:00:00:01 50:00:00:00:00:00:00:01 v1 0",
-    ),
-];
-
-/// The configuration after each of these turns.
-const STAGES: &[&[&str]] = &[
-    BEFORE_THIRD,
-    AFTER_THIRD,
-    BEFORE_THIRD,
-    BEFORE_SECOND,
-    BEFORE_FIRST,
-];
-
-/// The worked world and plans.
-const WORKED: &[List] = &[List::World, List::First, List::Second];
+/// The worked world and three plans.
+const WORKED: &[List] = &[List::World, List::First, List::Second, List::Row9];
 
 #[test]
 fn rolled_back_last_first(rt: HostRuntime) {
+    let back = turns_of(List::Row9Undone);
     for (place, lines) in STAGES.iter().enumerate() {
-        let turns = THERE_AND_BACK.get(..=place).expect(&rt, "turns");
-        let _tables = looked_at(&rt, tables_after(&rt, WORKED, turns), CONFIG, lines);
-    }
-}
-
-#[test]
-fn rolled_back_by_desks_opened_anew(rt: HostRuntime) {
-    let mut tables = tables_after(&rt, WORKED, &[]);
-    for (turn, lines) in THERE_AND_BACK.iter().zip(STAGES) {
-        tables = tables_then(&rt, tables, &[], &[*turn]);
-        tables = looked_at(&rt, tables, CONFIG, lines);
+        let turns = back.get(..=place).expect(&rt, "turns");
+        let shown = Step::Show(CONFIG, lines);
+        play(&rt, WORKED, &[Step::Keep(turns), shown]);
+        play(&rt, WORKED, &[Step::Ask(turns), shown]);
     }
 }

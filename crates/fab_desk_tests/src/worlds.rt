@@ -1,56 +1,42 @@
 //! Whether tables have the world that the machine comes to by the same requests.
 
 use crate::desks::made;
-use crate::lists::{List, turns_of};
-use fab_store::Store;
+use fab_store::{OpenFault, Store};
 use fab_test_machine::{Turn, holds_in};
 use fab_test_world::is_same;
 use fab_world::World;
 use std::alloc::Global;
 use std::process::Abort;
-use std::test::Fail;
 
-/// Leads the machine's world through the turns, which it answers as they say.
-///
-/// # Errors
-/// Another answer.
-fn lead(alloc: Global, world: &mut World<Global>, turns: &[Turn]) -> Result<(), Fail> {
-    if !holds_in(alloc, world, &[turns])? {
-        return Err(Fail::from("machine"));
-    }
-    Ok(())
-}
-
-/// The world to which the machine leads a new one by the lists and then by the turns.
-fn world_after(rt: &(impl Abort + AllocGlobal), before: &[List], turns: &[Turn]) -> World<Global> {
+/// The world that the machine comes to by the turns. Ends the test where it answers otherwise.
+fn world_after(rt: &(impl Abort + AllocGlobal), turns: &[Turn]) -> World<Global> {
     let mut world = World::new(rt.alloc());
-    for list in before {
-        made(rt, lead(rt.alloc(), &mut world, turns_of(*list)), "machine");
-    }
-    made(rt, lead(rt.alloc(), &mut world, turns), "machine");
+    assert!(rt; made(rt, holds_in(rt.alloc(), &mut world, turns), "machine"));
     world
 }
 
-/// Whether the tables have the world that the machine comes to by the lists and then by the turns.
-pub fn are_kept<S: Store<Global>>(
+/// Whether the tables have the world that the machine comes to by the turns, or why they are not loaded.
+pub fn has_world<S: Store<Global>>(
     rt: &(impl Abort + AllocGlobal),
     tables: &mut S,
-    before: &[List],
     turns: &[Turn],
-) -> bool {
-    let loaded = tables.load(rt.alloc()).expect(rt, "load");
-    let wanted = world_after(rt, before, turns);
-    is_same(rt.alloc(), &loaded, &wanted).expect(rt, "memory")
+) -> Result<bool, OpenFault> {
+    match tables.load(rt.alloc()) {
+        Ok(loaded) => {
+            let world = world_after(rt, turns);
+            Ok(is_same(rt.alloc(), &loaded, &world).expect(rt, "memory"))
+        }
+        Err(fault) => Err(fault),
+    }
 }
 
-/// Whether the tables have the world after so many of the turns.
+/// Whether the tables have the world that the machine comes to by the turns.
 pub fn are_after<S: Store<Global>>(
     rt: &(impl Abort + AllocGlobal),
     tables: &mut S,
     turns: &[Turn],
-    count: usize,
 ) -> bool {
-    are_kept(rt, tables, &[], turns.get(..count).unwrap_or(turns))
+    has_world(rt, tables, turns) == Ok(true)
 }
 
 /// The turns after which the tables stand: so many, or one more.
@@ -60,10 +46,10 @@ pub fn found<S: Store<Global>>(
     turns: &[Turn],
     count: usize,
 ) -> usize {
-    if are_after(rt, tables, turns, count) {
+    if are_after(rt, tables, turns.get(..count).unwrap_or(turns)) {
         return count;
     }
     let after = count.saturating_add(1);
-    assert!(rt; are_after(rt, tables, turns, after));
+    assert!(rt; are_after(rt, tables, turns.get(..after).unwrap_or(turns)));
     after
 }

@@ -6,71 +6,39 @@ use fab_zoning::{Why, Zoning};
 use std::alloc::Global;
 use std::process::Abort;
 
-/// A record of a port list: the port, its node and its place.
-type Record = (&'static str, &'static str, &'static str);
-
 /// The port of a host.
-const INITIATOR: &str = "1000000000000001";
+const INITIATOR: u64 = 0x1000_0000_0000_0001;
 
 /// The port of an array.
-const TARGET: &str = "5000000000000001";
+const TARGET: u64 = 0x5000_0000_0000_0001;
 
 /// A port at the place of the target, in the other fabric.
-const TARGET_IN_B: &str = "5000000000000002";
-
-/// The port lists of both fabrics.
-const LISTS: &[(Fabric, &[Record])] = &[
-    (
-        Fabric::A,
-        &[
-            (INITIATOR, "2000000000000001", "1,1"),
-            (TARGET, "5000000000000000", "1,2"),
-        ],
-    ),
-    (Fabric::B, &[(TARGET_IN_B, "5000000000000000", "1,2")]),
-];
+const TARGET_IN_B: u64 = 0x5000_0000_0000_0002;
 
 /// Two ports, and the zone that joins them, if one does.
-const PAIRS: &[(&str, &str, Option<&str>)] = &[
+const PAIRS: &[(u64, u64, Option<&str>)] = &[
     (INITIATOR, TARGET, Some("z1")),
     (INITIATOR, TARGET_IN_B, None),
     (TARGET, TARGET_IN_B, None),
 ];
 
-fn wwn(rt: &impl Abort, text: &str) -> Wwn {
-    Wwn::read(text).expect(rt, "a world-wide name")
+/// The port of this number.
+fn wwn(rt: &impl Abort, number: u64) -> Wwn {
+    assert!(rt; number > 0);
+    Wwn::new(number)
 }
 
-fn record(rt: &impl Abort, texts: Record) -> PortRow {
-    PortRow::plain(
-        wwn(rt, texts.0),
-        wwn(rt, texts.1),
-        Place::read(texts.2).expect(rt, "a place"),
-    )
-}
-
-/// Imports a port list.
-fn import(
-    rt: &(impl Abort + AllocGlobal),
-    inventory: &mut Inventory<Global>,
-    fabric: Fabric,
-    listed: &[Record],
-) {
-    let mut rows = Vec::new(rt.alloc());
-    for texts in listed {
-        rows.push(record(rt, *texts)).expect(rt, "memory");
-    }
-    inventory
-        .import(fabric, rows.as_slice())
-        .expect(rt, "an import");
-}
-
-/// The inventory after the imports of both lists.
+/// The inventory after the imports of both port lists.
 fn imported(rt: &(impl Abort + AllocGlobal)) -> Inventory<Global> {
+    let node = Wwn::new(9);
+    let in_a = [
+        PortRow::plain(Wwn::new(INITIATOR), node, Place::new(1, 1)),
+        PortRow::plain(Wwn::new(TARGET), node, Place::new(1, 2)),
+    ];
+    let in_b = [PortRow::plain(Wwn::new(TARGET_IN_B), node, Place::new(1, 2))];
     let mut inventory = Inventory::new(rt.alloc());
-    for &(fabric, listed) in LISTS {
-        import(rt, &mut inventory, fabric, listed);
-    }
+    inventory.import(Fabric::A, &in_a).expect(rt, "an import");
+    inventory.import(Fabric::B, &in_b).expect(rt, "an import");
     inventory
 }
 
@@ -78,10 +46,9 @@ fn imported(rt: &(impl Abort + AllocGlobal)) -> Inventory<Global> {
 /// place.
 fn zoned(rt: &(impl Abort + AllocGlobal)) -> Zoning<Global> {
     let zone = named(rt, "z1");
-    let place = Place::read("1,2").expect(rt, "a place");
     let rows = [
-        (zone, Member::Port(wwn(rt, INITIATOR))),
-        (zone, Member::Place(place)),
+        (zone, Member::Port(Wwn::new(INITIATOR))),
+        (zone, Member::Place(Place::new(1, 2))),
     ];
     let mut zoning = Zoning::new(rt.alloc(), Fabric::A);
     zoning
@@ -90,8 +57,8 @@ fn zoned(rt: &(impl Abort + AllocGlobal)) -> Zoning<Global> {
     zoning
 }
 
-fn known(rt: &impl Abort, inventory: &Inventory<Global>, port: &str) -> Port {
-    inventory.port(&wwn(rt, port)).expect(rt, "a known port")
+fn known(rt: &impl Abort, inventory: &Inventory<Global>, number: u64) -> Port {
+    inventory.port(&wwn(rt, number)).expect(rt, "a known port")
 }
 
 /// Whether this zone is why; or whether nothing is, where none is wanted.
@@ -103,25 +70,11 @@ fn is_zone(why: Option<Why<'_>>, wanted: Option<&str>) -> bool {
     }
 }
 
-/// The first pair that is joined otherwise.
-fn first_wrong(
-    rt: &impl Abort,
-    inventory: &Inventory<Global>,
-    zoning: &Zoning<Global>,
-) -> Option<(&'static str, &'static str)> {
-    for &(one, other, wanted) in PAIRS {
-        let (p, q) = (known(rt, inventory, one), known(rt, inventory, other));
-        if !is_zone(zoning.joined(&p, &q), wanted) {
-            return Some((one, other));
-        }
-    }
-    None
-}
-
 #[test]
 fn joined_by_active_set(rt: HostRuntime) {
-    let zoning = zoned(&rt);
-    let wrong = first_wrong(&rt, &imported(&rt), &zoning);
-    assert_eq!(rt; wrong, None);
-    assert!(rt; zoning.is_sound());
+    let (inventory, zoning) = (imported(&rt), zoned(&rt));
+    for &(one, other, wanted) in PAIRS {
+        let (p, q) = (known(&rt, &inventory, one), known(&rt, &inventory, other));
+        assert!(rt; is_zone(zoning.joined(&p, &q), wanted));
+    }
 }

@@ -1,5 +1,4 @@
-//! The words for each fault of a policy's text, and the keys of a rule that asks for approvals.
-use crate::told::{assert_fault, policy};
+//! The words for each fault of a policy's text.
 use fab_policy_base::Policy;
 use std::process::Abort;
 
@@ -30,81 +29,16 @@ const FAULTS: &[(&str, &str)] = &[
     ),
 ];
 
+/// Asserts the fault of a text, in words.
+fn assert_fault(rt: &(impl Abort + AllocGlobal), text: &str, fault: &str) {
+    let found = Policy::read(rt.alloc(), text).err().expect(rt, "a fault");
+    let told = found.to_string(rt.alloc()).expect(rt, "memory");
+    assert_eq!(rt; told.as_str(), fault);
+}
+
 #[test]
 fn each_fault(rt: HostRuntime) {
     for &(text, fault) in FAULTS {
         assert_fault(&rt, text, fault);
-    }
-}
-
-/// A caller, and a rule whose other keys come behind it.
-const HEAD: &str =
-    "[[callers]]\nname = \"a\"\ntoken = \"t\"\nroles = []\ntenants = \"*\"\n[[rules]]\nname = \"r\"\nactions = [\"activate\"]\n";
-
-/// Keys of the rule, and whether it asks for each tenant's approval.
-const EACH_TENANT: &[(&str, bool)] = &[
-    ("approvals = 1\neach_tenant = true\n", true),
-    ("approvals = 1\neach_tenant = false\n", false),
-    ("approvals = 1\n", false),
-];
-
-/// Keys that no rule may have, and how the fault is told.
-const WRONG_KEYS: &[(&str, &str)] = &[
-    ("each_tenant = true\n", "`approvals` is missing"),
-    ("each_tenant = false\n", "`approvals` is missing"),
-    (
-        "approvals = 1\neach_tenant = 1\n",
-        "`each_tenant` has a wrong value",
-    ),
-    (
-        "approvals = 1\neach_tenant = \"true\"\n",
-        "`each_tenant` has a wrong value",
-    ),
-    (
-        "approvals = 1\neach_tenant = []\n",
-        "`each_tenant` has a wrong value",
-    ),
-    (
-        "approvals = 1\nEach_tenant = true\n",
-        "`Each_tenant` is not known",
-    ),
-    (
-        "approvals = 0\neach_tenant = true\n",
-        "`approvals` has a wrong value",
-    ),
-];
-
-/// The text of the policy whose rule has these keys.
-fn text_of(rt: &(impl Abort + AllocGlobal), keys: &str) -> String {
-    let mut text = String::from_str(rt.alloc(), HEAD).expect(rt, "memory");
-    text.push_str(keys).expect(rt, "memory");
-    text
-}
-
-/// Whether the one rule of the policy asks for each tenant's approval, where it asks for approvals.
-fn asks_each_tenant(policy: &Policy) -> Option<bool> {
-    let rule = policy.rules().first()?;
-    let quorum = rule.approvals?;
-    Some(quorum.each_tenant)
-}
-
-/// What the keys ask for.
-fn asked(rt: &(impl Abort + AllocGlobal), keys: &str) -> Option<bool> {
-    let text = text_of(rt, keys);
-    asks_each_tenant(&policy(rt, text.as_str()))
-}
-
-#[test]
-fn keys_are_read(rt: HostRuntime) {
-    for &(keys, each) in EACH_TENANT {
-        assert!(rt; asked(&rt, keys) == Some(each));
-    }
-}
-
-#[test]
-fn keys_are_refused(rt: HostRuntime) {
-    for &(keys, fault) in WRONG_KEYS {
-        let text = text_of(&rt, keys);
-        assert_fault(&rt, text.as_str(), fault);
     }
 }

@@ -1,6 +1,6 @@
-//! Tests of texts and of what is made of them: addresses and members, plan texts, the bytes that a kept
-//! plan takes, policies with their faults and verdicts, and command lines; and of a zoning by itself:
-//! which ports it joins, its copies, and its active set. Nothing here is part of the product.
+//! Tests of texts and of what is made of them: the bytes that a kept plan takes, policies with their faults
+//! and verdicts, and command lines; and of a zoning by itself: which ports it joins, and its copies. What
+//! names, members and plan texts are, contracts say of all texts. Nothing here is part of the product.
 #![tactic(auto)]
 
 #[cfg(test)]
@@ -15,12 +15,6 @@ mod faults;
 mod kept;
 #[cfg(test)]
 mod named;
-#[cfg(test)]
-mod names;
-#[cfg(test)]
-mod plans;
-#[cfg(test)]
-mod told;
 #[cfg(test)]
 mod verdicts;
 #[cfg(test)]

@@ -6,7 +6,6 @@ mod answers;
 mod clocks;
 mod connections;
 mod desks;
-mod fabrics;
 mod faults;
 mod growth;
 mod quiet;

@@ -1,114 +1,186 @@
-//! Each request for memory of a call refused in turn: the call answers want of memory and moves no row,
-//! and then, when memory is there again, the same call moves as many rows as it says.
-use crate::calls::make;
-use crate::rows::moves;
-use crate::script::{SCRIPT, Turn};
-use crate::steps::step_refusals;
-use crate::worlds::{Heap, World, no_world};
+//! Each request for memory of a call refused in turn: the call answers want of memory and changes nothing,
+//! and then, when memory is there again, it is done.
+use crate::books::leads;
+use crate::desk::{Heap, Means, Order, PORTS, STAGED, made, named, read_policy};
+use fab_inventory::{HolderKind, InventoryFault};
+use fab_looks::{Kind, list, list_ports};
+use fab_mapping::MappingFault;
+use fab_names::Fabric;
+use fab_policy::Policy;
+use fab_reach::IndexBook;
 use fab_test_alloc::Refusing;
+use fab_test_machine::{ADA, FIRST_INITIATOR, FIRST_PLAN, FIRST_TARGET};
+use fab_test_world::is_same;
+use fab_world::World;
+use fab_zoning::ZoningFault;
 use std::process::Abort;
 
-/// How often a call is tried at most.
-pub const MOST: u64 = 1000;
-
-/// What came of a call with a request refused.
+/// A call on a world.
 #[derive(Clone, Copy)]
-pub enum Came {
-    /// The call made fewer requests, and moved as many rows as it says.
-    Through,
-    /// It did so without what was refused.
-    Without,
-    /// The call answered want of memory and moved no row, and as many as it says when memory was there
-    /// again.
-    Refused,
-    /// None of these.
-    Astray,
+enum Call {
+    /// The first holder is put.
+    PutHolder,
+    /// The set that is active is activated again.
+    Activate,
+    /// The first volume of a group is mapped.
+    Map,
+    CopyInventory,
+    CopyConfig,
+    /// The zones of fabric A are listed, or all ports.
+    Zones,
+    Ports,
+    /// A book is opened, and a step is made ready and taken.
+    Lead,
 }
 
-/// A world in which the first calls of the script were made, so many. Ends the test where one of them
-/// is not accepted.
-pub fn world_after<'a>(rt: &impl Abort, heap: Heap<'a>, count: usize) -> World<'a> {
-    let mut world = no_world(heap);
-    for turn in SCRIPT.iter().take(count) {
-        assert!(rt; make(rt, heap, &mut world, turn.0));
+/// The first plan is active, and there is a group without a volume.
+const GROUPED: &[Order<'static>] = &[
+    Order::Import(Fabric::A, PORTS),
+    Order::Put(HolderKind::Host, "db1", FIRST_INITIATOR, FIRST_INITIATOR),
+    Order::Put(HolderKind::Array, "arr1", FIRST_TARGET, FIRST_TARGET),
+    Order::Volume("v1"),
+    Order::Stage("p1", FIRST_PLAN),
+    Order::Activate("p1"),
+    Order::Stage("p2", "sg.new g2 blue arr1\n"),
+    Order::Activate("p2"),
+];
+
+/// Each call, and what its world is made of.
+const CASES: &[Case<'static>] = &[
+    (Call::PutHolder, &[]),
+    (Call::Activate, GROUPED),
+    (Call::Map, GROUPED),
+    (Call::CopyInventory, GROUPED),
+    (Call::CopyConfig, GROUPED),
+    (Call::Zones, GROUPED),
+    (Call::Ports, GROUPED),
+    (Call::Lead, GROUPED),
+];
+
+type Case<'c> = (Call, &'c [Order<'c>]);
+
+/// Whether a call was accepted. Ends the test at another refusal than want of memory.
+fn accepted<E: PartialEq + Copy>(rt: &impl Abort, answer: Result<(), E>, memory: E) -> bool {
+    match answer {
+        Ok(()) => true,
+        Err(fault) => {
+            assert!(rt; fault == memory);
+            false
+        }
     }
-    world
 }
 
-/// Whether the call of the turn moved as many rows as it says.
-fn is_done<'a>(
+/// Makes a call that changes the world: whether it was accepted, or there was no memory.
+fn change(rt: &impl Abort, world: &mut World<Heap<'_>>, call: Call) -> bool {
+    let (blue, host) = (named(rt, "blue"), named(rt, "db1"));
+    match call {
+        Call::PutHolder => {
+            let done = world
+                .inventory
+                .put_holder(host, HolderKind::Host, blue, &[]);
+            accepted(rt, done, InventoryFault::Memory)
+        }
+        Call::Activate => {
+            let done = world.config.a.activate(&named(rt, "s1"));
+            accepted(rt, done, ZoningFault::Memory)
+        }
+        _ => {
+            let (group, volume) = (named(rt, "g2"), named(rt, "v1"));
+            let done = world
+                .config
+                .mapping
+                .map(&group, 0, &volume, &world.inventory);
+            accepted(rt, done, MappingFault::Memory)
+        }
+    }
+}
+
+/// Whether the zones of fabric A are listed, or there was no memory.
+fn lists_zones<'a>(rt: &impl Abort, means: Means<'a>, world: &World<Heap<'a>>) -> bool {
+    let id = means.policy.caller(ADA).expect(rt, "a caller");
+    list(means.heap, means.policy, world, id, Kind::Zones(Fabric::A)).is_ok()
+}
+
+/// Makes the call on a world: whether it was accepted, or there was no memory. A book is led to the other
+/// world.
+fn make<'a>(
     rt: &impl Abort,
-    heap: Heap<'a>,
-    before: &World<'a>,
-    world: &World<'a>,
-    turn: Turn,
+    means: Means<'a>,
+    world: &mut World<Heap<'a>>,
+    other: &World<Heap<'a>>,
+    call: Call,
 ) -> bool {
-    moves(rt, heap, before, world) == turn.1
+    match call {
+        Call::CopyInventory => world.inventory.copy().is_ok(),
+        Call::CopyConfig => world.config.copy().is_ok(),
+        Call::Zones => lists_zones(rt, means, world),
+        Call::Ports => list_ports(means.heap, world).is_ok(),
+        Call::Lead => leads::<IndexBook<Heap<'a>>>(rt, means.heap, world, other, false),
+        _ => change(rt, world, call),
+    }
 }
 
-/// Whether no row was moved, and the call then moves as many as it says.
-fn is_as_ever<'a>(
-    rt: &impl Abort,
-    heap: Heap<'a>,
-    before: &World<'a>,
-    world: &mut World<'a>,
-    turn: Turn,
-) -> bool {
-    moves(rt, heap, before, world) == (0, 0)
-        && make(rt, heap, world, turn.0)
-        && is_done(rt, heap, before, world, turn)
-}
-
-/// Makes the call of the turn with the request behind so many refused.
+/// Makes the call with the request behind so many refused: whether it was accepted, and whether a request was
+/// refused. Ends the test where it is not accepted though none was, or changed the world, or is not done
+/// when memory is there again.
 fn refuse_beside<'a>(
     rt: &impl Abort,
-    heap: Heap<'a>,
-    before: &World<'a>,
-    world: &mut World<'a>,
-    turn: Turn,
+    means: Means<'a>,
+    worlds: (&World<Heap<'a>>, &World<Heap<'a>>),
+    world: &mut World<Heap<'a>>,
+    call: Call,
     requests: u64,
-) -> Came {
-    heap.refuse_after(requests);
-    let is_accepted = make(rt, heap, world, turn.0);
-    let is_refused = heap.has_refused();
-    heap.refuse_none();
-    let (is_right, came) = match (is_accepted, is_refused) {
-        (true, true) => (is_done(rt, heap, before, world, turn), Came::Without),
-        (true, false) => (is_done(rt, heap, before, world, turn), Came::Through),
-        (false, true) => (is_as_ever(rt, heap, before, world, turn), Came::Refused),
-        (false, false) => (false, Came::Astray),
-    };
-    if is_right { came } else { Came::Astray }
+) -> (bool, bool) {
+    means.heap.refuse_after(requests);
+    let is_accepted = make(rt, means, world, worlds.1, call);
+    let is_refused = means.heap.has_refused();
+    means.heap.refuse_none();
+    if !is_accepted {
+        assert!(rt; is_refused);
+        assert!(rt; is_same(means.heap, worlds.0, world).expect(rt, "memory"));
+        assert!(rt; make(rt, means, world, worlds.1, call));
+    }
+    (is_accepted, is_refused)
 }
 
-/// The same of the call at this place of the script, on worlds and with an allocator of its own.
-fn refuse(rt: &(impl Abort + AllocGlobal), place: usize, turn: Turn, requests: u64) -> Came {
+/// The same on worlds that are made for it, with an allocator of their own.
+fn refuse<R: Abort + AllocGlobal>(
+    rt: &R,
+    policy: &Policy,
+    case: Case<'_>,
+    requests: u64,
+) -> (bool, bool) {
     let heap = Refusing::new(rt.alloc());
-    let before = world_after(rt, &heap, place);
-    let mut world = world_after(rt, &heap, place);
-    refuse_beside(rt, &heap, &before, &mut world, turn, requests)
+    let means = Means {
+        heap: &heap,
+        policy,
+    };
+    let before = made::<R, IndexBook<Heap<'_>>>(rt, means, case.1);
+    let other = made::<R, IndexBook<Heap<'_>>>(rt, means, STAGED);
+    let mut world = made::<R, IndexBook<Heap<'_>>>(rt, means, case.1);
+    refuse_beside(rt, means, (&before, &other), &mut world, case.0, requests)
 }
 
-/// How many requests of the call were answered with want of memory, until a call met no refusal. Ends
-/// the test where one leads astray.
-fn refusals(rt: &(impl Abort + AllocGlobal), place: usize, turn: Turn) -> u64 {
+/// How often a call is tried at most.
+const MOST: u64 = 1000;
+
+/// How many requests of the call were answered with want of memory, until a call met no refusal.
+fn refusals(rt: &(impl Abort + AllocGlobal), policy: &Policy, case: Case<'_>) -> u64 {
     let mut refusals = 0u64;
     for requests in 0..MOST {
-        match refuse(rt, place, turn, requests) {
-            Came::Through => return refusals,
-            Came::Without => {}
-            Came::Refused => refusals = refusals.saturating_add(1),
-            Came::Astray => panic!(rt; "a request led astray"),
+        match refuse(rt, policy, case, requests) {
+            (true, false) => return refusals,
+            (true, true) => {}
+            _ => refusals = refusals.saturating_add(1),
         }
     }
     panic!(rt; "a call that meets no refusal")
 }
 
-/// Each call takes memory just where the script says so.
 #[test]
 fn refused_growth_parts(rt: HostRuntime) {
-    for (place, turn) in SCRIPT.iter().enumerate() {
-        assert!(rt; (refusals(&rt, place, *turn) > 0) == turn.2);
+    let policy = read_policy(&rt);
+    for case in CASES {
+        assert!(rt; refusals(&rt, &policy, *case) > 0);
     }
-    assert!(rt; step_refusals(&rt) > 0);
 }

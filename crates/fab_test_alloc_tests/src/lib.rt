@@ -1,28 +1,29 @@
-//! Tests across crates: each request for memory of a call refused in turn, and the calls that take
-//! none. Nothing here is part of the product.
+//! Tests of what fails from outside, and of what a step of a book costs: each request for memory of a call
+//! refused in turn, calls that take none, and the allocator that refuses; streams that fail, and the longest
+//! body; the spare configuration, how many pairs a step asks about, the limit on paths, and the places that a
+//! step makes in an index. What is said by requests and answers alone is recorded in `fab_wire_conformance`.
+//! Nothing here is part of the product.
 #![tactic(auto)]
 
 #[cfg(test)]
-mod answers;
-#[cfg(test)]
 mod books;
 #[cfg(test)]
-mod calls;
+mod counted;
+#[cfg(test)]
+mod desk;
 #[cfg(test)]
 mod growth;
 #[cfg(test)]
+mod limits;
+#[cfg(test)]
+mod places;
+#[cfg(test)]
+mod prints;
+#[cfg(test)]
 mod quiet;
+#[cfg(test)]
+mod ready;
 #[cfg(test)]
 mod refusing;
 #[cfg(test)]
-mod rows;
-#[cfg(test)]
-mod script;
-#[cfg(test)]
-mod steps;
-#[cfg(test)]
-mod texts;
-#[cfg(test)]
-mod verdicts;
-#[cfg(test)]
-mod worlds;
+mod streams;

@@ -1,94 +1,102 @@
 //! Calls that take no memory: with the very next request refused, each does what it says, and no
 //! request was made. Those that are lent no allocator and keep none stand beside them.
-use crate::answers::{Cause, has_volume, holds, is_joined};
-use crate::growth::world_after;
-use crate::script::WITH_PATH;
-use crate::steps::is_taken;
-use crate::texts::are_shown;
-use crate::verdicts::{are_judged, policy};
-use crate::worlds::{INITIATOR, TARGET, World, name};
-use fab_inventory::HolderKind::{Array, Host};
-use fab_names::Wwn;
-use fab_policy::Policy;
+use crate::books::leads;
+use crate::desk::{ACTIVE, Heap, Means, STAGED, made, named, read_policy};
+use fab_names::{Fabric, Member, Name, NameFault, Place, Wwn};
+use fab_policy::{Act, Action, Policy, Verdict, decide};
+use fab_reach::IndexBook;
 use fab_test_alloc::Refusing;
-use fab_zoning::DefaultFlag;
+use fab_test_machine::{ADA, FIRST_INITIATOR, FIRST_TARGET};
+use fab_world::World;
+use std::fmt;
 use std::process::Abort;
 
-/// Whether what is there is found.
-fn is_found(rt: &impl Abort, world: &World<'_>) -> bool {
-    holds(rt, world, Host, "db1", INITIATOR)
-        && holds(rt, world, Array, "arr1", TARGET)
-        && has_volume(rt, world, "v1")
-        && has_volume(rt, world, "v2")
+/// A writer that has no memory, and takes just the text that is wanted.
+#[derive(Drop)]
+struct Wanted {
+    rest: &'static str,
 }
 
-/// Whether nothing is found of what is not there.
-fn is_missed(rt: &impl Abort, world: &World<'_>) -> bool {
-    let (other, stranger) = (name(rt, "other"), Wwn::new(7));
+impl fmt::Write for Wanted {
+    fn write_str(&mut self, text: &str) -> fmt::Result {
+        match self.rest.strip_prefix(text) {
+            Some(rest) => {
+                self.rest = rest;
+                Ok(())
+            }
+            None => Err(fmt::Error),
+        }
+    }
+}
+
+/// Whether what was read is displayed as the text.
+fn is_shown<T: fmt::Display + Drop>(read: Result<T, NameFault>, text: &'static str) -> bool {
+    let Ok(value) = read else {
+        return false;
+    };
+    let mut wanted = Wanted { rest: text };
+    fmt::Write::write_fmt(&mut wanted, format_args!("{value}")).is_ok() && wanted.rest.is_empty()
+}
+
+/// Whether a text of each kind is read and displayed.
+fn are_shown() -> bool {
+    is_shown(Wwn::read("0x1000000000000001"), "10:00:00:00:00:00:00:01")
+        && is_shown(Fabric::read("B"), "B")
+        && is_shown(Place::read("012,5"), "12,5")
+        && is_shown(Name::read("db1"), "db1")
+        && is_shown(Member::read("dp=01,4095"), "dp=1,4095")
+}
+
+/// Whether a caller is known by her token, and may do something.
+fn is_allowed(policy: &Policy) -> bool {
+    let Some(caller) = policy.caller(ADA) else {
+        return false;
+    };
+    let act = Act {
+        caller,
+        action: Action::Inventory,
+        fabrics: &[],
+        touched: &[],
+        moment: 0,
+        plan: None,
+        revision: 6,
+    };
+    matches!(decide(policy, &act), Verdict::Allowed)
+}
+
+/// Whether what is there is found, and what is not there is not.
+fn is_found(rt: &impl Abort, world: &World<Heap<'_>>) -> bool {
     let inventory = &world.inventory;
-    inventory.port(&stranger).is_none()
-        && inventory.holder(&other).is_none()
-        && inventory.volume(&other).is_none()
+    inventory.holder(&named(rt, "arr1")).is_some()
+        && inventory.volume(&named(rt, "v1")).is_some()
+        && inventory.holder(&named(rt, "v1")).is_none()
+        && inventory.volume(&named(rt, "arr1")).is_none()
 }
 
-/// Whether both ports are joined by their zone, then, with nothing active, not at all, and then by
-/// the default zone.
-fn is_joined_by_each(world: &mut World<'_>) -> bool {
-    if !is_joined(world, Cause::Zone) {
-        return false;
+/// Whether both ports are known and joined.
+fn is_joined(world: &World<Heap<'_>>) -> bool {
+    let one = world.inventory.port(&Wwn::new(FIRST_INITIATOR));
+    let other = world.inventory.port(&Wwn::new(FIRST_TARGET));
+    match (one, other) {
+        (Some(one), Some(other)) => world.config.a.joined(&one, &other).is_some(),
+        _ => false,
     }
-    world.config.a.deactivate();
-    if !is_joined(world, Cause::None) {
-        return false;
-    }
-    world.config.a.set_default(DefaultFlag::Permit);
-    is_joined(world, Cause::Default)
-}
-
-/// A kind of calls.
-#[derive(Clone, Copy)]
-enum Quiet {
-    Texts,
-    Verdicts,
-    Found,
-    Missed,
-    Joined,
-}
-
-const KINDS: &[Quiet] = &[
-    Quiet::Texts,
-    Quiet::Verdicts,
-    Quiet::Found,
-    Quiet::Missed,
-    Quiet::Joined,
-];
-
-/// Whether the calls of the kind do what they say.
-fn is_done(rt: &impl Abort, world: &mut World<'_>, policy: &Policy, kind: Quiet) -> bool {
-    match kind {
-        Quiet::Texts => are_shown(),
-        Quiet::Verdicts => are_judged(rt, policy),
-        Quiet::Found => is_found(rt, world),
-        Quiet::Missed => is_missed(rt, world),
-        Quiet::Joined => is_joined_by_each(world),
-    }
-}
-
-/// Whether they do with the next request refused, and make none. They are made on a world and with an
-/// allocator of their own.
-fn is_quiet(rt: &(impl Abort + AllocGlobal), policy: &Policy, kind: Quiet) -> bool {
-    let heap = Refusing::new(rt.alloc());
-    let mut world = world_after(rt, &heap, WITH_PATH);
-    heap.refuse_after(0);
-    let is_done = is_done(rt, &mut world, policy, kind);
-    is_done && !heap.has_refused()
 }
 
 #[test]
 fn no_memory_calls(rt: HostRuntime) {
-    let policy = policy(&rt);
-    for kind in KINDS {
-        assert!(rt; is_quiet(&rt, &policy, *kind));
-    }
-    assert!(rt; is_taken(&rt));
+    let policy = read_policy(&rt);
+    let heap = Refusing::new(rt.alloc());
+    let means = Means {
+        heap: &heap,
+        policy: &policy,
+    };
+    let world = made::<HostRuntime, IndexBook<Heap<'_>>>(&rt, means, ACTIVE);
+    heap.refuse_after(0);
+    assert!(rt; are_shown() && is_allowed(&policy));
+    assert!(rt; is_found(&rt, &world) && is_joined(&world));
+    assert!(rt; !heap.has_refused());
+    heap.refuse_none();
+    let other = made::<HostRuntime, IndexBook<Heap<'_>>>(&rt, means, STAGED);
+    assert!(rt; leads::<IndexBook<Heap<'_>>>(&rt, &heap, &world, &other, true));
 }

@@ -21,7 +21,6 @@ pub enum Ask {
     DropVolume(&'static str),
     /// A name, and the text of the steps.
     Stage(&'static str, &'static str),
-    Withdraw(&'static str),
     Approve(&'static str),
     DryRun(&'static str),
     Activate(&'static str),
@@ -123,7 +122,6 @@ fn query(see: See) -> Result<Query, Fail> {
 
 fn on_plan(ask: Ask) -> Result<Command<Global>, Fail> {
     match ask {
-        Ask::Withdraw(text) => Ok(Command::Withdraw { plan: name(text)? }),
         Ask::Approve(text) => Ok(Command::Approve { plan: name(text)? }),
         Ask::DryRun(text) => Ok(Command::DryRun { plan: name(text)? }),
         Ask::Activate(text) => Ok(Command::Activate { plan: name(text)? }),

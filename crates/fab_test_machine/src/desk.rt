@@ -68,25 +68,6 @@ fn are_answered<B: PathBook<Global>>(
     Ok(true)
 }
 
-/// The same of several lists of turns, one after the other.
-fn are_all_answered<B: PathBook<Global>>(
-    alloc: Global,
-    world: &mut World<Global>,
-    book: &mut B,
-    policy: &Policy,
-    stages: &[&[Turn]],
-) -> Result<bool, Fail>
-    requires sound { IsSound world.old }
-    requires stands { B.stands book.old (records_of world.old) }
-{
-    for turns in stages {
-        if !are_answered(alloc, world, book, policy, turns)? {
-            return Ok(false);
-        }
-    }
-    Ok(true)
-}
-
 /// A book that stands at the world.
 ///
 /// # Errors
@@ -103,32 +84,27 @@ pub fn opened<A: Allocator + Copy, B: PathBook<A>>(alloc: A, world: &World<A>) -
     Ok(book)
 }
 
-/// Whether a desk with this policy and this world answers each turn of these lists as it says.
+/// Whether a desk with this policy and this world answers each turn as it says.
 fn is_kept<B: PathBook<Global>>(
     alloc: Global,
     policy: &Policy,
     world: &mut World<Global>,
-    stages: &[&[Turn]],
+    turns: &[Turn],
 ) -> Result<bool, Fail>
     requires sound { IsSound world.old }
 {
     let mut book: B = opened(alloc, world)?;
-    are_all_answered(alloc, world, &mut book, policy, stages)
+    are_answered(alloc, world, &mut book, policy, turns)
 }
 
-/// Whether a desk with this world answers each turn of these lists as it says, one list after the
-/// other.
+/// Whether a desk with this world answers each turn as it says.
 ///
 /// # Errors
 /// Where the world is not sound, a turn says no command, or there is no memory.
-pub fn holds_in(
-    alloc: Global,
-    world: &mut World<Global>,
-    stages: &[&[Turn]],
-) -> Result<bool, Fail> {
+pub fn holds_in(alloc: Global, world: &mut World<Global>, turns: &[Turn]) -> Result<bool, Fail> {
     if !world.is_sound(alloc)? {
         return Err(Fail::from("world"));
     }
     let policy = policy(alloc)?;
-    is_kept::<IndexBook<Global>>(alloc, &policy, world, stages)
+    is_kept::<IndexBook<Global>>(alloc, &policy, world, turns)
 }

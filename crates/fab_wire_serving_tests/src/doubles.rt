@@ -136,43 +136,6 @@ impl Clock for Broken {
     }
 }
 
-/// A stream that gives and takes a byte at each call, and notes the seconds that it was last told to
-/// wait.
-#[derive(Drop)]
-pub struct Slow<'t> {
-    pub told: &'t Cell<u64>,
-}
-
-impl<'t> Source for Slow<'t> {
-    ghost waits = { λ before most after. ⊤ };
-
-    fn read_for(&mut self, most: Duration, buf: &mut [u8]) -> io::Result<usize> {
-        self.told.set(most.as_secs());
-        match buf.first_mut() {
-            Some(byte) => {
-                *byte = b'.';
-                Ok(1)
-            }
-            None => Ok(0),
-        }
-    }
-}
-
-impl<'t> Sink for Slow<'t> {
-    ghost waits = { λ before most after. ⊤ };
-
-    ghost ends = { λ before after. ⊤ };
-
-    fn write_for(&mut self, most: Duration, buf: &[u8]) -> io::Result<usize> {
-        self.told.set(most.as_secs());
-        Ok(if buf.is_empty() { 0 } else { 1 })
-    }
-
-    fn end_writing(&mut self) -> io::Result<()> {
-        Ok(())
-    }
-}
-
 /// A stream that gives the same bytes at each read, and takes all that is written but at one write of
 /// some number, from 0 on, which fails alone.
 #[derive(Drop)]
@@ -304,33 +267,20 @@ impl<'l, R: Net<Stream = TcpStream>> Listens for Crowd<'l, R> {
     }
 }
 
-/// A log that takes nothing.
-#[derive(Drop)]
-pub struct Full;
-
-impl Write for Full {
-    fn write(&mut self, _buf: &[u8]) -> io::Result<usize> {
-        Err(io::Error::from(ErrorKind::StorageFull))
-    }
-
-    fn flush(&mut self) -> io::Result<()> {
-        Ok(())
-    }
-}
-
-/// A log that refuses one write, of some number from 0 on, and takes all others.
+/// A log that refuses the writes of some numbers, from 0 on, the first and those before another one, and takes
+/// all others.
 #[derive(Drop)]
 pub struct Leaky {
     pub taken: Vec<u8>,
     pub calls: u64,
-    pub fails_at: u64,
+    pub fails: (u64, u64),
 }
 
 impl Write for Leaky {
     fn write(&mut self, buf: &[u8]) -> io::Result<usize> {
         let call = self.calls;
         self.calls = call.saturating_add(1);
-        if call == self.fails_at {
+        if self.fails.0 <= call && call < self.fails.1 {
             return Err(io::Error::from(ErrorKind::StorageFull));
         }
         self.taken.write(buf)

@@ -1,12 +1,12 @@
 //! Connections over loopback. The bytes of most of them are sent before they are served.
 
-use super::doubles::{Broken, Busy, Crowd, Full, Leaky, Taking, Ticking};
+use super::doubles::{Broken, Busy, Crowd, Leaky, Taking, Ticking};
 use super::echo::{Echo, Held, MUCH, fill};
 use fab_wire_log::Watch;
 use fab_wire_serving::{Listens, ServeFault, listen_at, serve_on};
 use mio::Poll;
 use std::cell::Cell;
-use std::io::{BufWriter, Read, Write};
+use std::io::{Read, Write};
 use std::net::{Net, Shutdown, TcpListener, TcpStream};
 use std::process::Abort;
 use std::time::{Clock, Duration};
@@ -80,79 +80,128 @@ fn are_answered(rt: &(impl Abort + AllocGlobal), streams: &[TcpStream], turns: T
     true
 }
 
-/// What tells which connections have sent something.
-fn polled(rt: &(impl Abort + Net)) -> Option<Poll> {
-    Some(Poll::new(rt).expect(rt, "a poll"))
-}
-
-/// The same, where the system tells it.
-fn polled_if(rt: &(impl Abort + Net), is_told: bool) -> Option<Poll> {
-    if is_told { polled(rt) } else { None }
-}
-
-/// What a log has taken that was handed on to it.
-fn taken(rt: &impl Abort, log: BufWriter<Vec<u8>>) -> String {
-    let (bytes, _) = log.into_parts();
-    String::from_utf8(bytes).expect(rt, "a text")
-}
-
-/// What the log says of as many connections as `stores` has values. They have their turns at 1000, 1001
-/// and so on; what the echo is opened anew over is taken from `stores` in its order, where there is something, and
-/// only where it has let go of what it was opened over before. The clock is read whenever it is opened,
-/// so that by a clock that goes on at each reading that takes time.
-fn log_of<C: Clock>(
-    rt: &(impl Abort + AllocGlobal + Net),
-    clock: &C,
-    most_milliseconds: u64,
-    listener: &TcpListener,
-    stores: &[Option<bool>],
-) -> String {
-    let held = Cell::new(false);
-    log_while(rt, clock, true, most_milliseconds, listener, stores, &held)
-}
-
-/// The same, where the system tells who is ready or not, and where this says whether an echo has what it
-/// was opened over.
-fn log_while<'h, C: Clock>(
-    rt: &(impl Abort + AllocGlobal + Net),
-    clock: &C,
+/// How connections are served: whether the system tells who is ready, how many milliseconds a connection may
+/// last, the Unix seconds before the first turn, if the clock tells them, how many turns there are, what the
+/// echo is opened anew over, in order, and which writes the log refuses.
+#[derive(Clone, Copy)]
+struct How<'s> {
     is_told: bool,
-    most_milliseconds: u64,
-    listener: &TcpListener,
-    stores: &[Option<bool>],
-    held: &'h Cell<bool>,
-) -> String {
-    let log = BufWriter::new(rt.alloc(), Vec::new(rt.alloc())).expect(rt, "a log");
-    let mut watch = Watch::new(rt.alloc(), clock, log, polled_if(rt, is_told));
-    watch.most = Duration::from_millis(most_milliseconds);
-    let mut moment = 999u64;
-    let opened = Cell::new(0usize);
-    let mut echo = Echo::over(Held::take(held, true).ok());
-    serve_on(
-        &mut watch,
-        &mut echo,
-        listener,
-        &mut || {
-            moment = moment.saturating_add(1);
-            Some(moment)
-        },
-        Some(stores.len() as u64),
-        &|| {
-            clock.monotonic().map_err(|_| ())?;
-            let place = opened.get();
-            opened.set(place.saturating_add(1));
-            match stores.get(place) {
-                Some(Some(opens)) => Held::take(held, *opens),
-                _ => Err(()),
-            }
-        },
-    )
-    .expect(rt, "connections");
-    taken(rt, watch.log.into_inner())
+    most: u64,
+    moment: Option<u64>,
+    count: Option<u64>,
+    stores: &'s [Option<bool>],
+    fails: (u64, u64),
 }
 
 /// How long a connection may last, but in the tests of just that.
 const LONG: u64 = 30000;
+
+/// One connection, which has its turn at 1000.
+const ONE: How<'static> = How {
+    is_told: true,
+    most: LONG,
+    moment: Some(999),
+    count: Some(1),
+    stores: &[],
+    fails: (0, 0),
+};
+
+/// Two connections, at 1000 and 1001.
+const BOTH: How<'static> = How {
+    count: Some(2),
+    ..ONE
+};
+
+/// What came of it: the log, how many writes it refused, and why serving ended.
+#[derive(Drop)]
+struct Came {
+    log: String,
+    refusals: u64,
+    end: &'static str,
+}
+
+/// Why serving ended.
+fn end_of(ended: Result<(), ServeFault>) -> &'static str {
+    match ended {
+        Ok(()) => "done",
+        Err(ServeFault::Listener(_)) => "listener",
+        Err(ServeFault::NoClock) => "no clock",
+    }
+}
+
+/// What tells which connections have sent something, where the system tells it.
+fn polled(rt: &(impl Abort + Net), is_told: bool) -> Option<Poll> {
+    if is_told {
+        Some(Poll::new(rt).expect(rt, "a poll"))
+    } else {
+        None
+    }
+}
+
+/// A log that takes all but some writes.
+fn leaky(rt: &impl AllocGlobal, fails: (u64, u64)) -> Leaky {
+    Leaky {
+        taken: Vec::new(rt.alloc()),
+        calls: 0,
+        fails,
+    }
+}
+
+/// Serves connections.
+fn serve<C: Clock, L: Listens>(
+    rt: &(impl Abort + AllocGlobal + Net),
+    clock: &C,
+    listener: &L,
+    how: How<'_>,
+) -> Came {
+    let held = Cell::new(false);
+    serve_while(rt, clock, listener, how, &held)
+}
+
+/// The same, where this says whether an echo has what it was opened over. It is opened anew only where it has
+/// let go of that. The clock is read whenever it is opened, so that by a clock that goes on at each reading
+/// that takes time.
+fn serve_while<'h, C: Clock, L: Listens>(
+    rt: &(impl Abort + AllocGlobal + Net),
+    clock: &C,
+    listener: &L,
+    how: How<'_>,
+    held: &'h Cell<bool>,
+) -> Came {
+    let mut watch = Watch::new(
+        rt.alloc(),
+        clock,
+        leaky(rt, how.fails),
+        polled(rt, how.is_told),
+    );
+    watch.most = Duration::from_millis(how.most);
+    let mut moment = how.moment;
+    let opened = Cell::new(0usize);
+    let mut echo = Echo::over(Held::take(held, true).ok());
+    let ended = serve_on(
+        &mut watch,
+        &mut echo,
+        listener,
+        &mut || {
+            moment = Some(moment?.saturating_add(1));
+            moment
+        },
+        how.count,
+        &|| {
+            clock.monotonic().map_err(|_| ())?;
+            let place = opened.get();
+            opened.set(place.saturating_add(1));
+            match how.stores.get(place) {
+                Some(Some(opens)) => Held::take(held, *opens),
+                _ => Err(()),
+            }
+        },
+    );
+    let refusals = watch.log.failures();
+    let log = String::from_utf8(watch.log.into_inner().taken).expect(rt, "a text");
+    let end = end_of(ended);
+    Came { log, refusals, end }
+}
 
 /// Whether this is the line of a connection over which these bytes were sent, by a clock that has gone
 /// on by so many seconds at each reading, where a connection may last so many milliseconds.
@@ -165,19 +214,16 @@ fn has_line(
 ) -> bool {
     let listener = listen(rt);
     let _stream = told_whole(rt, &listener, bytes);
-    let log = log_of(rt, &Ticking::by(step), most, &listener, &[None]);
-    log.as_str() == line
+    let how = How { most, ..ONE };
+    serve(rt, &Ticking::by(step), &listener, how).log.as_str() == line
 }
 
-/// Connections over which this is told and answered, by a system that tells who is ready or does not: by
-/// how many seconds the clock goes on at each reading, how many milliseconds a connection may last, how the
-/// echo is opened anew as `log_of` says, and the log.
+/// Connections over which this is told and answered: by how many seconds the clock goes on at each reading, how
+/// they are served, and the log.
 struct Case {
     turns: Turns,
-    is_told: bool,
     step: u64,
-    most: u64,
-    stores: &'static [Option<bool>],
+    how: How<'static>,
     log: &'static str,
 }
 
@@ -186,57 +232,11 @@ fn serves(
     rt: &(impl Abort + AllocGlobal + Net<Listener = TcpListener, Stream = TcpStream>),
     case: &Case,
 ) {
-    let held = Cell::new(false);
     let listener = listen(rt);
     let streams = told_each(rt, &listener, case.turns);
-    let clock = Ticking::by(case.step);
-    let log = log_while(
-        rt,
-        &clock,
-        case.is_told,
-        case.most,
-        &listener,
-        case.stores,
-        &held,
-    );
-    assert_eq!(rt; log.as_str(), case.log);
+    let came = serve(rt, &Ticking::by(case.step), &listener, case.how);
+    assert_eq!(rt; came.log.as_str(), case.log);
     assert!(rt; are_answered(rt, streams.as_slice(), case.turns));
-}
-
-/// What ends the serving of connections, one at most.
-fn end_of<C: Clock, L: Listens>(
-    rt: &(impl Abort + AllocGlobal + Net),
-    clock: &C,
-    listener: &L,
-    moment: Option<u64>,
-    count: Option<u64>,
-) -> &'static str {
-    let mut watch = Watch::new(rt.alloc(), clock, Full, polled(rt));
-    let mut echo = Echo::over(None);
-    let ended = serve_on(
-        &mut watch,
-        &mut echo,
-        listener,
-        &mut || moment,
-        count,
-        &|| Err(()),
-    );
-    match ended {
-        Ok(()) => "done",
-        Err(ServeFault::Listener(_)) => "listener",
-        Err(ServeFault::NoClock) => "no clock",
-    }
-}
-
-/// The same of a connection over which a byte was sent.
-fn end_of_one<C: Clock>(
-    rt: &(impl Abort + AllocGlobal + Net<Stream = TcpStream>),
-    clock: &C,
-    listener: &TcpListener,
-    moment: Option<u64>,
-) -> &'static str {
-    let _stream = told_whole(rt, listener, b"1");
-    end_of(rt, clock, listener, moment, None)
 }
 
 const TWO: Turns = &[(b"one", b"one"), (b"two", b"two")];
@@ -260,34 +260,37 @@ const STARVED: Turns = &[(b"#much", b"#much"), (b"b", b"b")];
 const CASES: &[Case] = &[
     Case {
         turns: HALTED,
-        is_told: true,
         step: 0,
-        most: LONG,
-        stores: &[None, Some(false), Some(true), None],
+        how: How {
+            count: Some(4),
+            stores: &[None, Some(false), Some(true)],
+            ..ONE
+        },
         log: "1000 503 0 ms\n1001 503 0 ms\n1002 503 0 ms\n1003 200 0 ms\n",
     },
     Case {
         turns: ANEW,
-        is_told: true,
         step: 10,
-        most: 20001,
-        stores: &[Some(true), None],
+        how: How {
+            most: 20001,
+            stores: &[Some(true)],
+            ..BOTH
+        },
         log: "1000 503 70000 ms\n1001 200 160000 ms\n",
     },
     Case {
         turns: STARVED,
-        is_told: true,
         step: 0,
-        most: LONG,
-        stores: &[None, None],
+        how: BOTH,
         log: "1000 200 0 ms\n1001 200 0 ms\n",
     },
     Case {
         turns: TWO,
-        is_told: false,
         step: 0,
-        most: LONG,
-        stores: &[None, None],
+        how: How {
+            is_told: false,
+            ..BOTH
+        },
         log: "1000 200 0 ms\n1001 200 0 ms\n",
     },
 ];
@@ -319,82 +322,21 @@ fn each_connection_has_its_line(rt: HostRuntime) {
     }
 }
 
-/// The first connection sends the end of its request when the second one has its turn, which is at 1000;
-/// so its own is later.
-#[test]
-fn turns_are_in_the_order_in_which_requests_are_whole(rt: HostRuntime) {
-    let listener = listen(&rt);
-    let mut first = told(&rt, &listener, b"+a");
-    let second = told_whole(&rt, &listener, b"bb");
-    let log = BufWriter::new(rt.alloc(), Vec::new(rt.alloc())).expect(&rt, "a log");
-    let mut watch = Watch::new(rt.alloc(), &rt, log, polled(&rt));
-    let mut echo = Echo::over(None);
-    let mut moment = 999u64;
-    serve_on(
-        &mut watch,
-        &mut echo,
-        &listener,
-        &mut || {
-            moment = moment.saturating_add(1);
-            if moment == 1000 && first.write_all(b".").is_err() {
-                return None;
-            }
-            Some(moment)
-        },
-        Some(2),
-        &|| Err(()),
-    )
-    .expect(&rt, "connections");
-    let came = taken(&rt, watch.log.into_inner());
-    assert!(rt; came.starts_with("1000 200 ") && came.contains("\n1001 200 "));
-    assert!(rt; is_answered(&rt, &second, b"bb"));
-    assert!(rt; is_answered(&rt, &first, b"+a."));
-}
-
-/// Whether a log has this of two connections, where a write of this number is refused, and so many refusals
-/// are counted.
-fn leaves(
-    rt: &(impl Abort + AllocGlobal + Net<Listener = TcpListener, Stream = TcpStream>),
-    fails_at: u64,
-    text: &str,
-    refusals: u64,
-) -> bool {
-    let listener = listen(rt);
-    let _streams = told_each(rt, &listener, TWO);
-    let clock = Ticking::by(0);
-    let log = Leaky {
-        taken: Vec::new(rt.alloc()),
-        calls: 0,
-        fails_at,
-    };
-    let mut watch = Watch::new(rt.alloc(), &clock, log, polled(rt));
-    let mut echo = Echo::over(None);
-    serve_on(
-        &mut watch,
-        &mut echo,
-        &listener,
-        &mut || Some(7),
-        Some(2),
-        &|| Err(()),
-    )
-    .expect(rt, "connections");
-    let counted = watch.log.failures();
-    let log = watch.log.into_inner();
-    counted == refusals && log.taken.as_slice() == text.as_bytes()
-}
-
-/// The write that is refused, what the log has then, and how many refusals are counted: a line of which a
-/// write was refused is left as it is, and the next one is written.
-const LEAKS: &[(u64, &str, u64)] = &[
-    (u64::MAX, "7 200 0 ms\n7 200 0 ms\n", 0),
-    (0, "7 200 0 ms\n", 1),
-    (2, "7 7 200 0 ms\n", 1),
+/// The writes that the log refuses, what it has then of two connections, and how many refusals are counted: a
+/// line of which a write was refused is left as it is, and the next one is written.
+const LEAKS: &[((u64, u64), &str, u64)] = &[
+    ((0, 0), "1000 200 0 ms\n1001 200 0 ms\n", 0),
+    ((0, 1), "1001 200 0 ms\n", 1),
+    ((2, 3), "1000 1001 200 0 ms\n", 1),
 ];
 
 #[test]
 fn what_the_log_refuses_is_left_out(rt: HostRuntime) {
-    for &(fails_at, text, refusals) in LEAKS {
-        assert!(rt; leaves(&rt, fails_at, text, refusals));
+    for &(fails, text, refusals) in LEAKS {
+        let listener = listen(&rt);
+        let _streams = told_each(&rt, &listener, TWO);
+        let came = serve(&rt, &Ticking::by(0), &listener, How { fails, ..BOTH });
+        assert!(rt; came.log.as_str() == text && came.refusals == refusals);
     }
 }
 
@@ -403,7 +345,7 @@ fn what_the_log_refuses_is_left_out(rt: HostRuntime) {
 fn an_answer_is_not_lost_where_more_is_sent_than_read(rt: HostRuntime) {
     let listener = listen(&rt);
     let stream = told_whole(&rt, &listener, &[b'x'; 100000]);
-    log_of(&rt, &rt, LONG, &listener, &[None]);
+    serve(&rt, &rt, &listener, ONE);
     assert!(rt; is_answered(&rt, &stream, &[b'x'; 64]));
 }
 
@@ -416,7 +358,7 @@ fn a_long_request_is_told_to_its_end(rt: HostRuntime) {
     bytes[0] = b'+';
     bytes[11999] = b'.';
     let stream = told(&rt, &listener, &bytes);
-    log_of(&rt, &rt, LONG, &listener, &[None]);
+    serve(&rt, &rt, &listener, ONE);
     assert!(rt; is_answered(&rt, &stream, &bytes));
 }
 
@@ -427,8 +369,8 @@ fn a_long_answer_is_taken_to_its_end(rt: HostRuntime) {
     let client = told_whole(&rt, &listener, b"*");
     client.set_nonblocking(true).expect(&rt, "a socket");
     let clock = Taking::by(&client);
-    let log = log_of(&rt, &clock, LONG, &listener, &[None]);
-    assert_eq!(rt; log.as_str(), "1000 200 0 ms\n");
+    let came = serve(&rt, &clock, &listener, ONE);
+    assert_eq!(rt; came.log.as_str(), "1000 200 0 ms\n");
     clock.monotonic().expect(&rt, "a clock");
     assert_eq!(rt; clock.taken(), Some(MUCH + 1));
 }
@@ -440,51 +382,10 @@ fn a_client_that_takes_nothing_delays_no_other(rt: HostRuntime) {
     let listener = listen(&rt);
     let _full = told(&rt, &listener, b"*");
     let stream = told_whole(&rt, &listener, b"a");
-    let log = log_of(&rt, &rt, 1000, &listener, &[None, None]);
-    assert!(rt; log.starts_with("1000 unsent 1"));
-    assert!(rt; first_of_second_line(log.as_str()) == "1001 200");
+    let came = serve(&rt, &rt, &listener, How { most: 1000, ..BOTH });
+    assert!(rt; came.log.starts_with("1000 unsent 1"));
+    assert!(rt; came.log.contains("\n1001 200 "));
     assert!(rt; is_answered(&rt, &stream, b"a"));
-}
-
-/// The moment and what came of it, of the second line of a log.
-fn first_of_second_line(log: &str) -> &str {
-    match log.split_once('\n') {
-        Some((_, second)) => second.get(..8).unwrap_or(""),
-        None => "",
-    }
-}
-
-/// Two clients take nothing of answers that are more than is kept together: the first one is let go when
-/// the second one is answered, and not after its time, which is longer than a test may take. The second one goes away when a third one has
-/// its turn.
-#[test]
-fn answers_that_nobody_takes_are_bounded(rt: HostRuntime) {
-    let listener = listen(&rt);
-    let _first = told(&rt, &listener, b"*");
-    let mut second = Some(told(&rt, &listener, b"*"));
-    let _third = told_whole(&rt, &listener, b"a");
-    let log = BufWriter::new(rt.alloc(), Vec::new(rt.alloc())).expect(&rt, "a log");
-    let mut watch = Watch::new(rt.alloc(), &rt, log, polled(&rt));
-    watch.most = Duration::from_secs(1000);
-    let mut echo = Echo::over(None);
-    let mut moment = 999u64;
-    serve_on(
-        &mut watch,
-        &mut echo,
-        &listener,
-        &mut || {
-            moment = moment.saturating_add(1);
-            if moment == 1002 {
-                drop(second.take());
-            }
-            Some(moment)
-        },
-        Some(3),
-        &|| Err(()),
-    )
-    .expect(&rt, "connections");
-    let log = taken(&rt, watch.log.into_inner());
-    assert!(rt; log.starts_with("1000 unsent ") && log.contains("\n1001 unsent "));
 }
 
 /// So many connections over which nothing is sent.
@@ -500,29 +401,30 @@ fn silent(
     streams
 }
 
-/// Whether clients that came first and send nothing do not delay one that came after them.
+/// Whether so many clients that came first and send nothing do not delay one that came after them.
 fn delay_none(
     rt: &(impl Abort + AllocGlobal + Clock + Net<Listener = TcpListener, Stream = TcpStream>),
     count: usize,
-    stores: &[Option<bool>],
 ) -> bool {
     let listener = listen(rt);
     let _silent = silent(rt, &listener, count);
     let stream = told(rt, &listener, b"a");
-    let log = log_of(rt, rt, 500, &listener, stores);
+    let how = How {
+        most: 500,
+        count: Some((count as u64).saturating_add(1)),
+        ..ONE
+    };
+    let log = serve(rt, rt, &listener, how).log;
     log.starts_with("1000 200 ")
         && log.contains("\n1001 unread 5")
         && is_answered(rt, &stream, b"a")
 }
 
-/// How many turns there are where 127 silent clients are before one that asks. The seats are enough for all
-/// that come at once.
-const FEW: usize = 128;
-
+/// The seats are enough for all that come at once.
 #[test]
 fn a_silent_client_delays_no_other(rt: HostRuntime) {
-    assert!(rt; delay_none(&rt, 1, &[None, None]));
-    assert!(rt; delay_none(&rt, FEW - 1, &[None; FEW]));
+    assert!(rt; delay_none(&rt, 1));
+    assert!(rt; delay_none(&rt, 127));
 }
 
 /// How many clients there are with one more than has a seat.
@@ -540,22 +442,14 @@ fn silent_clients_make_way_for_a_newcomer(rt: HostRuntime) {
         left: Cell::new(CROWD),
         clients: Cell::new(Vec::new(rt.alloc())),
     };
-    let log = BufWriter::new(rt.alloc(), Vec::new(rt.alloc())).expect(&rt, "a log");
-    let mut watch = Watch::new(rt.alloc(), &rt, log, polled(&rt));
-    watch.most = Duration::from_secs(4);
-    let mut echo = Echo::over(None);
-    serve_on(
-        &mut watch,
-        &mut echo,
-        &crowd,
-        &mut || Some(1000),
-        Some(CROWD),
-        &|| Err(()),
-    )
-    .expect(&rt, "connections");
-    let log = taken(&rt, watch.log.into_inner());
+    let how = How {
+        most: 4000,
+        count: Some(CROWD),
+        ..ONE
+    };
+    let log = serve(&rt, &rt, &crowd, how).log;
     assert!(rt; log.starts_with("1000 unread 2"));
-    assert!(rt; log.contains(" ms\n1000 200 "));
+    assert!(rt; log.contains(" ms\n1001 200 "));
     let mut clients = crowd.clients.replace(Vec::new(rt.alloc()));
     let last = clients.pop().expect(&rt, "a client");
     assert!(rt; is_answered(&rt, &last, b"a"));
@@ -589,7 +483,11 @@ const MANY: usize = 300;
 fn clients_that_come_at_once_are_left_out_by_nobody(rt: HostRuntime) {
     let listener = listen(&rt);
     let streams = waiting(&rt, &listener, MANY);
-    log_of(&rt, &rt, LONG, &listener, &[None; MANY]);
+    let how = How {
+        count: Some(MANY as u64),
+        ..ONE
+    };
+    serve(&rt, &rt, &listener, how);
     for stream in &streams {
         assert!(rt; is_answered(&rt, stream, b"a"));
     }
@@ -605,24 +503,45 @@ fn a_refused_connection_is_waited_for_while_others_are_there(rt: HostRuntime) {
         calls: Cell::new(0),
         fails_at: 1,
     };
-    assert!(rt; end_of(&rt, &rt, &busy, Some(1), Some(2)) == "done");
+    assert!(rt; serve(&rt, &rt, &busy, BOTH).end == "done");
     assert!(rt; are_answered(&rt, streams.as_slice(), TWO));
+}
+
+/// Why serving ends that may go on, where a byte was sent over a connection.
+fn end_over_one<C: Clock>(
+    rt: &(impl Abort + AllocGlobal + Net<Listener = TcpListener, Stream = TcpStream>),
+    clock: &C,
+    moment: Option<u64>,
+) -> &'static str {
+    let listener = listen(rt);
+    let _stream = told_whole(rt, &listener, b"1");
+    let how = How {
+        moment,
+        count: None,
+        ..ONE
+    };
+    serve(rt, clock, &listener, how).end
 }
 
 /// A log that takes nothing ends nothing.
 #[test]
 fn serving_ends_with_the_count_the_listener_or_a_clock(rt: HostRuntime) {
     let listener = listen(&rt);
-    assert!(rt; end_of(&rt, &rt, &listener, Some(1), Some(0)) == "done");
+    let none = How {
+        count: Some(0),
+        ..ONE
+    };
+    assert!(rt; serve(&rt, &rt, &listener, none).end == "done");
     let deaf = Busy {
         listener: &listener,
         calls: Cell::new(0),
         fails_at: 0,
     };
-    assert!(rt; end_of(&rt, &rt, &deaf, Some(1), None) == "listener");
-    assert!(rt; end_of_one(&rt, &rt, &listener, None) == "no clock");
-    assert!(rt; end_of_one(&rt, &Broken, &listener, Some(1)) == "no clock");
+    assert!(rt; serve(&rt, &rt, &deaf, How { count: None, ..ONE }).end == "listener");
+    assert!(rt; end_over_one(&rt, &rt, None) == "no clock");
+    assert!(rt; end_over_one(&rt, &Broken, Some(1)) == "no clock");
     let stream = told_whole(&rt, &listener, b"2");
-    assert!(rt; end_of(&rt, &rt, &listener, Some(1), Some(1)) == "done");
+    let fails = (0, u64::MAX);
+    assert!(rt; serve(&rt, &rt, &listener, How { fails, ..ONE }).end == "done");
     assert!(rt; is_answered(&rt, &stream, b"2"));
 }

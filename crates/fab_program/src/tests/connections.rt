@@ -13,7 +13,7 @@ use fab_wire_serving::serve_on;
 use mio::Poll;
 use sqlite::{Alter, Connection};
 use std::alloc::Global;
-use std::io::{BufWriter, Read, Write};
+use std::io::{Read, Write};
 use std::net::{Ipv4Addr, Net, SocketAddr, TcpListener, TcpStream};
 use std::process::Abort;
 use std::time::Clock;
@@ -85,9 +85,8 @@ fn serve<S: Store<Global>>(
     listener: &TcpListener,
     front: &mut Front<S>,
 ) {
-    let log = BufWriter::new(rt.alloc(), Vec::new(rt.alloc())).expect(rt, "a log");
-    let poll = Poll::new(rt).ok();
-    let mut watch = Watch::new(rt.alloc(), rt, log, poll);
+    let log = Vec::new(rt.alloc());
+    let mut watch = Watch::new(rt.alloc(), rt, log, Poll::new(rt).ok());
     let mut moment = 58u64;
     let mut now = || {
         moment = moment.saturating_add(1);

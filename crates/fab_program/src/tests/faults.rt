@@ -15,20 +15,10 @@ const ASKED: Run<'static> = Run {
 const ANSWER: &str =
     "HTTP/1.1 200 OK\r\nContent-Type: application/json\r\nContent-Length: 56\r\nConnection: close\r\n\r\n{\"active\":null,\"default\":\"deny\",\"fabric\":\"A\",\"zones\":[]}";
 
-/// A plan that is not there, of a desk in a file.
-const TRIED: Run<'static> = Run {
-    words: "sandesk dryrun --db fault.db --policy fault.toml --token t-ada --plan p9",
-    ..ASKED
-};
-
-/// A desk in a new file; the answers to both, whose writer fails at its first write or whose reader
-/// fails at its first read; and no moment, which is told first, but where one is given.
+/// The answer; then the writer fails at its first write, or the reader at its first read; and there is no
+/// moment, which is told first.
 const FAULTS: &[Run<'static>] = &[
     Run {
-        words: "sandesk init --db fault.db",
-        ..QUIET
-    },
-    Run {
         output: ANSWER,
         ..ASKED
     },
@@ -46,41 +36,16 @@ const FAULTS: &[Run<'static>] = &[
     },
     Run {
         moment: None,
-        errors: "sandesk: clock\n",
-        status: 3,
-        ..ASKED
-    },
-    Run {
-        moment: None,
         read: 0,
         write: 0,
         errors: "sandesk: clock\n",
         status: 3,
         ..ASKED
-    },
-    Run {
-        words: "sandesk once --now 7",
-        moment: None,
-        output: ANSWER,
-        ..ASKED
-    },
-    Run {
-        write: 0,
-        errors: "sandesk: stream\n",
-        status: 3,
-        ..TRIED
-    },
-    Run {
-        moment: None,
-        errors: "sandesk: clock\n",
-        status: 3,
-        ..TRIED
     },
 ];
 
 #[test]
 fn streams_and_the_clock_fail(rt: HostRuntime) {
-    put(&rt, &rt, "fault.toml", TRIAL_POLICY.as_bytes());
     are_run(&rt, &rt, FAULTS);
 }
 
@@ -101,18 +66,8 @@ fn fill(host: &HostRuntime, rt: &(impl Abort + AllocGlobal), file: &Filled) {
     put(host, rt, file.0, bytes.as_slice());
 }
 
-/// An import into a database that is not there, which makes none.
-const UNMADE: Run<'static> = Run {
-    words: "sandesk import --db none.db --policy most.toml --token t-ada --fabric A --file most.csv",
-    errors: "sandesk: file\n",
-    status: 3,
-    ..QUIET
-};
-
 /// What is made of these files.
 const SIZES: &[Run<'static>] = &[
-    UNMADE,
-    UNMADE,
     Run {
         words: "sandesk init --db size.db",
         ..QUIET
@@ -125,12 +80,6 @@ const SIZES: &[Run<'static>] = &[
     },
     Run {
         words: "sandesk import --db size.db --policy most.toml --token t-ada --fabric A --file more.csv",
-        output: "{\"code\":6,\"error\":\"too-large\"}\n",
-        status: 1,
-        ..QUIET
-    },
-    Run {
-        words: "sandesk tryimport --db size.db --policy most.toml --token t-ada --fabric A --file more.csv",
         output: "{\"code\":6,\"error\":\"too-large\"}\n",
         status: 1,
         ..QUIET

@@ -6,15 +6,10 @@ use super::growth::{Task, done_anew};
 use fab_test_alloc::Refusing;
 use std::alloc::Global;
 
-/// Whether the desk knows its callers and no others, and serves.
-fn is_told(desk: &impl Asked) -> bool {
-    desk.knows("t-ada") && desk.knows("t-eve") && !desk.knows("t-fay") && !desk.is_halted()
-}
-
-/// Whether the desk tells it without memory.
+/// Whether the desk tells its callers and that it serves, without memory.
 pub fn is_quiet(refusing: &Refusing<Global>, desk: &impl Asked) -> bool {
     refusing.refuse_after(0);
-    is_told(desk) && !refusing.has_refused()
+    desk.is_told() && !refusing.has_refused()
 }
 
 #[test]

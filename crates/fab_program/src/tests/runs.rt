@@ -139,10 +139,16 @@ const MADE: &[Run<'static>] = &[
     },
 ];
 
-/// What the first worked plan would change, before it is activated.
-const TRIED: &[Run<'static>] = &[Run {
-    words: "sandesk diff --db round.db --policy round.toml --token t-ada --plan p1",
-    output: "\
+/// What the first worked plan would gain and change, before it is activated.
+const TRIED: &[Run<'static>] = &[
+    Run {
+        words: "sandesk dryrun --db round.db --policy round.toml --token t-ada --plan p1",
+        output: "{\"gained\":[{\"fabric\":\"A\",\"initiator\":\"10:00:00:00:00:00:00:01\",\"lun\":0,\"target\":\"50:00:00:00:00:00:00:01\",\"volume\":\"v1\"}],\"lost\":[],\"plan\":\"p1\"}\n",
+        ..QUIET
+    },
+    Run {
+        words: "sandesk diff --db round.db --policy round.toml --token t-ada --plan p1",
+        output: "\
 revision 6
 - meta active.A -
 + meta active.A s1
@@ -160,11 +166,23 @@ revision 6
 + group_parts storage g1 unit 0 v1
 paths: 0 lost, 1 gained; hosts left on one fabric: none; hosts left without a path: none
 ",
-    ..QUIET
-}];
+        ..QUIET
+    },
+];
 
-/// The paths of the first host of the worked world as texts.
+/// An import into fabric B, where nothing is active, leaves the paths of the first host of the worked world,
+/// which are told as texts.
 const PATHS_AND_REPORT: &[Run<'static>] = &[
+    Run {
+        words: "sandesk import --db round.db --policy round.toml --token t-ada --fabric B --file no-ports.csv",
+        output: "{\"revision\":8}\n",
+        ..QUIET
+    },
+    Run {
+        words: "sandesk export --db round.db --policy round.toml --token t-ada --fabric B",
+        output: "fabric B\nactive -\ndefault deny\n",
+        ..QUIET
+    },
     Run {
         words: "sandesk paths --db round.db --policy round.toml --token t-ada --host db1",
         output: "fabric,host,initiator,target,volume,lun\nA,db1,10:00:00:00:00:00:00:01,50:00:00:00:00:00:00:01,v1,0\n",
@@ -260,37 +278,7 @@ const STATUSES: &[Run<'static>] = &[
         ..QUIET
     },
     Run {
-        words: "sandesk paths --db status.db --policy status.toml --token t-ada --host db9",
-        output: "{\"code\":9,\"error\":\"not-found\"}\n",
-        status: 1,
-        ..QUIET
-    },
-    Run {
-        words: "sandesk report --db status.db --policy status.toml --token t-ada --host db9",
-        output: "{\"code\":9,\"error\":\"not-found\"}\n",
-        status: 1,
-        ..QUIET
-    },
-    Run {
-        words: "sandesk export --db status.db --policy status.toml --token t-zed --fabric A",
-        output: "{\"code\":1,\"error\":\"no-caller\"}\n",
-        status: 1,
-        ..QUIET
-    },
-    Run {
         words: "sandesk once --db status.db",
-        errors: "sandesk: words\n",
-        status: 2,
-        ..QUIET
-    },
-    Run {
-        words: "sandesk export --db status.db --policy status.toml --token t-ada --fabric C",
-        errors: "sandesk: words\n",
-        status: 2,
-        ..QUIET
-    },
-    Run {
-        words: "sandesk serve --db status.db --policy status.toml --listen 127.0.0.1:1 --count many",
         errors: "sandesk: words\n",
         status: 2,
         ..QUIET

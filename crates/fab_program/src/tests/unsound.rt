@@ -3,7 +3,7 @@
 
 use super::runs::{QUIET, Run, are_run, put};
 use fab_policy_base::TRIAL_POLICY;
-use sqlite::Connection;
+use sqlite::{Alter, Connection};
 use std::process::Abort;
 
 /// A database: its name, the statement that changed it, the words that make it and ask of it, and the line
@@ -41,12 +41,18 @@ const CHANGED: &[Changed] = &[
     ],
 ];
 
+/// Makes the statement over a connection, which ends.
+fn execute<S: Alter + Drop>(rt: &impl Abort, connection: Connection<S>, statement: &str) {
+    let mut connection = connection;
+    assert!(rt; connection.execute(statement, &[]).is_ok());
+}
+
 /// Changes a database behind the desk's back.
 fn change(host: &HostRuntime, rt: &impl Abort, name: &str, statement: &str) {
-    let Ok(mut connection) = Connection::open(host, name) else {
-        panic!(rt; "no database");
-    };
-    assert!(rt; connection.execute(statement, &[]).is_ok());
+    match Connection::open(host, name) {
+        Ok(connection) => execute(rt, connection, statement),
+        Err(_) => panic!(rt; "no database"),
+    }
 }
 
 /// Asks of a database that was changed.

@@ -1,0 +1,182 @@
+//! As many paths as there may be, and more.
+
+use crate::desk::{Heap, named};
+use fab_inventory::{HolderKind, Inventory, PortRow};
+use fab_mapping::Mapping;
+use fab_names::{Fabric, Place, Wwn};
+use fab_plans::trial;
+use fab_plans_text::read_plan;
+use fab_reach::{Config, IndexBook};
+use fab_reach_base::{PathsFault, View, few_paths};
+use fab_reach_books::{Limited, PathBook, ViewSight, row_diff};
+use fab_test_alloc::Refusing;
+use fab_zoning::Zoning;
+use std::process::Abort;
+
+/// The ports of these numbers, of three digits, before the last.
+fn ports(rt: &(impl Abort + AllocGlobal), first: u64, end: u64) -> Vec<Wwn> {
+    let mut ports = Vec::new(rt.alloc());
+    for number in first..end {
+        let text = format!(in rt.alloc(); "1000000000000{number}").expect(rt, "memory");
+        ports
+            .push(Wwn::read(text.as_str()).expect(rt, "a port"))
+            .expect(rt, "memory");
+    }
+    ports
+}
+
+/// Fabric A lists the ports 100 to 195, all at one place.
+fn list(inventory: &mut Inventory<Heap<'_>>, rt: &(impl Abort + AllocGlobal)) {
+    let mut rows = Vec::new(rt.alloc());
+    for port in &ports(rt, 100, 196) {
+        let row = PortRow::plain(*port, Wwn::new(1), Place::new(1, 1));
+        rows.push(row).expect(rt, "memory");
+    }
+    inventory
+        .import(Fabric::A, rows.as_slice())
+        .expect(rt, "a port list");
+}
+
+/// A holder of the ports of these numbers.
+fn hold(
+    inventory: &mut Inventory<Heap<'_>>,
+    rt: &(impl Abort + AllocGlobal),
+    kind: HolderKind,
+    holder: &str,
+    first: u64,
+    end: u64,
+) {
+    let ports = ports(rt, first, end);
+    inventory
+        .put_holder(named(rt, holder), kind, named(rt, "blue"), ports.as_slice())
+        .expect(rt, "a holder");
+}
+
+/// So many volumes of the array.
+fn put_volumes(inventory: &mut Inventory<Heap<'_>>, rt: &(impl Abort + AllocGlobal), count: u64) {
+    let (array, tenant) = (named(rt, "arr1"), named(rt, "blue"));
+    for number in 0..count {
+        let name = format!(in rt.alloc(); "v{number}").expect(rt, "memory");
+        inventory
+            .put_volume(named(rt, name.as_str()), array, tenant, 1)
+            .expect(rt, "a volume");
+    }
+}
+
+/// The host has so many ports, the array has 32 and so many volumes.
+fn stock<'a>(
+    rt: &(impl Abort + AllocGlobal),
+    heap: Heap<'a>,
+    initiators: u64,
+    volumes: u64,
+) -> Inventory<Heap<'a>> {
+    let mut inventory = Inventory::new(heap);
+    let end = initiators.saturating_add(100);
+    list(&mut inventory, rt);
+    hold(&mut inventory, rt, HolderKind::Host, "h", 100, end);
+    hold(&mut inventory, rt, HolderKind::Array, "arr1", 164, 196);
+    put_volumes(&mut inventory, rt, volumes);
+    inventory
+}
+
+/// The plan by which the default zone permits, and an exposed group gives the host so many volumes at all
+/// targets.
+fn plan(rt: &(impl Abort + AllocGlobal), volumes: u64) -> String {
+    let front = "default A permit\nhg.put hosts blue h\nsg.new g blue arr1\nsg.host g hosts\n";
+    let mut text = String::from_str(rt.alloc(), front).expect(rt, "memory");
+    for number in 164..196 {
+        write!(text, "sg.target g 1000000000000{number}\n").expect(rt, "memory");
+    }
+    for number in 0..volumes {
+        write!(text, "sg.map g {number} v{number}\n").expect(rt, "memory");
+    }
+    text.push_str("sg.expose g\n").expect(rt, "memory");
+    text
+}
+
+/// No zone, and no group.
+fn empty(heap: Heap<'_>) -> Config<Heap<'_>> {
+    Config {
+        a: Zoning::new(heap, Fabric::A),
+        b: Zoning::new(heap, Fabric::B),
+        mapping: Mapping::new(heap),
+    }
+}
+
+/// The configuration that the plan makes of the empty one.
+fn planned<'a>(
+    rt: &(impl Abort + AllocGlobal),
+    heap: Heap<'a>,
+    inventory: &Inventory<Heap<'a>>,
+    bare: &Config<Heap<'a>>,
+    volumes: u64,
+) -> Config<Heap<'a>> {
+    let text = plan(rt, volumes);
+    let Ok(steps) = read_plan(heap, text.as_str()) else {
+        panic!(rt; "no plan");
+    };
+    let Ok(config) = trial(bare, inventory, &steps) else {
+        panic!(rt; "no configuration");
+    };
+    config
+}
+
+/// How many paths there are, or none where there are more than there may be.
+fn few<'a>(
+    rt: &impl Abort,
+    heap: Heap<'a>,
+    inventory: &Inventory<Heap<'a>>,
+    config: &Config<Heap<'a>>,
+) -> Option<usize> {
+    match few_paths(heap, inventory, config) {
+        Ok(paths) => Some(paths.len()),
+        Err(PathsFault::TooMany) => None,
+        Err(PathsFault::Memory) => panic!(rt; "memory"),
+    }
+}
+
+/// Over a sight that stops past the limit the step is made ready just where there are few paths.
+fn assert_stop<'a, B: PathBook<Heap<'a>>>(
+    rt: &impl Abort,
+    heap: Heap<'a>,
+    before: &View<'_, Heap<'a>>,
+    after: &View<'_, Heap<'a>>,
+    few: bool,
+) {
+    assert!(rt; before.is_serving());
+    assert!(rt; after.is_serving());
+    let mut book = B::open(heap, before).expect(rt, "a book");
+    let diff = row_diff(heap, before, after).expect(rt, "a difference");
+    let mut sight = Limited::new(heap, ViewSight::new(heap, *after));
+    let ready = book.prepare(before, &diff, &mut sight);
+    assert!(rt; ready.is_ok() == few);
+    assert!(rt; sight.is_over() != few);
+}
+
+/// Initiators, volumes, and how many paths are listed under the limit: of 65,536, of 65,472, and of 66,528,
+/// which are too many.
+type Case = (u64, u64, Option<usize>);
+
+const CASES: &[Case] = &[
+    (64, 32, Some(65_536)),
+    (62, 33, Some(65_472)),
+    (63, 33, None),
+];
+
+/// So many paths are listed, and a sight that stops tells whether there may be.
+fn assert_case(rt: &(impl Abort + AllocGlobal), heap: Heap<'_>, case: Case) {
+    let inventory = stock(rt, heap, case.0, case.1);
+    let bare = empty(heap);
+    let config = planned(rt, heap, &inventory, &bare, case.1);
+    assert!(rt; few(rt, heap, &inventory, &config) == case.2);
+    let worlds = (View::of(&inventory, &bare), View::of(&inventory, &config));
+    assert_stop::<IndexBook<Heap<'_>>>(rt, heap, &worlds.0, &worlds.1, case.2.is_some());
+}
+
+#[test]
+fn paths_limit(rt: HostRuntime) {
+    let heap = Refusing::new(rt.alloc());
+    for case in CASES {
+        assert_case(&rt, &heap, *case);
+    }
+}
