@@ -7,6 +7,8 @@ use Rattle.fab_wire_deadlines.specs.Deadlines.{end_of, seen_by}
 use Rattle.fab_wire_deadlines.specs.declared.deadline.Deadline.{Deadline}
 use Rattle.fab_wire_gathering.specs.Guests.{given_up, given_up_ending, given_up_stage, goes_on}
 use Rattle.fab_wire_gathering.specs.Rounds.{EachGoesOn, GoesOnSo, HasGoneOn, IsTimed, KeepResting, NobodyIsLate, RestsIn, given_up_if}
+use Rattle.fab_wire_gathering.proofs.Rounds.{rests_same}
+use Rattle.fab_wire_gathering.proofs.Takers.{stays_numbered}
 use Rattle.fab_wire_gathering.specs.Seats.{Seats, HasSeat, SameSeats, given_up_at, numbered_in, without_gone, without_gone_in}
 use Rattle.fab_wire_gathering.specs.declared.guest.Guest.{Guest}
 use Rattle.fab_wire_gathering.specs.declared.guest.Stage.{Stage}
@@ -62,7 +64,7 @@ module _ (now : ℕ) (old mid timed new : Seats) (on : EachGoesOn HasGoneOn old 
   pub keep_resting : KeepResting old new
   keep_resting q guest seated rests =
       let one = seated_after HasGoneOn old mid on q guest seated in
-      let is : one.0 ≡ guest = one.2.1 (rests_not guest.stage rests) in
+      let is : one.0 ≡ guest = rests_same guest one.0 (rests_not guest.stage rests) one.2 in
       let two = seated_after (IsTimed now) mid timed late q guest (subst (HasSeat mid q) is one.1) in
       let deadline = two.2.0 in
       let after = record guest { deadline = deadline } in
@@ -83,12 +85,8 @@ gives_up_rests Told = refl
 gives_up_rests (Leaves left) = refl
 gives_up_rests Gone = refl
 
-keeps_stage : (was is : Stage) (waited : ℕ) (guest : Guest) → (numbered_in was is waited guest).stage ≡ guest.stage
-keeps_stage Sends Waits waited guest = refl
-keeps_stage was is waited guest = refl
-
 given_up_rests : (waited : ℕ) (guest : Guest) → goes_on (given_up_at waited guest).stage ≡ false
-given_up_rests waited guest = ap goes_on (keeps_stage guest.stage (given_up_stage guest.stage) waited (given_up guest)) ∙ gives_up_rests guest.stage
+given_up_rests waited guest = ap goes_on (stays_numbered guest.stage (given_up_stage guest.stage) waited (given_up guest)) ∙ gives_up_rests guest.stage
 
 not_late : (now : ℕ) (guest after : Guest) → IsTimed now guest after → goes_on after.stage ≡ true → now < end_of after.deadline
 not_late now guest after timed goes = by (nat_le (end_of deadline) (seen_by deadline)) refl

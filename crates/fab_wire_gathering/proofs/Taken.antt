@@ -56,8 +56,8 @@ module _ (seats : Seats) (place : ℕ) (seat : Option Guest) (q : ℕ) (other : 
       let same : get_or seats q None ≡ other = cc in
       there ∙ ap (λ (o : Option Guest). Some o) same
 
-pub has_come : (old mid : Seats) (place : ℕ) (guest : Guest) (stream : TcpStream) → SameSeats old mid → slice_get mid place ≡ Some None → guest.stream ≡ stream → HasComeTo old (set mid place (Some guest)) stream place
-has_come old mid place guest stream same free is = record {
+pub comes_to_seat : (old mid : Seats) (place : ℕ) (guest : Guest) (stream : TcpStream) → SameSeats old mid → slice_get mid place ≡ Some None → guest.stream ≡ stream → HasComeTo old (set mid place (Some guest)) stream place
+comes_to_seat old mid place guest stream same free is = record {
   guest = guest;
   seated = set_there mid place (Some guest) (slice_get_within mid place None free);
   is = is;
@@ -70,6 +70,6 @@ has_come old mid place guest stream same free is = record {
 
 -- ---- one that takes its answer
 
--- has no other number once it is given up
-pub keeps_number : (waited : ℕ) (guest : Guest) → guest.stage ≡ Takes → given_up_at waited guest ≡ given_up guest
-keeps_number waited guest is = ap (λ (s : Stage). numbered_in s (given_up_stage s) waited (given_up guest)) is
+-- has the number that it had once it is given up
+pub given_up_unnumbered : (waited : ℕ) (guest : Guest) → guest.stage ≡ Takes → given_up_at waited guest ≡ given_up guest
+given_up_unnumbered waited guest is = ap (λ (s : Stage). numbered_in s (given_up_stage s) waited (given_up guest)) is

@@ -57,7 +57,7 @@ given_up_in : (s : Stage) → s ≡ Takes → takers.takes_at (given_up_stage s)
 given_up_in Takes e = refl
 given_up_in s e = ap (λ x. takers.takes_at (given_up_stage x)) e
 
-stays_numbered : (was is : Stage) (number : ℕ) (guest : Guest) → (numbered_in was is number guest).stage ≡ guest.stage
+pub stays_numbered : (was is : Stage) (number : ℕ) (guest : Guest) → (numbered_in was is number guest).stage ≡ guest.stage
 stays_numbered Sends Waits number guest = refl
 stays_numbered was is number guest = refl
 

@@ -6,7 +6,7 @@ use Rattle.std.specs.declared.cmp.Ordering.{Ordering}
 use Rattle.std.specs.declared.net.tcp.TcpStream.{TcpStream}
 use Rattle.std.specs.declared.time.Instant.{Instant}
 use Rattle.fab_wire_deadlines.specs.Deadlines.{end_after}
-use Rattle.fab_wire_gathering.specs.Guests.{given_up}
+use Rattle.fab_wire_gathering.specs.Guests.{TakesRest, given_up}
 use Rattle.fab_wire_gathering.specs.Seats.{Seats, HasSeat, SameSeats, IsFirstSeat, ended_of, ends_at, given_up_at, has_taken, kept_in, leaves_at, most_guests, most_kept, most_waiting, silent_since, takes_until, told}
 use Rattle.fab_wire_gathering.specs.declared.gathering.Ended.{Ended}
 use Rattle.fab_wire_gathering.specs.declared.gathering.Seating.{Seating}
@@ -65,7 +65,7 @@ GivesUpSilent R now waited old new =
 -- of one that is seen off nothing more came, and its seat is free then; or something did, and it stays, or is gone
 abbrev pub LeavesIf : Bool → Guest → Option Guest → Type 0
 LeavesIf true guest after = after ≡ None
-LeavesIf false guest after = (is : Stage) × (after ≡ Some (record guest { stage = is }))
+LeavesIf false guest after = (is : Stage) × TakesRest guest.stage is × (after ≡ Some (record guest { stage = is }))
 
 -- it is looked at the one in this seat whether it leaves
 abbrev pub LeavesFrom : ℕ → Seats → Seats → Bool → Type 0

@@ -1,5 +1,5 @@
 -- What is known of the request of a guest, and of its answer.
-use Rattle.std.specs.Prelude.{ℕ, zero, suc, ◌≡◌, ◌⊎◌, List, Option, Some, None, Bool, true, false, Vec}
+use Rattle.std.specs.Prelude.{ℕ, zero, suc, ◌≡◌, ◌⊎◌, ◌++◌, ⊤, List, Option, Some, None, Bool, true, false, Vec}
 use Rattle.std.specs.declared.alloc.Global.{Global}
 use Rattle.fab_wire_deadlines.specs.declared.deadline.Deadline.{Deadline}
 use Rattle.fab_wire_gathering.specs.declared.guest.Ending.{Ending}
@@ -66,3 +66,18 @@ one_taken (suc left) = stage.Leaves left
 abbrev pub TakesRest : Stage → Stage → Type 0
 TakesRest (stage.Leaves left) after = (after ≡ stage.Leaves left) ⊎ (after ≡ one_taken left) ⊎ (after ≡ stage.Gone)
 TakesRest other after = after ≡ other
+
+-- its rest is taken still, or it is gone
+abbrev pub IsLeaving : Stage → Type 0
+IsLeaving (stage.Leaves left) = ⊤
+IsLeaving stage.Gone = ⊤
+IsLeaving other = ⊥
+
+-- what one who goes on comes to, by its stage: of one that sends bytes are added to those that have come, if any, and it sends
+-- on or waits for its turn; one that takes keeps its answer, and takes on, has taken all of it or did not take all; of one whose
+-- rest is taken more is taken, or it is gone; another is as it was
+abbrev pub ComesTo : Stage → Guest → Guest → Type 0
+ComesTo stage.Sends guest after = ((more : List ℕ) × (after.bytes.items ≡ guest.bytes.items ++ more)) × ((after.stage ≡ stage.Sends) ⊎ (after.stage ≡ stage.Waits))
+ComesTo stage.Takes guest after = (after.bytes ≡ guest.bytes) × ((after.stage ≡ stage.Takes) ⊎ ((after.stage ≡ stage.Taken) ⊎ (after.stage ≡ stage.Unsent)))
+ComesTo (stage.Leaves left) guest after = IsLeaving after.stage
+ComesTo other guest after = after ≡ guest

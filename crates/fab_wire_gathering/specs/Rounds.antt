@@ -2,11 +2,11 @@
 use Rattle.std.specs.Prelude.{ℕ, ◌≡◌, ◌<◌, ⊤, Bool, true, false, Option, Some, None, length, max, nat_le, slice_get}
 use Rattle.fab_wire_deadlines.specs.Deadlines.{end_after, end_of, seen_by}
 use Rattle.fab_wire_deadlines.specs.declared.deadline.Deadline.{Deadline}
-use Rattle.fab_wire_gathering.specs.Guests.{goes_on, most_lingering}
+use Rattle.fab_wire_gathering.specs.Guests.{ComesTo, IsLeaving, goes_on, most_lingering}
 use Rattle.fab_wire_gathering.specs.Seats.{Seats, HasSeat, given_up_at}
 use Rattle.fab_wire_gathering.specs.declared.guest.Guest.{Guest}
 use Rattle.fab_wire_gathering.specs.declared.guest.Stage.{Stage}
-use Rattle.fab_wire_gathering.specs.declared.guest.Stage.TheVariants.{Waits, Taken, Unsent, Told, Leaves, Gone}
+use Rattle.fab_wire_gathering.specs.declared.guest.Stage.TheVariants.{Waits, Taken, Unsent, Told}
 
 -- a free seat stays free
 abbrev pub GoesOnSo : (Guest → Guest → Type 0) → Option Guest → Option Guest → Type 0
@@ -18,21 +18,16 @@ pub record EachGoesOn (so : Guest → Guest → Type 0) (old new : Seats) : Type
   pub seats : length new ≡ length old
   pub each : (place : ℕ) (seat : Option Guest) → slice_get old place ≡ Some seat → (after : Option Guest) × (slice_get new place ≡ Some after) × GoesOnSo so seat after
 
--- the connection is the same; one of which nothing is to come, and to which nothing is to be sent, is as it was
+-- the connection is the same
 abbrev pub HasGoneOn : Guest → Guest → Type 0
-HasGoneOn guest after = (after.stream ≡ guest.stream) × (goes_on guest.stage ≡ false → after ≡ guest)
+HasGoneOn guest after = (after.stream ≡ guest.stream) × ComesTo guest.stage guest after
 
 -- there is so much more time
 abbrev pub IsPutOff : ℕ → Guest → Guest → Type 0
 IsPutOff by guest after = (deadline : Deadline) × (end_of deadline ≡ end_after (end_of guest.deadline) by) × (after ≡ record guest { deadline = deadline })
 
--- what is still sent is taken from now on, for a second at most; or it is gone
-abbrev pub IsLeaving : Stage → Type 0
-IsLeaving (Leaves left) = ⊤
-IsLeaving Gone = ⊤
-IsLeaving other = ⊥
-
--- one of which was told that it has its answer is seen off
+-- one of which was told that it has its answer is seen off: what is still sent is taken from now on, for a second at most; or it
+-- is gone
 abbrev pub IsSeenOffIn : Stage → ℕ → Guest → Guest → Type 0
 IsSeenOffIn Told now guest after =
     (deadline : Deadline) × (is : Stage) × IsLeaving is × (end_of deadline ≡ end_after now most_lingering) × (after ≡ record guest { deadline = deadline; stage = is })

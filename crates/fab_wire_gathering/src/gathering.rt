@@ -1,5 +1,5 @@
 //! Connections whose requests are gathered, and whose answers are sent, side by side.
-ghost use Rattle.std.specs.Prelude.{◌≡◌, ◌↔◌, ◌≤◌, ◌+◌, ◌-◌, ◌^◌, ℕ, min, All, Option, Some, None, IsTrue, IfSome, IfNone, length, map, nat_le, slice_get, slice_set};
+ghost use Rattle.std.specs.Prelude.{true, false, [], ◌≡◌, ◌↔◌, ◌≤◌, ◌+◌, ◌-◌, ◌^◌, ℕ, min, All, Option, Some, None, IsTrue, IfSome, IfNone, IfOk, length, vec_capacity, map, nat_le, slice_get, slice_set};
 ghost use Rattle.std.specs.Duration.{as_nanos};
 ghost use Rattle.std.specs.Option.{option_map};
 ghost use Rattle.std.specs.Ordering.{nat_cmp};
@@ -9,7 +9,7 @@ ghost use Rattle.fab_wire_gathering.specs.Ends.{HasNoPlace, IsSeated, IsFirstEnd
 ghost use Rattle.fab_wire_gathering.specs.Guests.{answered};
 ghost use Rattle.fab_wire_gathering.specs.Inner.Seating.{IsSooner};
 ghost use Rattle.fab_wire_gathering.specs.Rounds.{EachGoesOn, GoesOnSo, HasGoneOn, IsPutOff, IsSeenOff, IsTimed, KeepResting, NobodyIsLate};
-ghost use Rattle.fab_wire_gathering.specs.Seats.{HasSeat, IsFirstSeat, turn_of, ended_of, leaves_at, takes_until, silent_since, ends_at, has_taken, dismissed, takers_given_up, without_gone, given_up_at, numbered_in, waited_in, most_waiting, kept_by, kept_in, SameSeats};
+ghost use Rattle.fab_wire_gathering.specs.Seats.{most_guests, HasSeat, IsFirstSeat, turn_of, ended_of, leaves_at, takes_until, silent_since, ends_at, has_taken, dismissed, takers_given_up, without_gone, given_up_at, numbered_in, waited_in, most_waiting, kept_by, kept_in, SameSeats};
 ghost use Rattle.fab_wire_gathering.specs.declared.guest.Guest.{Guest};
 ghost use Rattle.fab_wire_gathering.specs.declared.guest.Stage.{Stage};
 ghost use Rattle.fab_wire_gathering.specs.declared.guest.Stage.TheVariants as stage;
@@ -119,7 +119,8 @@ fn go_on<F: Framing>(
     now: Instant,
     waited: &mut u64,
 )
-    ensures numbered { guest.old.stage ≡ stage.Sends → guest.new.stage ≡ stage.Waits → (guest.new.number ≡ waited.old) × (waited.new ≡ min (waited.old + 1) (2 ^ 64 - 1)) }
+    ensures numbered { guest.old.stage ≡ stage.Sends → guest.new.stage ≡ stage.Waits → guest.new.number ≡ waited.old }
+    ensures waited { waited.new ≡ waited_in guest.old.stage guest.new.stage waited.old }
     ensures on { HasGoneOn guest.old guest.new }
 {
     let was = guest.stage();
@@ -151,7 +152,11 @@ impl Gathering {
     ///
     /// # Errors
     /// There is no memory for the seats, or for what is read.
-    pub fn new(alloc: Global, now: Instant) -> Result<Self, AllocError> {
+    pub fn new(alloc: Global, now: Instant) -> Result<Self, AllocError>
+        ensures nobody { IfOk result (λ g. (g.seats.items ≡ []) × (g.waited ≡ 0)) }
+        ensures room { IfOk result (λ g. most_guests ≤ vec_capacity g.seats) }
+        ensures tried { IfOk result (λ g. g.tried ≡ now) }
+    {
         Ok(Gathering {
             alloc,
             seats: Vec::with_capacity(alloc, MOST_GUESTS)?,
@@ -327,6 +332,8 @@ impl Gathering {
     /// Goes on with everybody, if it is a second since that was done. It says whether it is.
     fn try_all<F: Framing>(&mut self, poll: &Poll, framing: &F, now: Instant) -> bool
         ensures tried { result ≡ nat_le (end_after (instant_nanos self.old.tried) most_waiting) (instant_nanos now) }
+        ensures noted { result ≡ true → self.new.tried ≡ now }
+        ensures untried { result ≡ false → self.new ≡ self.old }
         ensures each { EachGoesOn HasGoneOn self.old.seats.items self.new.seats.items }
     {
         if !has_come(later(self.tried, MOST_WAITING), now) {
@@ -339,7 +346,8 @@ impl Gathering {
 
     /// Goes on with everybody.
     fn go_on_with_all<F: Framing>(&mut self, poll: &Poll, framing: &F, now: Instant)
-        ensures { EachGoesOn HasGoneOn self.old.seats.items self.new.seats.items }
+        ensures each { EachGoesOn HasGoneOn self.old.seats.items self.new.seats.items }
+        ensures tried { self.new.tried ≡ self.old.tried }
     {
         for (place, seat) in self.seats.iter_mut().enumerate() {
             go_on_in(

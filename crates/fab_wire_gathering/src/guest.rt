@@ -4,7 +4,7 @@ ghost use Rattle.std.specs.Prelude.{◌≡◌, ◌≢◌, ◌++◌, ◌-◌, ◌
 ghost use Rattle.std.specs.Duration.{as_nanos};
 ghost use Rattle.std.specs.Time.{instant_nanos};
 ghost use Rattle.fab_wire_deadlines.specs.Deadlines.{end_of, end_time, end_after, seen_by};
-ghost use Rattle.fab_wire_gathering.specs.Guests.{most_lingering, most_first, WaitsSo, TakesRest, answered, given_up, goes_on};
+ghost use Rattle.fab_wire_gathering.specs.Guests.{most_lingering, most_first, ComesTo, WaitsSo, TakesRest, answered, given_up};
 ghost use Rattle.fab_wire_gathering.specs.Seats.{told, kept_at};
 ghost use Rattle.fab_wire_gathering.specs.declared.guest.Ending.TheVariants as ending;
 ghost use Rattle.fab_wire_gathering.specs.declared.guest.Stage.TheVariants as stage;
@@ -200,9 +200,8 @@ impl Guest {
     /// something may be left that did not have to wait.
     pub fn go_on<F: Framing>(&mut self, framing: &F, piece: &mut [u8], now: Instant) -> bool
         ensures whole { self.old.stage ≡ stage.Sends → WaitsSo ending.Whole self.new → F.is_whole framing.now self.new.bytes.items }
-        ensures sent { self.old.stage ≡ stage.Takes → self.new.bytes ≡ self.old.bytes }
+        ensures comes { ComesTo self.old.stage self.old self.new }
         ensures stream { self.new.stream ≡ self.old.stream }
-        ensures rests { goes_on self.old.stage ≡ false → self.new ≡ self.old }
     {
         match self.stage {
             Stage::Sends => self.receive(framing, piece, now),
@@ -226,6 +225,7 @@ impl Guest {
     /// lost where there is none.
     fn receive<F: Framing>(&mut self, framing: &F, piece: &mut [u8], now: Instant) -> bool
         ensures bytes { (more : List ℕ) × (self.new.bytes.items ≡ self.old.bytes.items ++ more) }
+        ensures stage { self.old.stage ≡ stage.Sends → (self.new.stage ≡ stage.Sends) ⊎ (self.new.stage ≡ stage.Waits) }
         ensures whole { self.old.stage ≡ stage.Sends → WaitsSo ending.Whole self.new → F.is_whole framing.now self.new.bytes.items }
         ensures stream { self.new.stream ≡ self.old.stream }
     {
@@ -265,6 +265,7 @@ impl Guest {
     fn keep<F: Framing>(&mut self, framing: &F, piece: &[u8], now: Instant)
         ensures bytes { (self.new.bytes.items ≡ self.old.bytes.items ++ piece.now)
             ⊎ ((self.new.bytes.items ≡ self.old.bytes.items) × WaitsSo ending.Failed self.new) }
+        ensures stage { (self.new.stage ≡ self.old.stage) ⊎ (self.new.stage ≡ stage.Waits) }
         ensures whole { self.old.stage ≡ stage.Sends → WaitsSo ending.Whole self.new → F.is_whole framing.now self.new.bytes.items }
         ensures stream { self.new.stream ≡ self.old.stream }
     {
@@ -285,6 +286,7 @@ impl Guest {
     /// Sends what is left of the answer. It says whether something may be left that the socket takes.
     pub fn send(&mut self) -> bool
         ensures rest { self.new ≡ record self.old { stage = self.new.stage; sent = self.new.sent } }
+        ensures stage { self.old.stage ≡ stage.Takes → (self.new.stage ≡ stage.Takes) ⊎ ((self.new.stage ≡ stage.Taken) ⊎ (self.new.stage ≡ stage.Unsent)) }
         ensures taken { self.old.stage ≡ stage.Takes → self.new.stage ≡ stage.Taken → length self.new.bytes.items ≤ self.new.sent }
     {
         for _ in 0..MOST_PIECES {

@@ -7,6 +7,7 @@ ghost use Rattle.fab_wire_gathering.specs.Inner.Seating.{earlier};
 ghost use Rattle.fab_wire_gathering.specs.Seats.{IsFirstSeat};
 
 use crate::guest::{Guest, Stage};
+use fab_wire_deadlines::deadline::Deadline;
 use std::cmp::Ordering;
 use std::time::{Duration, Instant};
 
@@ -17,10 +18,7 @@ pub(crate) const MOST_SILENCE: u64 = 2;
 pub(crate) fn later(time: Instant, seconds: u64) -> Instant
     ensures { instant_nanos result ≡ end_after (instant_nanos time) (seconds * 1_000_000_000) }
 {
-    match time.checked_add(Duration::from_secs(seconds)) {
-        Some(end) => end,
-        None => time,
-    }
+    Deadline::after(time, Duration::from_secs(seconds)).end()
 }
 
 /// Whether a time is there, at a reading of the clock.

@@ -13,8 +13,8 @@ loop-place-preserved g c =
     let within = subst (λ n. i < n) (sym c.loop-place.auto.seat-items) c.loop-place-test.true in
     next_one HasGoneOn c.args.self.now.seats.items i now c.seat-item.result c.go_on_in.new.seat within c.loop-place.invariant c.go_on_in.ensures
 
-pub returns : goal.returns
-returns g c =
+pub returns-clause-each : goal.returns-clause-each
+returns-clause-each g c =
     let seats = c.args.self.now.seats in
     let all = subst (λ (xs : List _). length xs ≤ c.loop-place.place) c.deref_mut-seat-items.ensures.value c.loop-place-test.false in
     all_written HasGoneOn seats.items c.loop-place.place seats.len c.loop-place.seat-items seats.ok.0 all c.loop-place.invariant

@@ -3,7 +3,7 @@ use Rattle.fab_wire_deadlines.specs.Deadlines.{end_time}
 use Rattle.fab_wire_gathering.specs.Seats.{Seats, IsFirstSeat, kept_in, most_kept, takes_until}
 use Rattle.fab_wire_gathering.specs.Inner.Takers.{takers_in}
 use Rattle.fab_wire_gathering.specs.declared.guest.Guest.{Guest}
-use Rattle.fab_wire_gathering.proofs.Taken.{keeps_number}
+use Rattle.fab_wire_gathering.proofs.Taken.{given_up_unnumbered}
 use Rattle.fab_wire_gathering.proofs.Takers.{fewer_take, none_kept, takes}
 use Rattle.fab_wire_gathering.proofs.gathering.Gathering.make_room.Goals as goal
 
@@ -26,7 +26,7 @@ loop-self-preserved c =
     let kept = c.kept.ensures in
     let past = c.loop-self-test.true in
     let many : most_kept < kept_in seats = omega (arith, kept, past) in
-    let given_up = c.give_up_seat.ensures first.guest first.seated ∙ ap (λ (g : Guest). set seats place (Some g)) (keeps_number c.loop-self.self.waited first.guest takes_answer) in
+    let given_up = c.give_up_seat.ensures first.guest first.seated ∙ ap (λ (g : Guest). set seats place (Some g)) (given_up_unnumbered c.loop-self.self.waited first.guest takes_answer) in
     (suc c.loop-self.invariant.0, (seats, c.loop-self.invariant.1, many, place, first.guest, first, first.seated, given_up))
 
 pub returns-in-None : goal.returns-in-None
