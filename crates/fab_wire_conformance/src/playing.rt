@@ -7,14 +7,14 @@ use crate::scenarios::{Exchange, Scenario};
 use crate::telling::{Place, tell};
 use crate::ways::{WAYS, Way};
 use fab_reach::{IndexBook, PathBook};
-use fab_reach_plain::PlainBook;
+use fab_reach_pairs::PlainBook;
 use fab_wire::laws::serve_all;
 use fab_wire_base::routes::Routes;
 use fab_worlds_players::Tally;
 use std::alloc::Global;
 
 /// How many times a request comes at most of which a read fails.
-const MOST_FAILURES: usize = 12;
+const MOST_FAILURES: usize = 3;
 
 /// How many bytes a request of a scenario has at most that is played over the plain book.
 const MOST_BYTES: usize = 8192;
