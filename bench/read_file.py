@@ -17,7 +17,7 @@ import desk
 
 TOP = pathlib.Path(__file__).resolve().parent.parent
 POLICY = TOP / "examples" / "session.toml"
-TEXTS = TOP / "crates" / "fab_store_schema" / "src" / "texts.rt"
+TEXTS = TOP / "crates" / "fab_store_sql" / "src" / "texts.rt"
 PLANS = 64
 
 # Each table's columns: name, type, whether null is refused, place in the key (0: none).

@@ -9,8 +9,7 @@ ghost use Rattle.fab_store_base.specs.Calls.{Rises};
 ghost use Rattle.fab_desk.specs.Desks.{IsTied};
 
 use fab_desk_machine::Sender;
-use fab_desk_machine::base::{DeskFault, Query, Reply, Shown};
-use fab_desk_machine::reads::is_open_to;
+use fab_desk_machine::base::{DeskFault, Query, Reply, Shown, is_open_to};
 use fab_names::Name;
 use fab_policy_base::Policy;
 use fab_store_base::Store;

@@ -11,3 +11,7 @@ pub mod SameLists
 pub mod Ends
 pub mod Confined
 pub mod KeptHosts
+pub mod SetItems
+pub mod Entries
+pub mod Lists
+pub mod Zones

@@ -12,3 +12,5 @@ pub mod Showing
 pub mod Answers
 pub mod Laws
 pub mod Keeping
+pub mod Recorded
+pub mod Grouping

@@ -13,12 +13,12 @@ mod finish;
 mod foreseeing;
 mod proposing;
 mod report;
+mod showing;
 mod verdicts;
 
 pub use answers::{Asked, answer};
 pub use change::{Change, adopt, carry_through, lists_of, take_over};
 pub use fab_desk_base as base;
-pub use fab_desk_reads as reads;
 pub use fab_desk_trials as trials;
 pub use fab_desk_trials::commands;
 pub use foreseeing::foresee;

@@ -13,9 +13,9 @@ ghost use Rattle.fab_desk_machine.specs.Proposals.{CountsStep, IsAccepted, IsEff
 use crate::bodies::{is_given, is_there};
 use crate::change::Change;
 use crate::finish::{carry_out, turn_down};
+use crate::showing::shown;
 use crate::verdicts::Sender;
 use fab_desk_base::{Command, DeskFault, Query, Reply};
-use fab_desk_reads::shown;
 use fab_desk_trials::try_out;
 use fab_policy::base::Policy;
 use fab_reach_base::Config;

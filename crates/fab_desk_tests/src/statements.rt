@@ -1,6 +1,6 @@
 //! How many statements a store makes.
 
-use fab_store_schema::ALL;
+use fab_store_sql::ALL;
 
 /// How many plans of statements a connection keeps, by their texts. SQLite's crate does not hand the number
 /// out: it is written here once more, and does not follow where that crate takes another.

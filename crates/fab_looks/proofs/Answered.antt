@@ -15,7 +15,7 @@ use Rattle.fab_world.specs.Worlds.{WorldRows}
 use Rattle.fab_desk_base.specs.Showing.{IsOpenTo}
 use Rattle.fab_desk_base.specs.declared.command.Query.{Query}
 use Rattle.fab_desk_base.specs.declared.command.Query.TheVariants as query
-use Rattle.fab_desk_reads.specs.Recorded.{IsRecorded}
+use Rattle.fab_desk_base.specs.Recorded.{IsRecorded}
 use Rattle.fab_looks.specs.declared.listing.Kind.{Kind}
 use Rattle.fab_looks.specs.declared.listing.Kind.TheVariants as kinds
 use Rattle.fab_looks.specs.Lists.{query_of, IsListing, AreKnownPorts}

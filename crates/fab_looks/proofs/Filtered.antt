@@ -3,7 +3,7 @@ use Rattle.std.proofs.Common.{◌≡◌, inl, inr, List, [], ◌∷◌, ◌++◌
 use Rattle.std.specs.List.{filter}
 use Rattle.std.proofs.lemmas.List.{append-nil, append_assoc, map-append}
 use Rattle.std.proofs.lemmas.List.Elements.{filter-append}
-use Rattle.fab_desk_reads.proofs.Lists.{head_or_later, here, later, none_there}
+use Rattle.fab_desk_base.proofs.Lists.{head_or_later, here, later, none_there}
 
 module _ {X : Type 0} (test : X → Bool) where
   pub from_filter : (xs : List X) (x : X) → Contains (filter test xs) x → Contains xs x × (test x ≡ true)

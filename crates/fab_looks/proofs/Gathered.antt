@@ -21,8 +21,8 @@ use Rattle.fab_world.specs.Worlds.{WorldRows}
 use Rattle.fab_desk_base.specs.Showing.{IsOpenTo}
 use Rattle.fab_desk_base.specs.declared.command.Query.{Query}
 use Rattle.fab_desk_base.specs.declared.command.Query.TheVariants as query
-use Rattle.fab_desk_reads.specs.Recorded.{IsRecorded}
-use Rattle.fab_desk_reads.proofs.Lists.{from_mapped, here, mapped}
+use Rattle.fab_desk_base.specs.Recorded.{IsRecorded}
+use Rattle.fab_desk_base.proofs.Lists.{from_mapped, here, mapped}
 use Rattle.fab_looks.specs.Inner.Gathered.{Appends, AreOfHost}
 use Rattle.fab_looks.specs.Told.{SeesHost}
 use Rattle.fab_looks.specs.Ways.{AreGroupReads, AreOfWay, ArePortReads, IsOfWay, IsOneAtMost, IsOpenQuery, IsOwnMapping, IsOwnPort}

@@ -8,7 +8,7 @@ use Rattle.std.proofs.lemmas.List.{append-nil, append_assoc, map-append}
 use Rattle.std.proofs.lemmas.List.Elements.{Contains-push_cases, Contains-append_left, Contains-push}
 use Rattle.fab_reach_base.specs.fab_lemmas.Lists.{IsListOf}
 use Rattle.fab_reach_base.specs.fab_names.Orders.{name_cmp}
-use Rattle.fab_desk_reads.proofs.Lists.{below_next, each_of, later, here, none_there, sorted_push}
+use Rattle.fab_desk_base.proofs.Lists.{below_next, each_of, later, here, none_there, sorted_push}
 use Rattle.fab_desk_base.specs.declared.command.Query.{Query}
 use Rattle.fab_desk_base.specs.declared.command.Query.TheVariants as query
 use Rattle.fab_looks.specs.Ways.{IsOneAtMost}

@@ -24,7 +24,7 @@ use Rattle.fab_reach_base.specs.fab_zoning_rows.declared.port_zones.PortZones.{P
 use Rattle.fab_desk_base.specs.Showing.{IsOpenTo}
 use Rattle.fab_desk_base.specs.declared.command.Query.{Query}
 use Rattle.fab_desk_base.specs.declared.command.Query.TheVariants as query
-use Rattle.fab_desk_reads.specs.Recorded.{IsRecorded}
+use Rattle.fab_desk_base.specs.Recorded.{IsRecorded}
 use Rattle.fab_looks.specs.Inner.Gathered.{Appends, zone_reads}
 use Rattle.fab_looks.specs.Lists.{IsListing, query_of}
 use Rattle.fab_looks.specs.PortWays.{AreOfPort, AreZoneReads, HolderQuery, IsOfPort, IsOwnTarget, IsOwnZone}

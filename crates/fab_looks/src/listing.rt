@@ -9,8 +9,7 @@ ghost use Rattle.fab_looks.specs.Lists.{IsListing};
 use crate::entries::{
     aliases_of, groups_of, holders_of, host_groups_of, plans_of, sets_of, volumes_of, zones_of,
 };
-use fab_desk_base::Query;
-use fab_desk_reads::is_open_to;
+use fab_desk_base::{Query, is_open_to};
 use fab_policy::{CallerId, Policy};
 use fab_reach_base::inventory::HolderKind;
 use fab_reach_base::names::{Fabric, Name};

@@ -4,7 +4,7 @@ ghost use Rattle.std.specs.List.{AllZip};
 ghost use Rattle.fab_desk_base.specs.Showing.{Shows};
 ghost use Rattle.fab_desk_base.specs.declared.command.Query.{Query};
 ghost use Rattle.fab_desk_base.specs.declared.command.Query.TheVariants as query;
-ghost use Rattle.fab_desk_reads.specs.Recorded.{IsRecorded};
+ghost use Rattle.fab_desk_base.specs.Recorded.{IsRecorded};
 ghost use Rattle.fab_looks.specs.Lists as lists;
 ghost use Rattle.fab_looks.specs.Rows.{AreRows, ArePortRows};
 ghost use Rattle.fab_policy.specs.fab_policy_base.Policies.{PolicyRows};
@@ -12,8 +12,7 @@ ghost use Rattle.fab_world.specs.Soundness.{IsSound};
 
 use crate::listing::{Kind, list, query_of};
 use crate::port_listing::list_ports;
-use fab_desk_base::{Query, Shown};
-use fab_desk_reads::recorded;
+use fab_desk_base::{Query, Shown, recorded};
 use fab_policy::{CallerId, Policy};
 use fab_reach_base::names::{Name, Wwn};
 use fab_world::World;

@@ -6,8 +6,7 @@ ghost use Rattle.fab_looks.specs.Ways.{AreGroupReads, AreOfWay, AreWayRows, IsOn
 ghost use Rattle.fab_world.specs.Soundness.{IsSound};
 
 use crate::rows::answers_to;
-use fab_desk_base::{Query, Shown};
-use fab_desk_reads::is_open_to;
+use fab_desk_base::{Query, Shown, is_open_to};
 use fab_policy::{CallerId, Policy};
 use fab_reach_base::inventory::HolderKind;
 use fab_reach_base::mapping::StorageGroup;

@@ -7,8 +7,7 @@ ghost use Rattle.fab_world.specs.Worlds.{records_of};
 
 use crate::ends::Ends;
 use crate::groups::own_groups;
-use fab_desk_base::Query;
-use fab_desk_reads::is_open_to;
+use fab_desk_base::{Query, is_open_to};
 use fab_looks_base::serves;
 use fab_policy::{CallerId, Policy};
 use fab_reach_base::inventory::HolderKind;

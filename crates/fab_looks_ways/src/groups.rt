@@ -5,8 +5,7 @@ ghost use Rattle.fab_looks_ways.specs.Inner.Gathering.{IsOwnEntry};
 ghost use Rattle.fab_looks.specs.Ways.{IsOwnMapping};
 ghost use Rattle.fab_reach_base.specs.Adding.{Adds};
 
-use fab_desk_base::Query;
-use fab_desk_reads::is_open_to;
+use fab_desk_base::{Query, is_open_to};
 use fab_policy::{CallerId, Policy};
 use fab_reach_base::mapping::StorageGroup;
 use fab_reach_base::names::Name;

@@ -8,4 +8,4 @@ pub mod Running
 pub mod OneFirst
 pub mod OneStep
 pub mod OnePlan
-pub use Rattle.fab_plans_kept.proofs.fab_plans_text
+pub use Rattle.fab_plans_text.proofs as fab_plans_text

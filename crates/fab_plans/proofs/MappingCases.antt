@@ -13,7 +13,7 @@ use Rattle.fab_reach_base.specs.fab_mapping_base.declared.limits.TheConstants.{M
 use Rattle.fab_reach_base.specs.fab_mapping_base.Groups.{StorageGroupRows}
 use Rattle.fab_reach_base.specs.fab_mapping.Mappings as base
 use Rattle.fab_reach_base.specs.fab_mapping.Mappings.{MappingRows, GroupHas, IsPortOf, IsVolumeOn}
-use Rattle.fab_plans_kept.specs.fab_plans_base.Steps.{PlanStep, host_group_put, host_group_drop, group_host, group_unhost, group_target, group_untarget, group_map, group_unmap}
+use Rattle.fab_plans_text.specs.fab_plans_base.Steps.{PlanStep, host_group_put, host_group_drop, group_host, group_unhost, group_target, group_untarget, group_map, group_unmap}
 use Rattle.fab_plans.specs.Checks.{PassesAll, IsFirstRefusal}
 use Rattle.fab_plans.specs.MappingSteps.{MappingFails, HasOtherVolume}
 use Rattle.fab_plans.specs.Telling.{IsFaultOf, TellsMapping}

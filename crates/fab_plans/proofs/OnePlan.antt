@@ -12,7 +12,7 @@ use Rattle.fab_reach_base.specs.fab_mapping_base.Nexuses.{nexus_cmp}
 use Rattle.fab_reach_base.specs.fab_mapping_base.declared.nexus.Nexus.{Nexus}
 use Rattle.fab_reach_base.specs.fab_mapping.Mappings.{MappingRows, IsLeastClash}
 use Rattle.fab_reach_base.specs.Records.{ConfigRows}
-use Rattle.fab_plans_kept.specs.fab_plans_base.Steps.{PlanStep}
+use Rattle.fab_plans_text.specs.fab_plans_base.Steps.{PlanStep}
 use Rattle.fab_plans.specs.Outcomes.{AllDone, IsOutcome, IsRefusedAt, IsClashAtEnd, IsRefusedOutcome}
 use Rattle.fab_plans.specs.Steps.{StepDone, StepRefused}
 use Rattle.fab_plans.specs.declared.fault.Refusal.{Refusal}

@@ -19,7 +19,7 @@ use Rattle.fab_reach_base.proofs.fab_zoning_rows.RowSets.{row_total, row_exact}
 use Rattle.fab_reach_base.specs.fab_mapping_base.Groups.{StorageGroupRows, with_hosts, without_hosts, with_target, without_target, with_unit, without_unit, exposed_as}
 use Rattle.fab_reach_base.specs.fab_mapping.Mappings.{MappingRows, ChangesGroup, IsLeastServing}
 use Rattle.fab_reach_base.specs.Records.{ConfigRows, zoning_at}
-use Rattle.fab_plans_kept.specs.fab_plans_base.Steps.{PlanStep, alias_put, alias_drop, zone_put, zone_drop, set_put, set_drop, activate, deactivate, default_zone, host_group_put, host_group_drop, group_new, group_drop, group_host, group_unhost, group_target, group_untarget, group_map, group_unmap, group_expose, group_hide}
+use Rattle.fab_plans_text.specs.fab_plans_base.Steps.{PlanStep, alias_put, alias_drop, zone_put, zone_drop, set_put, set_drop, activate, deactivate, default_zone, host_group_put, host_group_drop, group_new, group_drop, group_host, group_unhost, group_target, group_untarget, group_map, group_unmap, group_expose, group_hide}
 use Rattle.fab_plans.specs.Checks.{Check, own_name, other_names, right_array, free_unit, no_user, room, IsFirstRefusal}
 use Rattle.fab_plans.specs.MappingSteps.{MappingFails, MappingMakes}
 use Rattle.fab_plans.specs.Steps.{fabric_of, with_zoning, with_mapping, FailsIn, DoneIn, StepDone, StepRefused}

@@ -4,7 +4,7 @@ use Rattle.std.proofs.lemmas.List.{take_more}
 use Rattle.std.proofs.lemmas.Option.{slice_get-get_or}
 use Rattle.fab_reach_base.specs.fab_inventory.Inventories.{InventoryRows}
 use Rattle.fab_reach_base.specs.Records.{ConfigRows}
-use Rattle.fab_plans_kept.specs.fab_plans_base.Steps.{PlanStep}
+use Rattle.fab_plans_text.specs.fab_plans_base.Steps.{PlanStep}
 use Rattle.fab_plans.specs.Steps.{StepDone, FailsIn, fabric_of}
 use Rattle.fab_plans.specs.Outcomes.{AllDone, IsTrialFault}
 use Rattle.fab_plans.specs.Telling.{IsFaultOf, fault_at}

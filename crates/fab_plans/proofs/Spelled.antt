@@ -7,12 +7,12 @@ use Rattle.fab_reach_base.specs.fab_names.declared.member.Member.{Member}
 use Rattle.fab_reach_base.specs.fab_names.declared.member.Member.TheVariants as member
 use Rattle.fab_reach_base.specs.fab_zoning_rows.Rows.{IsPlain}
 use Rattle.fab_reach_base.specs.fab_zoning.Steps.{IsListing}
-use Rattle.fab_plans_kept.specs.fab_plans_base.Texts.{words_of}
-use Rattle.fab_plans_kept.specs.fab_plans_base.Steps.{PlanStep, alias_put, zone_put, set_put, host_group_put, group_map}
-use Rattle.fab_plans_kept.specs.fab_plans_base.Values.{Value, of_fabric, of_name, of_unit, of_member, of_port_member, NamesPorts, SpellsValues}
-use Rattle.fab_plans_kept.specs.fab_plans_base.Forms.{form_of, Takes, keyword_of, values_of}
-use Rattle.fab_plans_kept.specs.fab_plans_base.Plans.{SpellsStep, IsStep}
-use Rattle.fab_plans_kept.proofs.fab_plans_text.Measures.{words_taken}
+use Rattle.fab_plans_text.specs.fab_plans_base.Texts.{words_of}
+use Rattle.fab_plans_text.specs.fab_plans_base.Steps.{PlanStep, alias_put, zone_put, set_put, host_group_put, group_map}
+use Rattle.fab_plans_text.specs.fab_plans_base.Values.{Value, of_fabric, of_name, of_unit, of_member, of_port_member, NamesPorts, SpellsValues}
+use Rattle.fab_plans_text.specs.fab_plans_base.Forms.{form_of, Takes, keyword_of, values_of}
+use Rattle.fab_plans_text.specs.fab_plans_base.Plans.{SpellsStep, IsStep}
+use Rattle.fab_plans_text.proofs.Measures.{words_taken}
 
 -- as many words as values
 as_many : (words : List (List ℕ)) (vs : List Value) → SpellsValues words vs → length words ≡ length vs

@@ -9,10 +9,10 @@ use Rattle.fab_reach_base.specs.fab_mapping.Mappings.{MappingRows}
 use Rattle.fab_reach_base.specs.fab_mapping.Soundness as mappings
 use Rattle.fab_reach_base.specs.Records.{ConfigRows, zoning_at}
 use Rattle.fab_reach_base.specs.Soundness.{IsSoundBeside}
-use Rattle.fab_plans_kept.specs.fab_plans_base.Actions.{mapping_step}
-use Rattle.fab_plans_kept.specs.fab_plans_base.Steps.{PlanStep, alias_put, alias_drop, zone_put, zone_drop, set_put, set_drop, activate, deactivate, default_zone}
-use Rattle.fab_plans_kept.specs.fab_plans_base.declared.mapping_action.MappingAction.{MappingAction}
-use Rattle.fab_plans_kept.specs.fab_plans_base.declared.mapping_action.MappingAction.TheVariants as mapping
+use Rattle.fab_plans_text.specs.fab_plans_base.Actions.{mapping_step}
+use Rattle.fab_plans_text.specs.fab_plans_base.Steps.{PlanStep, alias_put, alias_drop, zone_put, zone_drop, set_put, set_drop, activate, deactivate, default_zone}
+use Rattle.fab_plans_text.specs.fab_plans_base.declared.mapping_action.MappingAction.{MappingAction}
+use Rattle.fab_plans_text.specs.fab_plans_base.declared.mapping_action.MappingAction.TheVariants as mapping
 use Rattle.fab_plans.specs.MappingSteps.{MappingFails, MappingDone}
 use Rattle.fab_plans.specs.Steps.{fabric_of, with_zoning, with_mapping, FailsIn, DoneIn, StepDone}
 use Rattle.fab_plans.specs.Telling.{IsFaultOf}

@@ -19,7 +19,7 @@ use Rattle.fab_reach_base.specs.fab_zoning.Zonings.{FabricZoning}
 use Rattle.fab_reach_base.specs.fab_zoning.Resolved.{IsResolved, AreResolved, MoreThan}
 use Rattle.fab_reach_base.specs.fab_zoning.Steps as base
 use Rattle.fab_reach_base.proofs.fab_zoning_rows.RowSets.{row_total, row_exact}
-use Rattle.fab_plans_kept.specs.fab_plans_base.Steps.{alias_put, alias_drop, zone_put, zone_drop, set_put, activate}
+use Rattle.fab_plans_text.specs.fab_plans_base.Steps.{alias_put, alias_drop, zone_put, zone_drop, set_put, activate}
 use Rattle.fab_plans.specs.Checks.{PassesAll, IsFirstRefusal}
 use Rattle.fab_plans.specs.ZoningSteps.{ZoningFails}
 use Rattle.fab_plans.specs.Telling.{IsFaultOf, TellsZoning}

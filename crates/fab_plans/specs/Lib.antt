@@ -6,5 +6,5 @@ pub mod Words
 pub mod Outcomes
 pub mod Telling
 pub mod Plans
-pub use Rattle.fab_plans_kept.specs as fab_plans_kept
-pub use Rattle.fab_plans_kept.specs.fab_plans_base
+pub use Rattle.fab_plans_text.specs as fab_plans_text
+pub use Rattle.fab_plans_text.specs.fab_plans_base

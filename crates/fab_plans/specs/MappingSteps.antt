@@ -8,7 +8,7 @@ use Rattle.fab_reach_base.specs.fab_inventory.Inventories.{InventoryRows, IsHost
 use Rattle.fab_reach_base.specs.fab_mapping_base.Limits.{most_host_groups, most_storage_groups, most_groups_served, most_targets, most_units}
 use Rattle.fab_reach_base.specs.fab_mapping_base.Groups.{StorageGroupRows, host_group_of, new_storage_group, with_hosts, without_hosts, with_target, without_target, with_unit, without_unit, exposed_as}
 use Rattle.fab_reach_base.specs.fab_mapping.Mappings.{MappingRows, IsLeastServing, GroupHas, ChangesGroup, IsPortOf, IsVolumeOn}
-use Rattle.fab_plans_kept.specs.fab_plans_base.Steps.{PlanStep, host_group_put, host_group_drop, group_new, group_drop, group_host, group_unhost, group_target, group_untarget, group_map, group_unmap, group_expose, group_hide}
+use Rattle.fab_plans_text.specs.fab_plans_base.Steps.{PlanStep, host_group_put, host_group_drop, group_new, group_drop, group_host, group_unhost, group_target, group_untarget, group_map, group_unmap, group_expose, group_hide}
 use Rattle.fab_plans.specs.Checks.{Check, own_name, other_names, right_array, free_unit, no_user, room, FailsWith, PassesAll}
 use Rattle.fab_plans.specs.declared.fault.Item.TheVariants as item
 use Rattle.fab_plans.specs.declared.fault.Refusal.{Refusal}

@@ -4,7 +4,7 @@ use Rattle.fab_reach_base.specs.fab_inventory.Inventories.{InventoryRows}
 use Rattle.fab_reach_base.specs.fab_mapping_base.declared.nexus.Nexus.{Nexus}
 use Rattle.fab_reach_base.specs.fab_mapping.Mappings.{IsLeastClash, HasNoClash}
 use Rattle.fab_reach_base.specs.Records.{ConfigRows}
-use Rattle.fab_plans_kept.specs.fab_plans_base.Steps.{PlanStep}
+use Rattle.fab_plans_text.specs.fab_plans_base.Steps.{PlanStep}
 use Rattle.fab_plans.specs.Steps.{StepDone, StepRefused}
 use Rattle.fab_plans.specs.declared.fault.Refusal.{Refusal}
 use Rattle.fab_plans.specs.declared.fault.Refusal.TheVariants.{Clash}

@@ -2,7 +2,7 @@
 use Rattle.std.specs.Prelude.{ℕ, ◌≡◌, List}
 use Rattle.std.specs.FinMap as map
 use Rattle.fab_reach_base.specs.fab_names.Orders.{name_cmp}
-use Rattle.fab_plans_kept.specs.fab_plans_base.Steps.{PlanStep}
+use Rattle.fab_plans_text.specs.fab_plans_base.Steps.{PlanStep}
 use Rattle.fab_plans.specs.declared.plan.Plan.{Plan}
 use Rattle.fab_plans.specs.declared.plan.ApprovalFault.{ApprovalFault}
 use Rattle.fab_plans.specs.declared.plan.ApprovalFault.TheVariants.{OwnPlan, Memory}

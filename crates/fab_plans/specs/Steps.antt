@@ -6,7 +6,7 @@ use Rattle.fab_reach_base.specs.fab_inventory.Inventories.{InventoryRows}
 use Rattle.fab_reach_base.specs.fab_zoning.Zonings.{FabricZoning}
 use Rattle.fab_reach_base.specs.fab_mapping.Mappings.{MappingRows}
 use Rattle.fab_reach_base.specs.Records.{ConfigRows, zoning_at}
-use Rattle.fab_plans_kept.specs.fab_plans_base.Steps.{PlanStep, alias_put, alias_drop, zone_put, zone_drop, set_put, set_drop, activate, deactivate, default_zone}
+use Rattle.fab_plans_text.specs.fab_plans_base.Steps.{PlanStep, alias_put, alias_drop, zone_put, zone_drop, set_put, set_drop, activate, deactivate, default_zone}
 use Rattle.fab_plans.specs.Checks.{Check, IsFirstRefusal}
 use Rattle.fab_plans.specs.ZoningSteps.{ZoningFails, ZoningDone}
 use Rattle.fab_plans.specs.MappingSteps.{MappingFails, MappingDone}

@@ -7,7 +7,7 @@ use Rattle.fab_reach_base.specs.fab_zoning.declared.fault.ZoningLimit.TheVariant
 use Rattle.fab_reach_base.specs.fab_mapping_base.declared.fault.MappingFault.{MappingFault}
 use Rattle.fab_reach_base.specs.fab_mapping_base.declared.fault.MappingFault.TheVariants as mapping
 use Rattle.fab_reach_base.specs.fab_mapping_base.declared.fault.MappingLimit.TheVariants as mapping_limit
-use Rattle.fab_plans_kept.specs.fab_plans_base.Steps.{PlanStep, host_group_put, host_group_drop, group_new, group_drop, group_host, group_unhost, group_target, group_untarget, group_map, group_unmap, group_expose, group_hide}
+use Rattle.fab_plans_text.specs.fab_plans_base.Steps.{PlanStep, host_group_put, host_group_drop, group_new, group_drop, group_host, group_unhost, group_target, group_untarget, group_map, group_unmap, group_expose, group_hide}
 use Rattle.fab_plans.specs.Checks.{Failures, IsFirstRefusal}
 use Rattle.fab_plans.specs.declared.fault.Item.{Item}
 use Rattle.fab_plans.specs.declared.fault.Item.TheVariants as item

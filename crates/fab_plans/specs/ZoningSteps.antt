@@ -11,7 +11,7 @@ use Rattle.fab_reach_base.specs.fab_zoning.Limits.{most_aliases, most_zones, mos
 use Rattle.fab_reach_base.specs.fab_zoning.Resolved.{IsResolved, AreResolved, MoreThan}
 use Rattle.fab_reach_base.specs.fab_zoning.Steps.{HasAlias, HasZone}
 use Rattle.fab_reach_base.specs.fab_zoning.Zonings.{FabricZoning}
-use Rattle.fab_plans_kept.specs.fab_plans_base.Steps.{PlanStep, alias_put, alias_drop, zone_put, zone_drop, set_put, set_drop, activate, deactivate, default_zone}
+use Rattle.fab_plans_text.specs.fab_plans_base.Steps.{PlanStep, alias_put, alias_drop, zone_put, zone_drop, set_put, set_drop, activate, deactivate, default_zone}
 use Rattle.fab_plans.specs.Checks.{Check, own_name, other_names, no_user, room, FailsWith, PassesAll}
 use Rattle.fab_plans.specs.declared.fault.Item.TheVariants as item
 use Rattle.fab_plans.specs.declared.fault.Refusal.{Refusal}

@@ -2,7 +2,7 @@
 ghost use Rattle.std.specs.Prelude.{◌≡◌, ℕ, List};
 ghost use Rattle.fab_reach_base.specs.fab_inventory.Inventories.{InventoryRows};
 ghost use Rattle.fab_reach_base.specs.Records.{ConfigRows};
-ghost use Rattle.fab_plans_kept.specs.fab_plans_base.Steps.{PlanStep};
+ghost use Rattle.fab_plans_text.specs.fab_plans_base.Steps.{PlanStep};
 ghost use Rattle.fab_plans.specs.Outcomes.{IsOutcome, IsRefusedOutcome};
 ghost use Rattle.fab_plans.specs.declared.fault.Refusal.{Refusal};
 

@@ -10,13 +10,12 @@ mod plan;
 mod states;
 mod zoning_steps;
 
-pub use fab_plans_kept as kept;
-pub use fab_plans_kept::texts::{
+pub use fab_plans_text as texts;
+pub use fab_plans_text::{
     Action, Keyword, LAST_UNIT, MOST_BYTES, MOST_ITEMS, MOST_STEPS, MappingAction, MappingKeyword,
-    PlanFault, PlanFaultKind, Step, ZoningAction, ZoningKeyword, is_within_limits, print_plan,
-    read_plan,
+    PlanFault, PlanFaultKind, PlanText, Step, ZoningAction, ZoningKeyword, base, is_within_limits,
+    print_plan, read_plan,
 };
-pub use fab_plans_kept::{PlanText, base, texts};
 pub use fault::{Item, Refusal, StepLimit, TrialFault};
 pub use outcome::{take_steps, trial};
 pub use plan::{ApprovalFault, Plan};

@@ -1,8 +1,8 @@
 //! The steps of mapping.
 ghost use Rattle.std.specs.Prelude.{◌≡◌, OnOk, IfErr, ⊤};
 ghost use Rattle.fab_reach_base.specs.fab_mapping.Soundness.{Keeps};
-ghost use Rattle.fab_plans_kept.specs.fab_plans_base.Actions as actions;
-ghost use Rattle.fab_plans_kept.specs.fab_plans_base.Plans.{IsStep};
+ghost use Rattle.fab_plans_text.specs.fab_plans_base.Actions as actions;
+ghost use Rattle.fab_plans_text.specs.fab_plans_base.Plans.{IsStep};
 ghost use Rattle.fab_plans.specs.MappingSteps.{MappingDone, MappingFails};
 ghost use Rattle.fab_plans.specs.Telling.{IsFaultOf, TellsMapping, first_name, added_item};
 ghost use Rattle.fab_reach_base.specs.fab_mapping_base.declared.fault.MappingFault.TheVariants as mapping;
@@ -11,7 +11,7 @@ ghost use Rattle.fab_plans.specs.declared.fault.Refusal.TheVariants as refusal;
 
 use crate::fault::StepFault;
 use crate::{Item, Refusal, StepLimit};
-use fab_plans_kept::base::MappingAction;
+use fab_plans_text::base::MappingAction;
 use fab_reach_base::inventory::Inventory;
 use fab_reach_base::mapping::{Mapping, MappingFault, MappingLimit};
 use fab_reach_base::names::Name;

@@ -9,7 +9,7 @@ use crate::fault::StepFault;
 use crate::mapping_steps::take_mapping_step;
 use crate::zoning_steps::{take_zoning_step, zoned};
 use crate::{Refusal, TrialFault};
-use fab_plans_kept::base::{Action, Step};
+use fab_plans_text::base::{Action, Step};
 use fab_reach_base::Config;
 use fab_reach_base::inventory::Inventory;
 use fab_reach_base::names::Fabric;

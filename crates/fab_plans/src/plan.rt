@@ -3,7 +3,7 @@ ghost use Rattle.std.specs.Prelude.{◌≡◌, ◌≢◌, OnOk, OnErr, IfErr};
 ghost use Rattle.fab_plans.specs.Plans.{seen_plan, new_plan, approved_by, IsApprovalFault};
 ghost use Rattle.fab_plans.specs.declared.plan.ApprovalFault.TheVariants.{Memory};
 
-use fab_plans_kept::PlanText;
+use fab_plans_text::PlanText;
 use fab_reach_base::names::Name;
 use std::alloc::{AllocFailed, Allocator};
 use std::collections::BTreeMap;

@@ -6,7 +6,7 @@ ghost use Rattle.fab_plans.specs.Plans.{seen_plan, new_plan, approved_by, IsAppr
 ghost use Rattle.fab_reach_base.specs.Soundness.{IsSoundBeside};
 
 use crate::{ApprovalFault, Plan, TrialFault, trial};
-use fab_plans_kept::PlanText;
+use fab_plans_text::PlanText;
 use fab_reach_base::Config;
 use fab_reach_base::inventory::Inventory;
 use fab_reach_base::names::Name;

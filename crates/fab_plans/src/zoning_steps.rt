@@ -1,8 +1,8 @@
 //! The steps of zoning.
 ghost use Rattle.std.specs.Prelude.{◌≡◌, Some, OnOk, IfErr, ⊤};
 ghost use Rattle.fab_reach_base.specs.fab_zoning.Soundness.{IsSound};
-ghost use Rattle.fab_plans_kept.specs.fab_plans_base.Actions as actions;
-ghost use Rattle.fab_plans_kept.specs.fab_plans_base.Plans.{IsStep};
+ghost use Rattle.fab_plans_text.specs.fab_plans_base.Actions as actions;
+ghost use Rattle.fab_plans_text.specs.fab_plans_base.Plans.{IsStep};
 ghost use Rattle.fab_plans.specs.Steps.{fabric_of};
 ghost use Rattle.fab_plans.specs.Telling.{IsFaultOf, TellsZoning};
 ghost use Rattle.fab_plans.specs.ZoningSteps.{ZoningDone, ZoningFails};
@@ -12,7 +12,7 @@ ghost use Rattle.fab_plans.specs.declared.fault.Refusal.TheVariants as refusal;
 
 use crate::fault::StepFault;
 use crate::{Item, Refusal, StepLimit};
-use fab_plans_kept::base::ZoningAction;
+use fab_plans_text::base::ZoningAction;
 use fab_reach_base::names::Fabric;
 use fab_reach_base::zoning::{Zoning, ZoningFault, ZoningLimit};
 use std::alloc::Allocator;

@@ -8,6 +8,7 @@ mod limits;
 mod mapping_action;
 mod mapping_keyword;
 mod step;
+pub mod words;
 mod zoning_action;
 mod zoning_keyword;
 

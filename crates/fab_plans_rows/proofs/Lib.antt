@@ -4,3 +4,5 @@ mod KeysNamed
 mod NoneTouched
 mod Clearing
 mod Touching
+mod Firsts
+mod Losses

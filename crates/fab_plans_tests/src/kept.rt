@@ -1,6 +1,5 @@
 //! How many bytes a plan takes that is kept.
-use fab_plans_kept::PlanText;
-use fab_plans_text::read_plan;
+use fab_plans_text::{PlanText, read_plan};
 use linked_list_allocator::LocalHeap;
 use std::alloc::Global;
 use std::process::Abort;

@@ -10,7 +10,7 @@ use Rattle.fab_plans_text.specs.declared.fault.PlanFaultKind.{PlanFaultKind}
 use Rattle.fab_plans_text.specs.declared.fault.PlanFaultKind.TheVariants as kind
 use Rattle.fab_plans_text.specs.declared.fault.PlanFault.{PlanFault}
 use Rattle.fab_plans_text.proofs.PlanReadings.{as_many}
-use Rattle.fab_plans_text.proofs.Unique.{one_keyword, kinds_of_step, as_many_values}
+use Rattle.fab_plans_base.proofs.Unique.{one_keyword, kinds_of_step, as_many_values}
 
 -- words that spell values have no fault
 no_first_fault : (words : List (List ℕ)) (vs : List Value) (fault : PlanFaultKind) → SpellsValues words vs → ¬ (IsFirstFault (map kind_of vs) words fault)

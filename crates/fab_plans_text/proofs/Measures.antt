@@ -7,7 +7,7 @@ use Rattle.fab_plans_base.specs.Texts.{words_of}
 use Rattle.fab_plans_base.specs.Steps.{PlanStep}
 use Rattle.fab_plans_base.specs.Forms.{form_of, Takes, keyword_of, values_of}
 use Rattle.fab_plans_base.specs.Plans.{SpellsStep, IsStep, step_text, plan_text}
-use Rattle.fab_plans_text.proofs.Unique.{as_many_values}
+use Rattle.fab_plans_base.proofs.Unique.{as_many_values}
 
 -- the digits of a number are those of a tenth of it, and one more
 pub one_digit : (n : ℕ) → n < 10 → length (decimal n) ≡ 1

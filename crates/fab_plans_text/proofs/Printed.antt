@@ -29,8 +29,8 @@ use Rattle.fab_plans_base.specs.declared.keyword.Keyword.{Keyword}
 use Rattle.fab_plans_base.specs.declared.keyword.Keyword.TheVariants.{Zoning, Mapping}
 use Rattle.fab_plans_base.specs.declared.zoning_keyword.ZoningKeyword.TheVariants as zoning
 use Rattle.fab_plans_base.specs.declared.mapping_keyword.MappingKeyword.TheVariants as mapping
-use Rattle.fab_plans_text.proofs.Cuts.{first_word_cut, only_word, first_line_cut}
-use Rattle.fab_plans_text.proofs.Unique.{as_many_values, one_plan}
+use Rattle.fab_plans_base.proofs.Cuts.{first_word_cut, only_word, first_line_cut}
+use Rattle.fab_plans_base.proofs.Unique.{as_many_values, one_plan}
 
 -- each character comes after this one
 abbrev pub Above : ℕ → List ℕ → Type 0

@@ -1,5 +1,5 @@
 //! The lines of a plan text.
-ghost use Rattle.std.specs.Prelude.{◌≡◌, ◌==◌, count_by, ℕ, List, ◌∷◌, length, MatchResult, IfOk};
+ghost use Rattle.std.specs.Prelude.{length, MatchResult};
 ghost use Rattle.fab_plans_base.specs.Texts.{words_of};
 ghost use Rattle.fab_plans_base.specs.Values.{texts_of};
 ghost use Rattle.fab_plans_base.specs.Forms.{form_of, Takes};
@@ -9,31 +9,8 @@ ghost use Rattle.fab_plans_text.specs.Faults.{IsLineFault, MemoryOr, ReadsWords}
 use crate::mapping_line::mapping_words;
 use crate::zoning_line::zoning_words;
 use crate::{Keyword, PlanFaultKind, Step};
-use std::alloc::{AllocError, Allocator};
-
-/// The first word of a line.
-fn first_word(line: &str) -> &str
-    ensures { (others : List (List ℕ)) × (words_of line.now ≡ result.now ∷ others) }
-{
-    match line.split_once(' ') {
-        Some((word, _)) => word,
-        None => line,
-    }
-}
-
-/// How many spaces a line has.
-fn count_spaces(line: &[u8]) -> usize
-    ensures { result ≡ count_by (λ c. c == 32) line.now }
-{
-    line.iter().filter(|c| **c == b' ').count()
-}
-
-/// The words of a line.
-fn words_in<A: Allocator>(alloc: A, line: &str) -> Result<Vec<&str, A>, AllocError>
-    ensures { IfOk result (λ words. texts_of words.items ≡ words_of line.now) }
-{
-    line.split(' ').collect(alloc)
-}
+use fab_plans_base::words::{count_spaces, first_word, words_in};
+use std::alloc::Allocator;
 
 /// Reads the words that follow the first.
 fn read_words<A: Allocator + Copy>(

@@ -12,7 +12,7 @@ use Rattle.fab_store.specs.Laws.{Leaves}
 use Rattle.fab_store.specs.declared.OpenFault.{OpenFault}
 use Rattle.fab_store.specs.fab_store_base.Calls.{IsCounted, MigratesNot, Rises}
 use Rattle.fab_store_migration.specs.Migrations.{IsKnown, IsOld}
-use Rattle.fab_store_schema.specs.Trees.{tables_of}
+use Rattle.fab_store_sql.specs.Trees.{tables_of}
 use Rattle.fab_store_sql.specs.NewDesk.{IsNewDesk}
 use Rattle.fab_store_tables.specs.Tables.{Tables}
 use Rattle.fab_store_tables.specs.Versions.{IsMigrated}

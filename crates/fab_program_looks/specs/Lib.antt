@@ -1,3 +1,5 @@
 pub mod Telling
 pub mod Lists
 pub mod Looks
+pub mod Told
+pub mod Tries

@@ -9,9 +9,9 @@ use Rattle.fab_program_outside.specs.Coming.{Then}
 use Rattle.fab_program_outside.specs.Contents.{IsPolicyAt}
 use Rattle.fab_program_outside.specs.declared.faults.Fault.{Fault}
 use Rattle.fab_program_outside.specs.declared.files.Files as files
-use Rattle.fab_program_tries.specs.Telling.{TellsImport, TellsPlan}
-use Rattle.fab_program_tries.specs.Tries.{ComesTold, TriesOver}
-use Rattle.fab_program_tries.specs.declared.tries.Asked.{Asked}
+use Rattle.fab_program_looks.specs.Told.{TellsImport, TellsPlan}
+use Rattle.fab_program_looks.specs.Tries.{ComesTold, TriesOver}
+use Rattle.fab_program_looks.specs.declared.tries.Asked.{Asked}
 use Rattle.fab_program_words.specs.declared.words.Diff.{Diff}
 use Rattle.fab_program_words.specs.declared.words.TryImport.{TryImport}
 use Rattle.fab_store.specs.declared.Store as store

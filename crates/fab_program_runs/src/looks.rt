@@ -8,7 +8,7 @@ ghost use Rattle.fab_program_outside.specs.Coming.{Then};
 use fab_files::End;
 use fab_policy_base::Policy;
 use fab_program_desks::Databases;
-use fab_program_looks::{Asked, Look, look_over};
+use fab_program_looks::looks::{Asked, Look, look_over};
 use fab_program_outside::{Fault, Files, policy_of};
 use fab_program_words::{Access, Names, Who, WhoOf, Why};
 use std::alloc::Global;

@@ -1,15 +1,15 @@
 //! What an import or the activation of a plan would do at a database: `tryimport` and `diff`.
 ghost use Rattle.fab_program_runs.specs.Tries.{ComesTrying, DiffComes, TryImportComes, TryImportComesIn};
 ghost use Rattle.fab_program_outside.specs.Coming.{Then};
-ghost use Rattle.fab_program_tries.specs.Telling.{TellsImport};
-ghost use Rattle.fab_program_tries.specs.Tries.{ComesTold};
+ghost use Rattle.fab_program_looks.specs.Told.{TellsImport};
+ghost use Rattle.fab_program_looks.specs.Tries.{ComesTold};
 
 use fab_files::End;
 use fab_names::Fabric;
 use fab_policy_base::Policy;
 use fab_program_desks::Databases;
+use fab_program_looks::tries::{Asked, Trial, try_over};
 use fab_program_outside::{Fault, Files, bytes_of, policy_of};
-use fab_program_tries::{Asked, Trial, try_over};
 use fab_program_words::{Diff, TryImport};
 use std::alloc::Global;
 use std::io::Write;

@@ -11,7 +11,7 @@ use Rattle.fab_reach_base.specs.Records.{Records}
 use Rattle.fab_reach_books.specs.Affected.{HasSameRow, HasSameFlag}
 use Rattle.fab_reach_books.specs.Inner.Moving.{Offers, IsOffered, StillOffers, KeepsOffers, Stays, IsMoving}
 use Rattle.fab_reach_moves.specs.Moves.{IsSamePort, AreMoved, IsKeptAs, AreTouched, AreFlagged}
-use Rattle.fab_reach.specs.Inner.Finding.{IsFound}
+use Rattle.fab_reach_pairs.specs.Inner.Finding.{IsFound}
 use Rattle.fab_reach_books.proofs.Staying.{holder_known, known_held}
 
 -- a port with the same row has the same holder

@@ -11,7 +11,7 @@ use Rattle.fab_reach_base.proofs.Sets.{none_in}
 use Rattle.fab_reach_books.specs.KeyLaws.{pair_total, pair_exact}
 use Rattle.fab_reach_moves.specs.Moves.{AreMoved, AreTouched, AreFlagged}
 use Rattle.fab_reach_books.specs.Inner.Sets.{HasPairIn}
-use Rattle.fab_reach.specs.Inner.Finding.{IsFound}
+use Rattle.fab_reach_pairs.specs.Inner.Finding.{IsFound}
 use Rattle.fab_reach_books.specs.Inner.Moving.{IsMoving}
 use Rattle.fab_reach_books.specs.Pairs.{Pair, pair_cmp, AreChanged}
 use Rattle.fab_reach.proofs.FoundMoves.{found_moves, not_moving}

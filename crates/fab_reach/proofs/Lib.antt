@@ -1,6 +1,3 @@
-mod OfferLoops
-mod LooseLoops
-mod OfInitiators
 mod Regroups
 mod FoundMoves
 mod FoundPairs

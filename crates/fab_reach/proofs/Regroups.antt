@@ -14,10 +14,10 @@ use Rattle.fab_reach_base.proofs.Same.{same_some}
 use Rattle.fab_reach_base.proofs.Sets.{none_in}
 use Rattle.fab_reach_index.specs.declared.index.Index.{Index}
 use Rattle.fab_reach_index.specs.Indexes.{IsHeldBy, IsIndexOf}
-use Rattle.fab_reach.specs.Inner.Finding.{ByGroup}
+use Rattle.fab_reach_pairs.specs.Inner.Finding.{ByGroup}
 use Rattle.fab_reach_books.specs.Inner.Sets.{HasName, HasPortIn}
 use Rattle.fab_reach_moves.specs.Inner.Listing.{target_row, IsExposedIn, IsHostOf, TellsUnits}
-use Rattle.fab_reach.specs.Inner.Offering.{IsPortServed}
+use Rattle.fab_reach_pairs.specs.Inner.Offering.{IsPortServed}
 use Rattle.fab_reach_books.specs.Pairs.{Pair}
 use Rattle.fab_reach.specs.Inner.Regrouping.{IsPortOf, AreOffered, IsOfferedOtherwise}
 use Rattle.fab_reach_books.specs.Rows.{Stands}

@@ -1,7 +1,5 @@
 -- What private loops and steps say of themselves. No public contract of the room names it.
 pub mod Asked
 pub mod Asking
-pub mod Finding
-pub mod Offering
-pub mod Regrouping
 pub mod Owned
+pub mod Regrouping

@@ -6,20 +6,18 @@ ghost use Rattle.fab_reach_base.specs.Serving.{IsServing};
 ghost use Rattle.fab_reach_base.specs.Views.{seen};
 ghost use Rattle.fab_reach_moves.specs.Moves.{AreTouched, flagged_at};
 ghost use Rattle.fab_reach_moves.specs.Inner.Moved.{IsMovedBy};
-ghost use Rattle.fab_reach.specs.Inner.Finding.{ByInitiator, ByTarget, ByFlag, ByGroup, IsFound};
+ghost use Rattle.fab_reach_pairs.specs.Inner.Finding.{ByInitiator, ByTarget, ByFlag, ByGroup, IsFound};
 ghost use Rattle.fab_reach_books.specs.Inner.Sets.{HasPairIn};
 ghost use Rattle.fab_reach_index.specs.Indexes.{IsIndexOf};
 ghost use Rattle.fab_reach_books.specs.Pairs.{Pair, AreChanged};
 ghost use Rattle.fab_reach_moves.specs.Inner.Telling.{IsTold};
 
-use crate::initiators::add_of_initiators;
-use crate::loose::add_if_flagged;
-use crate::offers::add_offered_to_all;
 use crate::regrouped::add_of_groups;
 use fab_names::{Fabric, Wwn};
 use fab_reach_base::View;
 use fab_reach_index::Index;
 use fab_reach_moves::{Moved, Told};
+use fab_reach_pairs::{add_if_flagged, add_of_initiators, add_offered_to_all};
 use std::alloc::{AllocError, Allocator};
 use std::collections::BTreeSet;
 

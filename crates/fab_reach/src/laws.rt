@@ -5,7 +5,7 @@ ghost use Rattle.fab_names.specs.declared.fabric.Fabric.{Fabric};
 ghost use Rattle.fab_reach_base.specs.Records.{Records};
 ghost use Rattle.fab_reach_books.specs.Inner.Moving.{IsMoving};
 ghost use Rattle.fab_reach_moves.specs.Moves.{AreMoved, AreTouched, AreFlagged};
-ghost use Rattle.fab_reach.specs.Inner.Finding.{IsFound};
+ghost use Rattle.fab_reach_pairs.specs.Inner.Finding.{IsFound};
 
 /// The pairs that are found by moved ports, touched storage groups and flags are those to ask about.
 pub fn found_pairs_are_moving()

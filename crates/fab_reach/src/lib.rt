@@ -5,10 +5,7 @@
 mod asked;
 mod finding;
 mod index_book;
-mod initiators;
 pub mod laws;
-mod loose;
-mod offers;
 mod own_rows;
 mod regrouped;
 

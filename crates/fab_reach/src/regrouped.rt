@@ -8,7 +8,6 @@ ghost use Rattle.fab_reach_index.specs.Indexes.{IsHeldBy, IsIndexOf};
 ghost use Rattle.fab_reach.specs.Inner.Regrouping.{IsPortOf, AreOffered, IsOfferedOtherwise};
 ghost use Rattle.fab_reach_moves.specs.Inner.Telling.{IsTold};
 
-use crate::offers::served_ports;
 use fab_names::{Name, Wwn};
 use fab_reach_base::View;
 use fab_reach_index::Index;
@@ -16,6 +15,7 @@ use fab_reach_moves::{
     Told, add_held_after, has_same_units, hosts_after, is_exposed_after, targets_after,
     targets_before,
 };
+use fab_reach_pairs::served_ports;
 use std::alloc::{AllocError, Allocator};
 use std::collections::BTreeSet;
 

@@ -2,7 +2,7 @@
 use Rattle.std.proofs.Common.{◌⊎◌, inl, inr, subst}
 use Rattle.sqlite.specs.State.{State, HasCleanDisk, Survives}
 use Rattle.fab_store_tables.specs.Tables.{Tables}
-use Rattle.fab_store_schema.specs.Trees.{tables_of}
+use Rattle.fab_store_sql.specs.Trees.{tables_of}
 use Rattle.fab_store.specs.Laws.{Leaves}
 
 -- what may be left was left before, or is made by the call

@@ -11,8 +11,8 @@ use Rattle.fab_store_base.specs.Opened.{tables_of}
 use Rattle.fab_store_tables.specs.declared.lines.TableLines.{TableLines}
 use Rattle.fab_store_sql.specs.Reading.{IsAny, AreLinesOf, Stays}
 use Rattle.fab_store_sql.specs.Rows.{IsKeyed}
-use Rattle.fab_store_schema.specs.Trees.{tree_of, show_of}
-use Rattle.fab_store_schema.specs.Trees as sql
+use Rattle.fab_store_sql.specs.Trees.{tree_of, show_of}
+use Rattle.fab_store_sql.specs.Trees as sql
 use Rattle.fab_store_base.specs.Calls.{OpensNot}
 use Rattle.fab_store_base.specs.Worlds.{HoldsWorld}
 use Rattle.fab_store_base.specs.declared.faults.OpenFault.{OpenFault}

@@ -6,7 +6,7 @@ use Rattle.sqlite.specs.State.{State}
 use Rattle.sqlite.specs.Tree.{Trees}
 use Rattle.fab_store_tables.specs.Tables.{Tables}
 use Rattle.fab_store_sql.specs.States.{IsReady}
-use Rattle.fab_store_schema.specs.Trees.{tables_of}
+use Rattle.fab_store_sql.specs.Trees.{tables_of}
 
 -- trees that may be left have these tables
 abbrev pub Leaves : (Trees → Type 0) → Tables → Type 0

@@ -7,8 +7,8 @@ use Rattle.fab_store_load.specs.declared.fault.Table.{Table}
 use Rattle.fab_store_tables.specs.Tables.{Tables}
 use Rattle.fab_store_sql.specs.Reading.{IsAny, AreLinesOf, Stays}
 use Rattle.fab_store_sql.specs.Rows.{IsKeyed}
-use Rattle.fab_store_schema.specs.Schema.{desk_schema}
-use Rattle.fab_store_schema.specs.Trees.{tree_of, show_of, tables_of}
+use Rattle.fab_store_sql.specs.Schema.{desk_schema}
+use Rattle.fab_store_sql.specs.Trees.{tree_of, show_of, tables_of}
 use Rattle.fab_store_base.specs.Opened as lines
 use Rattle.fab_store_tables.specs.declared.lines.TableLines.{TableLines}
 

@@ -1,6 +1,7 @@
 //! The tables of a desk in a SQLite database.
 #![tactic(auto)]
 
+mod changes;
 pub mod laws;
 mod lots;
 mod naming;

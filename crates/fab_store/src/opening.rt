@@ -5,7 +5,7 @@ ghost use Rattle.sqlite.specs.State.{HasCleanDisk};
 ghost use Rattle.fab_store_base.specs.Opened as opened;
 ghost use Rattle.fab_store_rows.specs.Schemas.{present_schema};
 ghost use Rattle.fab_store_sql.specs.States.{IsDesk};
-ghost use Rattle.fab_store_schema.specs.Trees.{tables_of};
+ghost use Rattle.fab_store_sql.specs.Trees.{tables_of};
 ghost use Rattle.fab_store_base.specs.Calls.{IsOtherSchema, OpensNot};
 ghost use Rattle.fab_store_base.specs.Worlds.{HoldsWorld, IsWritten};
 ghost use Rattle.fab_store_base.specs.declared.faults.OpenFault.TheVariants as faults;

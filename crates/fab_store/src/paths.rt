@@ -2,7 +2,7 @@
 ghost use Rattle.std.specs.Prelude.{IfOk};
 ghost use Rattle.sqlite.specs.Held.{state};
 ghost use Rattle.sqlite.specs.State.{HasCleanDisk};
-ghost use Rattle.fab_store_schema.specs.Trees.{tables_of};
+ghost use Rattle.fab_store_sql.specs.Trees.{tables_of};
 ghost use Rattle.fab_store_base.specs.Worlds.{ArePathsIn};
 ghost use Rattle.fab_store.specs.Reads.{OnlyReads, SeesSame};
 

@@ -43,18 +43,18 @@ use Rattle.fab_store_rows.specs.declared.table_rows.TheConstants.{SCHEMA}
 use Rattle.fab_zoning.specs.Zonings.{FabricZoning, permits}
 use Rattle.fab_store_columns.specs.declared.meta_lines.MetaRow.{MetaRow}
 use Rattle.fab_store_columns.specs.declared.meta_lines.MetaRow.TheVariants as meta
-use Rattle.fab_plans_text.proofs.Unique.{one_plan}
+use Rattle.fab_plans_base.proofs.Unique.{one_plan}
 use Rattle.fab_plans_base.specs.Plans.{Spells, plan_text}
 use Rattle.fab_plans_base.specs.Steps.{PlanStep}
 use Rattle.fab_plans_base.specs.Texts.{lines_of}
 use Rattle.fab_store_world.specs.Orders.{numbered}
-use Rattle.fab_plans_kept.specs.Texts.{IsTextOf}
+use Rattle.fab_plans_text.specs.KeptTexts.{IsTextOf}
 use Rattle.fab_store_world.specs.PlanRows.{IsRowOf, IsApprovalOf, IsChanged}
 use Rattle.fab_store_world.specs.Positions.{IsPosition}
 use Rattle.fab_store_world.specs.Standing.{IsPlanRow, IsApprovalRow, IsUndoRow}
 use Rattle.fab_store_world.specs.Tables.{IsPortRow, IsAddressRow, IsHolderRow, IsVolumeRow, IsConfigRow, IsRowOfPath}
 use Rattle.fab_store_base.specs.Worlds.{IsMetaRow}
-use Rattle.fab_plans_kept.specs.Codes.{step_code}
+use Rattle.fab_plans_text.specs.Codes.{step_code}
 use Rattle.fab_world.specs.Codes.{row_code}
 use Rattle.fab_world.specs.PlanRecords.{Standing, staged, active, rolled_back, withdrawn, PlanRecord}
 use Rattle.fab_world.specs.Plans.{state_of}

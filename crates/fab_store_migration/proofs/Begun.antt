@@ -2,7 +2,7 @@
 use Rattle.std.proofs.Common.{◌≡◌, IsTrue, sym, ap, subst, ◌∙◌}
 use Rattle.sqlite.specs.Effect.{Database}
 use Rattle.sqlite.specs.State.{State, IsUnchanged}
-use Rattle.fab_store_schema.specs.Trees.{tables_of}
+use Rattle.fab_store_sql.specs.Trees.{tables_of}
 use Rattle.fab_store_tables.specs.Versions.{TellsVersion, IsMigrated}
 use Rattle.fab_store_migration.specs.Migrations.{IsBefore, IsRaised, IsSeenOld, HasKeyedSettings, old_schema}
 

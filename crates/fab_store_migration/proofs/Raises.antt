@@ -13,13 +13,13 @@ use Rattle.fab_store_tables.specs.Versions.{schema_key, schema_row}
 use Rattle.fab_store_tables.specs.declared.stored_line.TableLine.TheVariants as line
 use Rattle.fab_store_sql.specs.NewDesk.{IsOneMore}
 use Rattle.fab_store_sql.specs.Rows.{IsKeyed, Adds, Removes}
-use Rattle.fab_store_schema.specs.Schema.{made_of, desk_schema, place_of}
-use Rattle.fab_store_schema.specs.Statements.{insert_text, delete_text}
-use Rattle.fab_store_schema.specs.Trees.{tree_of, show_of, tables_of}
+use Rattle.fab_store_sql.specs.Schema.{made_of, desk_schema, place_of}
+use Rattle.fab_store_sql.specs.Statements.{insert_text, delete_text}
+use Rattle.fab_store_sql.specs.Trees.{tree_of, show_of, tables_of}
 use Rattle.fab_store_sql.proofs.Edits.{Changes}
 use Rattle.fab_store_sql.proofs.Makings.{low_place}
 use Rattle.fab_store_sql.proofs.Creates.{same_place}
-use Rattle.fab_store_schema.proofs.Places.{listed, same_table}
+use Rattle.fab_store_sql.proofs.Places.{listed, same_table}
 use Rattle.fab_store_sql.proofs.Puts.{fits, puts, takes}
 use Rattle.fab_store_sql.proofs.Walks.{held, holds}
 use Rattle.fab_store_migration.specs.Migrations.{IsBefore, IsRising, IsRaised, ChangesSettings}

@@ -24,10 +24,10 @@ use Rattle.sqlite.specs.declared.types.Value.{Value}
 use Rattle.sqlite.specs.declared.types.Value.TheVariants.{Text}
 use Rattle.sqlite.specs.Order.{column}
 use Rattle.fab_store_sql.specs.Reading.{AreShown, AreLinesOf, IsAny}
-use Rattle.fab_store_schema.specs.Statements.{select_text}
-use Rattle.fab_store_schema.specs.Schema.{desk_schema}
+use Rattle.fab_store_sql.specs.Statements.{select_text}
+use Rattle.fab_store_sql.specs.Schema.{desk_schema}
 use Rattle.fab_store_sql.proofs.Commits.{not_run}
-use Rattle.fab_store_schema.proofs.Meanings.{Selects, selects_is}
+use Rattle.fab_store_sql.proofs.Meanings.{Selects, selects_is}
 use Rattle.fab_store_sql.proofs.Showings.{rows_read, shown_same}
 use Rattle.fab_store_migration.specs.Migrations.{old_schema, IsKnown}
 

@@ -11,8 +11,8 @@ use Rattle.fab_store_migration.specs.declared.judging.Shape.{Shape}
 use Rattle.fab_store_migration.specs.declared.judging.Shape.TheVariants.{Present, Old, Other}
 use Rattle.fab_store_sql.specs.NewDesk.{schema_first}
 use Rattle.fab_store_sql.specs.Rows.{IsKeyed}
-use Rattle.fab_store_schema.specs.Schema.{desk_schema}
-use Rattle.fab_store_schema.specs.Trees.{tree_of, show_of, tables_of}
+use Rattle.fab_store_sql.specs.Schema.{desk_schema}
+use Rattle.fab_store_sql.specs.Trees.{tree_of, show_of, tables_of}
 
 -- the tables of schema 1: all but the last
 abbrev pub old_schema : Schema

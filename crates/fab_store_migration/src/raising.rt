@@ -8,11 +8,10 @@ ghost use Rattle.fab_store_tables.specs.Tables.{key_of};
 ghost use Rattle.fab_store_tables.specs.Versions.{schema_key, schema_row};
 ghost use Rattle.fab_store_sql.specs.Cells.{value_of};
 ghost use Rattle.fab_store_sql.specs.Rows.{Adds, Removes};
-ghost use Rattle.fab_store_schema.specs.Trees.{show_of};
+ghost use Rattle.fab_store_sql.specs.Trees.{show_of};
 ghost use Rattle.fab_store_migration.specs.Migrations.{IsBefore, IsRising, IsRaised, ChangesSettings};
 
-use fab_store_schema::{delete_text, insert_text};
-use fab_store_sql::create;
+use fab_store_sql::{create, delete_text, insert_text};
 use fab_store_tables::Table;
 use sqlite::types::ValueRef;
 use sqlite::{Alter, Error, Transaction};

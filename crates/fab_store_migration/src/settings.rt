@@ -5,12 +5,11 @@ ghost use Rattle.sqlite.specs.Held.{state};
 ghost use Rattle.fab_store_load.specs.declared.fault.Table.TheVariants as table;
 ghost use Rattle.fab_store_tables.specs.Columns.{meta_row};
 ghost use Rattle.fab_store_sql.specs.Reading.{AreLinesOf, AreShown, IsAny};
-ghost use Rattle.fab_store_schema.specs.Trees.{tables_of};
+ghost use Rattle.fab_store_sql.specs.Trees.{tables_of};
 ghost use Rattle.fab_store_migration.specs.Migrations.{IsKnown, HasKeyedSettings};
 
 use fab_store_columns::MetaLine;
-use fab_store_schema::select_text;
-use fab_store_sql::{ReadFault, lines_from, rise};
+use fab_store_sql::{ReadFault, lines_from, rise, select_text};
 use fab_store_tables::Table;
 use sqlite::{Alter, Row, Transaction};
 use std::alloc::Global;

@@ -11,7 +11,7 @@ use Rattle.sqlite_trees.specs.declared.store.Store as store
 use Rattle.sqlite_trees.specs.Tree.{Trees}
 use Rattle.fab_store_tables.specs.Tables.{CanChange, AreChanged}
 use Rattle.fab_store_tables.specs.declared.changes.LineChanges.{LineChanges}
-use Rattle.fab_store_schema.specs.Trees.{tables_of}
+use Rattle.fab_store_sql.specs.Trees.{tables_of}
 use Rattle.fab_store_sql.specs.States.{IsDesk, IsReady, IsServing, IsInside}
 
 pub held_err : {T E P : Type 0} (r : Result T E) → P → OnErr r P

@@ -19,8 +19,8 @@ use Rattle.sqlite_rules.proofs.ProbeLemmas.{mapped_has}
 use Rattle.fab_store_load.specs.declared.fault.Table.{Table}
 use Rattle.fab_store_load.specs.declared.fault.Table.TheVariants as table
 use Rattle.fab_store_load.specs.TableNames.{table_name}
-use Rattle.fab_store_schema.specs.Schema.{all_tables, place_of, tree_of, columns_of, places_of, strict_table, made_of}
-use Rattle.fab_store_schema.specs.Statements.{create_text}
+use Rattle.fab_store_sql.specs.Schema.{all_tables, place_of, tree_of, columns_of, places_of, strict_table, made_of}
+use Rattle.fab_store_sql.specs.Statements.{create_text}
 use Rattle.fab_store_sql.specs.NewDesk.{schema_first, HasFirst, IsOneMore, HasMade}
 
 pub went : {B E R : Type 0} {b : B} {Stops : E → Type 0} → ((stop : E) × Stops stop × (Ok b ≡ Err stop)) ⊎ R → R

@@ -24,10 +24,10 @@ use Rattle.sqlite.specs.Effect.{Database, value_rows}
 use Rattle.sqlite.specs.Rows.{Written, Task, stamped}
 use Rattle.sqlite.specs.Does.{Tally, OnRows}
 use Rattle.sqlite.proofs.Callers.{one_step}
-use Rattle.fab_store_schema.specs.Schema.{strict_table}
+use Rattle.fab_store_sql.specs.Schema.{strict_table}
 use Rattle.fab_store_sql.specs.Rows.{IsKeyed, Adds, Removes}
 use Rattle.fab_store_sql.proofs.RowEdits.{adds_one, removes_found}
-use Rattle.fab_store_schema.proofs.Queries.{table_query, shows}
+use Rattle.fab_store_sql.proofs.Queries.{table_query, shows}
 use Rattle.fab_store_sql.proofs.Creates.{went, same_value}
 
 -- no foreign key acts on the table

@@ -1,3 +1,8 @@
+pub mod Cells
+pub mod Meanings
+pub mod Places
+pub mod Queries
+pub mod Shapes
 pub mod Commits
 pub mod Creates
 pub mod Edits

@@ -12,8 +12,8 @@ use Rattle.fab_store_load.specs.declared.fault.Table.{Table}
 use Rattle.fab_store_load.specs.declared.fault.Table.TheVariants as table
 use Rattle.fab_store_tables.specs.Tables.{Tables, IsAmong, table_of, row_of}
 use Rattle.fab_store_tables.specs.declared.stored_line.TableLine.{TableLine}
-use Rattle.fab_store_schema.specs.Schema.{all_tables, place_of, tree_of}
-use Rattle.fab_store_schema.specs.Trees.{show_of, tables_of}
+use Rattle.fab_store_sql.specs.Schema.{all_tables, place_of, tree_of}
+use Rattle.fab_store_sql.specs.Trees.{show_of, tables_of}
 use Rattle.fab_store_sql.specs.Rows.{IsKeyed}
 use Rattle.fab_store_sql.specs.States.{IsInside, Gains}
 use Rattle.fab_store_sql.specs.NewDesk.{HasMade, HaveJust, IsBlank, IsNewDesk, new_lines, new_rows}

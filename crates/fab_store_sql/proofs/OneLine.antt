@@ -9,8 +9,8 @@ use Rattle.fab_store_tables.specs.Tables.{table_of, row_of, key_of}
 use Rattle.fab_store_tables.specs.declared.stored_line.TableLine.{TableLine}
 use Rattle.fab_store_tables.specs.declared.stored_line.TableLine.TheVariants as line
 use Rattle.fab_store_sql.specs.Cells.{value_of}
-use Rattle.fab_store_schema.specs.Statements.{insert_text, delete_text}
-use Rattle.fab_store_schema.specs.Trees.{key_width}
+use Rattle.fab_store_sql.specs.Statements.{insert_text, delete_text}
+use Rattle.fab_store_sql.specs.Trees.{key_width}
 use Rattle.fab_store_sql.specs.States.{IsInside, IsOf, HasKey, Gains, Loses, Walks}
 use Rattle.fab_store_sql.proofs.Puts.{adds_line, removes_line}
 use Rattle.fab_store_sql.proofs.Walks.{gains_one, loses_one}

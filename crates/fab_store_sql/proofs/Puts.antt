@@ -28,15 +28,15 @@ use Rattle.fab_store_tables.specs.Columns.{text_or_null, number_or_null}
 use Rattle.fab_store_tables.specs.Tables.{table_of, row_of, key_of}
 use Rattle.fab_store_tables.specs.declared.stored_line.TableLine.{TableLine}
 use Rattle.fab_store_tables.specs.declared.stored_line.TableLine.TheVariants as line
-use Rattle.fab_store_schema.specs.Schema.{column_of, made_of, desk_schema, place_of}
-use Rattle.fab_store_schema.specs.Statements.{insert_text, delete_text}
-use Rattle.fab_store_schema.specs.Trees.{tree_of, width_of, key_width, cells_from, show_of}
+use Rattle.fab_store_sql.specs.Schema.{column_of, made_of, desk_schema, place_of}
+use Rattle.fab_store_sql.specs.Statements.{insert_text, delete_text}
+use Rattle.fab_store_sql.specs.Trees.{tree_of, width_of, key_width, cells_from, show_of}
 use Rattle.fab_store_sql.specs.Rows.{IsKeyed, Adds, Removes}
 use Rattle.fab_store_sql.specs.States.{IsDesk, IsInside, Alters}
-use Rattle.fab_store_schema.proofs.Meanings.{params_from, keys_from, inserts_is, deletes_is}
-use Rattle.fab_store_schema.proofs.Places.{same_table, placed, listed, free}
-use Rattle.fab_store_schema.proofs.Queries.{table_query}
-use Rattle.fab_store_schema.proofs.Cells.{cast_integer, cast_null, AreComparable, matched, matches, number_at}
+use Rattle.fab_store_sql.proofs.Meanings.{params_from, keys_from, inserts_is, deletes_is}
+use Rattle.fab_store_sql.proofs.Places.{same_table, placed, listed, free}
+use Rattle.fab_store_sql.proofs.Queries.{table_query}
+use Rattle.fab_store_sql.proofs.Cells.{cast_integer, cast_null, AreComparable, matched, matches, number_at}
 use Rattle.fab_store_sql.proofs.Edits.{Changes, inserts, deletes}
 
 module _ (t : Table) (Change : List Row → List Row → Type 0) (keeps : (o n : List Row) → Change o n → IsKeyed (show_of t) o → IsKeyed (show_of t) n) (old new : State) where

@@ -15,7 +15,7 @@ use Rattle.sqlite_rules.proofs.ListLemmas.{some_from, has_filtered, has_kept}
 use Rattle.sqlite_rules.proofs.ProbeLemmas.{has_mapped, mapped_has}
 use Rattle.sqlite_rules.proofs.TableLemmas.{int_is, put_all_has, put_all_keeps, put_all_adds, put_has}
 use Rattle.fab_store_sql.specs.Rows.{IsKeyed, Adds, Removes}
-use Rattle.fab_store_schema.proofs.Cells.{equal_is}
+use Rattle.fab_store_sql.proofs.Cells.{equal_is}
 
 keyed_put : (show : Row → Row) (new : Row) (rows : List Row) → is_int (rowid new) ≡ true → is_taken rows new ≡ false → IsKeyed show rows → IsKeyed show (put_row new rows)
 keyed_put show new rows int free h =

@@ -25,15 +25,15 @@ use Rattle.sqlite_rules.proofs.ProbeLemmas.{has_mapped, mapped_has}
 use Rattle.sqlite_rules.proofs.TableLemmas.{int_is}
 use Rattle.fab_store_load.specs.declared.fault.Table.{Table}
 use Rattle.fab_store_load.specs.declared.fault.Table.TheVariants as table
-use Rattle.fab_store_schema.specs.Schema.{desk_schema}
-use Rattle.fab_store_schema.specs.Statements.{select_text, paths_text}
-use Rattle.fab_store_schema.specs.Trees.{tree_of, width_of, show_of, tables_of}
+use Rattle.fab_store_sql.specs.Schema.{desk_schema}
+use Rattle.fab_store_sql.specs.Statements.{select_text, paths_text}
+use Rattle.fab_store_sql.specs.Trees.{tree_of, width_of, show_of, tables_of}
 use Rattle.fab_store_sql.specs.Rows.{IsKeyed}
 use Rattle.fab_store_sql.specs.States.{IsDesk, IsReady}
 use Rattle.fab_store_sql.specs.Reading.{AreShown, IsAny, IsOfHost, DoRise, id_at, AreLinesOf, Stays}
-use Rattle.fab_store_schema.proofs.Meanings.{columns_from, keys_from, path_order, Selects, selects_is, paths_is}
-use Rattle.fab_store_schema.proofs.Cells.{matched, matches, same_int}
-use Rattle.fab_store_schema.proofs.Queries.{shows}
+use Rattle.fab_store_sql.proofs.Meanings.{columns_from, keys_from, path_order, Selects, selects_is, paths_is}
+use Rattle.fab_store_sql.proofs.Cells.{matched, matches, same_int}
+use Rattle.fab_store_sql.proofs.Queries.{shows}
 use Rattle.fab_store_sql.proofs.Edits.{overlaid}
 use Rattle.fab_store_sql.proofs.Commits.{not_run}
 

@@ -11,9 +11,9 @@ use Rattle.fab_store_load.specs.declared.fault.Table.{Table}
 use Rattle.fab_store_tables.specs.Tables.{Tables, HaveKeys, IsAmong, table_of, row_of, key_of}
 use Rattle.fab_store_tables.specs.declared.stored_line.TableLine.{TableLine}
 use Rattle.fab_store_sql.specs.Rows.{Holds, Adds, Removes}
-use Rattle.fab_store_schema.specs.Trees.{tree_of, show_of, tables_of}
+use Rattle.fab_store_sql.specs.Trees.{tree_of, show_of, tables_of}
 use Rattle.fab_store_sql.specs.States.{Alters, IsOf, HasKey, HasKeyAmong, Loses, Gains, Walks}
-use Rattle.fab_store_schema.proofs.Places.{same_table}
+use Rattle.fab_store_sql.proofs.Places.{same_table}
 
 pub held : (show : Row → Row) (rows : List Row) (c : Row) → Holds show rows c → Contains (map show rows) c
 held show rows c h = contains_had _ c (subst (λ d. Has (map show rows) d) (sym h.2) (mapped_has show rows h.0 h.1))

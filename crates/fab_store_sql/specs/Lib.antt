@@ -1,3 +1,6 @@
+pub mod Schema
+pub mod Statements
+pub mod Trees
 pub mod Cells
 pub mod NewDesk
 pub mod Reading

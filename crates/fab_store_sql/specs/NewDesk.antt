@@ -9,7 +9,7 @@ use Rattle.fab_store_columns.specs.MetaLines.{meta_line}
 use Rattle.fab_store_tables.specs.Tables.{Tables, IsAmong, row_of}
 use Rattle.fab_store_tables.specs.declared.stored_line.TableLine.{TableLine}
 use Rattle.fab_store_tables.specs.declared.stored_line.TableLine.TheVariants as line
-use Rattle.fab_store_schema.specs.Schema.{all_tables, place_of, tree_of, schema_of}
+use Rattle.fab_store_sql.specs.Schema.{all_tables, place_of, tree_of, schema_of}
 
 -- the first tables of the schema
 abbrev pub schema_first : ℕ → Schema

@@ -8,7 +8,7 @@ use Rattle.sqlite.specs.State.{State, Shown}
 use Rattle.sqlite_trees.specs.View.{is_int}
 use Rattle.sqlite_rules.specs.Lists.{Has}
 use Rattle.fab_store_load.specs.declared.fault.Table.{Table}
-use Rattle.fab_store_schema.specs.Trees.{tree_of, show_of}
+use Rattle.fab_store_sql.specs.Trees.{tree_of, show_of}
 
 -- each row of the table with P, behind its rowid, and no other
 pub record AreShown (t : Table) (P : Row → Type 0) (db : Trees) (rows : List Row) : Type 0 where

@@ -6,9 +6,9 @@ use Rattle.sqlite.specs.State.{State}
 use Rattle.fab_store_load.specs.declared.fault.Table.{Table}
 use Rattle.fab_store_tables.specs.declared.stored_line.TableLine.{TableLine}
 use Rattle.fab_store_tables.specs.Tables.{Tables, table_of, row_of, key_of}
-use Rattle.fab_store_schema.specs.Schema.{desk_schema}
+use Rattle.fab_store_sql.specs.Schema.{desk_schema}
 use Rattle.fab_store_sql.specs.Rows.{IsKeyed}
-use Rattle.fab_store_schema.specs.Trees.{tree_of, show_of, tables_of}
+use Rattle.fab_store_sql.specs.Trees.{tree_of, show_of, tables_of}
 
 -- it has the tables of the schema and no others, and rowids are keys
 pub record IsDesk (d : Database) : Type 0 where

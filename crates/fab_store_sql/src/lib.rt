@@ -1,5 +1,5 @@
-//! SQL over the thirteen tables: one transaction of changes, reads of whole tables, and the tables of a
-//! new desk.
+//! The thirteen tables as a schema of SQL: their shape, the texts of their statements, and what these
+//! mean. SQL over them: changes within a transaction, reads of whole tables, and the tables of a new desk.
 #![tactic(auto)]
 
 mod changes;
@@ -7,9 +7,13 @@ mod line;
 mod lines;
 mod making;
 mod read;
+mod shape;
+mod texts;
 mod values;
 
-pub use changes::apply;
+pub use changes::{add_all, change_rows, remove_all};
 pub use line::Line;
 pub use making::{create, init};
 pub use read::{ReadFault, lines_from, read_all, read_paths_of, rise};
+pub use shape::{ALL, has_tables};
+pub use texts::{create_text, delete_text, insert_text, paths_text, select_text};

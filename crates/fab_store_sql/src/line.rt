@@ -4,7 +4,7 @@ ghost use Rattle.sqlite.specs.Order.{Row as Cells};
 ghost use Rattle.fab_store_load.specs.declared.fault.Table.TheVariants as table;
 ghost use Rattle.fab_store_load.specs.declared.fault.Table.{Table as AnyTable};
 ghost use Rattle.fab_store_tables.specs.Columns as column;
-ghost use Rattle.fab_store_schema.specs.Trees.{show_of};
+ghost use Rattle.fab_store_sql.specs.Trees.{show_of};
 
 use fab_store_columns::{
     ActiveLine, AddressLine, ApprovalLine, GroupLine, HolderLine, MetaLine, PartLine, PathLine,

@@ -5,7 +5,7 @@ ghost use Rattle.sqlite.specs.Held.{state};
 ghost use Rattle.fab_store_sql.specs.States.{IsInside, IsOf, HasKey, Gains, Loses, Walks};
 
 use crate::values::{key_width, values_of};
-use fab_store_schema::{delete_text, insert_text};
+use crate::{delete_text, insert_text};
 use fab_store_tables::TableLine;
 use sqlite::{Alter, Error, Transaction};
 use std::alloc::Allocator;

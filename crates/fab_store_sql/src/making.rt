@@ -3,16 +3,16 @@ ghost use Rattle.std.specs.Prelude.{◌≡◌, false, IsTrue, IfOk, OnOk, OnErr}
 ghost use Rattle.sqlite.specs.Effect.{IsDatabase};
 ghost use Rattle.sqlite.specs.Held.{state};
 ghost use Rattle.sqlite.specs.State.{HasCleanDisk, KeepsCommit, Survives};
-ghost use Rattle.fab_store_schema.specs.Schema.{place_of};
-ghost use Rattle.fab_store_schema.specs.Trees.{tables_of};
+ghost use Rattle.fab_store_sql.specs.Schema.{place_of};
+ghost use Rattle.fab_store_sql.specs.Trees.{tables_of};
 ghost use Rattle.fab_store_sql.specs.States.{IsInside, IsReady, IsServing};
 ghost use Rattle.fab_store_sql.specs.Reading.{Stays};
 ghost use Rattle.fab_store_sql.specs.NewDesk as spec;
 ghost use Rattle.fab_store_sql.specs.NewDesk.{HasFirst, IsOneMore, HasMade, HaveJust, IsBlank, IsNewDesk};
 
 use crate::changes::add_all;
+use crate::{ALL, create_text};
 use fab_store_columns::MetaLine;
-use fab_store_schema::{ALL, create_text};
 use fab_store_tables::{Table, TableLine};
 use sqlite::{Alter, Connection, Error, ErrorCode, Transaction};
 use std::alloc::{AllocError, Global};

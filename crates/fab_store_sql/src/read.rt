@@ -7,15 +7,15 @@ ghost use Rattle.sqlite.specs.Values.{bound};
 ghost use Rattle.fab_store_load.specs.declared.fault.Table.TheVariants as table;
 ghost use Rattle.fab_store_tables.specs.Columns.{path_row};
 ghost use Rattle.sqlite.specs.Held.{state};
-ghost use Rattle.fab_store_schema.specs.Schema.{desk_schema};
-ghost use Rattle.fab_store_schema.specs.Trees.{tree_of, show_of, tables_of};
+ghost use Rattle.fab_store_sql.specs.Schema.{desk_schema};
+ghost use Rattle.fab_store_sql.specs.Trees.{tree_of, show_of, tables_of};
 ghost use Rattle.fab_store_sql.specs.Rows.{IsKeyed};
 ghost use Rattle.fab_store_sql.specs.States.{IsReady};
 ghost use Rattle.fab_store_sql.specs.Reading.{AreShown, AreStreamed, IsAny, IsOfHost, DoRise, AreLinesOf, Stays};
 
 use crate::line::Line;
+use crate::{ALL, has_tables, paths_text, select_text};
 use fab_store_columns::PathLine;
-use fab_store_schema::{ALL, has_tables, paths_text, select_text};
 use fab_store_tables::Table;
 use sqlite::types::ValueRef;
 use sqlite::{Alter, Connection, Error, Row, params};

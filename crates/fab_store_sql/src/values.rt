@@ -7,7 +7,7 @@ ghost use Rattle.fab_store_load.specs.declared.fault.Table.TheVariants as table;
 ghost use Rattle.fab_store_tables.specs.Columns as column;
 ghost use Rattle.fab_store_tables.specs.Columns.{port_row, volume_row, zoning_row, group_row, part_row, plan_row, path_row};
 ghost use Rattle.fab_store_tables.specs.Tables.{table_of, row_of};
-ghost use Rattle.fab_store_schema.specs.Trees as spec;
+ghost use Rattle.fab_store_sql.specs.Trees as spec;
 ghost use Rattle.fab_store_sql.specs.Cells.{value_of};
 
 use fab_store_columns::{

@@ -6,7 +6,7 @@ use Rattle.fab_reach_base.proofs.fab_names.OrderLaws.{name_total, name_exact}
 use Rattle.fab_reach_base.specs.fab_inventory.Inventories.{InventoryRows}
 use Rattle.fab_world.specs.fab_store_load.Inventories.{AreInventoryRows}
 use Rattle.fab_store_world.specs.Paths.{ArePathRows}
-use Rattle.fab_world.proofs.fab_plans_text.Unique.{one_plan}
+use Rattle.fab_world.proofs.fab_plans_text.fab_plans_base.Unique.{one_plan}
 use Rattle.fab_reach_base.specs.Soundness.{HasSoundZonings}
 use Rattle.fab_world.proofs.fab_store_rows.Determined.{one_list, one_config, one_inventory, same_option}
 use Rattle.fab_world.specs.fab_store_rows.PlanEntries.{PlanEntry}

@@ -13,7 +13,7 @@ use Rattle.fab_reach_base.proofs.fab_names.OrderLaws.{name_total, name_exact}
 use Rattle.fab_world.specs.fab_store_rows.PlanEntries.{PlanEntry}
 use Rattle.fab_world.specs.PlanRecords.{PlanRecord}
 use Rattle.fab_store_world.specs.declared.plans.PlanParts.{PlanParts}
-use Rattle.fab_world.specs.fab_plans_kept.Texts.{IsTextOf}
+use Rattle.fab_world.specs.fab_plans_text.KeptTexts.{IsTextOf}
 use Rattle.fab_store_world.specs.PlanRows.{ArePlanRows}
 use Rattle.fab_store_world.specs.Parts.{IsMadeOf, AreMadeOf}
 

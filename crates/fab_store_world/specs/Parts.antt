@@ -10,7 +10,7 @@ use Rattle.fab_world.specs.fab_store_rows.declared.config_row.ConfigRow.{ConfigR
 use Rattle.fab_world.specs.fab_store_rows.declared.record_row.PlanState.{PlanState}
 use Rattle.fab_world.specs.fab_store_rows.declared.record_row.PlanState.TheVariants as state
 use Rattle.fab_store_world.specs.declared.plans.PlanParts.{PlanParts}
-use Rattle.fab_world.specs.fab_plans_kept.Texts.{IsTextOf}
+use Rattle.fab_world.specs.fab_plans_text.KeptTexts.{IsTextOf}
 use Rattle.fab_store_world.specs.PlanRows.{HaveNames, ChangesInOrder}
 use Rattle.fab_world.specs.fab_store_rows.PlanEntries.{PlanEntry}
 use Rattle.fab_world.specs.fab_store_rows.declared.record_row.ApprovalRow.{ApprovalRow}

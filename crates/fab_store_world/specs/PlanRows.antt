@@ -4,7 +4,7 @@ use Rattle.std.specs.FinMap as map
 use Rattle.std.specs.List.Sorted.{IsStrictlySortedBy}
 use Rattle.fab_reach_base.specs.fab_lemmas.Firsts.{HasAt}
 use Rattle.fab_world.specs.fab_store_load.Inventories.{AreAll}
-use Rattle.fab_world.specs.fab_plans_kept.Texts.{IsTextOf}
+use Rattle.fab_world.specs.fab_plans_text.KeptTexts.{IsTextOf}
 use Rattle.fab_world.specs.fab_store_rows.declared.config_row.ConfigRow.{ConfigRow}
 use Rattle.fab_world.specs.fab_store_rows.PlanEntries.{PlanEntry}
 use Rattle.fab_world.specs.fab_store_rows.RowOrder.{row_order}

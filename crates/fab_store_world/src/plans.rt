@@ -5,7 +5,7 @@ ghost use Rattle.std.specs.FinMap as map;
 ghost use Rattle.fab_reach_base.specs.fab_names.Orders.{name_cmp};
 ghost use Rattle.fab_world.specs.PlanRecords.{PlanRecord};
 ghost use Rattle.fab_store_world.specs.Parts.{rows_at, approvals_at, standing_in, IsMadeOf, AreMadeOf};
-ghost use Rattle.fab_world.specs.fab_plans_kept.Texts.{IsTextOf};
+ghost use Rattle.fab_world.specs.fab_plans_text.KeptTexts.{IsTextOf};
 ghost use Rattle.fab_store_world.specs.PlanRows.{IsInOrder, ChangesInOrder, ArePlanRows};
 
 use fab_reach_base::lemmas::keys_listed;

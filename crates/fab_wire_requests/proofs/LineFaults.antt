@@ -10,7 +10,7 @@ use Rattle.fab_plans_text.specs.Faults.{IsFirstFault, IsLineFault, IsTooLong, Is
 use Rattle.fab_plans_text.specs.declared.fault.PlanFaultKind.{PlanFaultKind}
 use Rattle.fab_plans_text.specs.declared.fault.PlanFault.{PlanFault}
 use Rattle.fab_plans_text.proofs.PlanReadings.{as_many}
-use Rattle.fab_plans_text.proofs.Unique.{one_keyword, kinds_of_step, as_many_values, one_plan}
+use Rattle.fab_plans_base.proofs.Unique.{one_keyword, kinds_of_step, as_many_values, one_plan}
 use Rattle.fab_plans_text.proofs.Excluded.{no_line_too_many, no_faulty_line}
 use Rattle.std.proofs.lemmas.Bool.{cases_order}
 

@@ -3,7 +3,7 @@ use Rattle.std.proofs.Common.{ℕ, ◌≡◌, List, refl, sym, ap, ◌∙◌, in
 use Rattle.fab_names.specs.Names.{SpellsName}
 use Rattle.fab_names.proofs.Unique.{one_fabric, one_wwn}
 use Rattle.fab_inventory.specs.declared.holder.Volume.{Volume}
-use Rattle.fab_plans_text.proofs.Unique.{one_plan}
+use Rattle.fab_plans_base.proofs.Unique.{one_plan}
 use Rattle.fab_wire_requests.specs.Bodies.{SpellsVolume, SpellsNoHolder, SpellsNoVolume}
 use Rattle.fab_wire_requests.proofs.ReadLemmas.{one-body}
 use Rattle.fab_wire_requests.proofs.RecordLemmas.{one_listing}

@@ -8,7 +8,7 @@ use Rattle.fab_reach_base.specs.fab_names.Orders.{name_cmp}
 use Rattle.fab_reach_base.specs.fab_names.declared.fabric.Fabric.{Fabric}
 use Rattle.fab_reach_base.specs.fab_names.declared.member.Member.{Member}
 use Rattle.fab_plans.specs.fab_plans_base.Steps.{PlanStep}
-use Rattle.fab_plans.specs.fab_plans_kept.Codes.{step_code}
+use Rattle.fab_plans.specs.fab_plans_text.Codes.{step_code}
 use Rattle.fab_store_load.specs.fab_store_rows.declared.config_row.SettingRow.TheVariants.{ActiveSet, DefaultZone}
 use Rattle.fab_store_load.specs.fab_store_rows.declared.config_row.ZoningItem.{ZoningItem}
 use Rattle.fab_store_load.specs.fab_store_rows.declared.config_row.ZoningItem.TheVariants.{Alias, Zone, Set}

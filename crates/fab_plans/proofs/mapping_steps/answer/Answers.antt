@@ -4,9 +4,9 @@ use Rattle.fab_reach_base.specs.fab_inventory.Inventories.{InventoryRows}
 use Rattle.fab_reach_base.specs.fab_mapping_base.Groups.{host_group_of}
 use Rattle.fab_reach_base.specs.fab_mapping.Mappings.{MappingRows, CanPutHostGroup, PutHostGroupFails}
 use Rattle.fab_reach_base.specs.fab_mapping_base.declared.fault.MappingFault.{MappingFault}
-use Rattle.fab_plans_kept.specs.fab_plans_base.Actions as actions
-use Rattle.fab_plans_kept.specs.fab_plans_base.Plans.{IsStep}
-use Rattle.fab_plans_kept.specs.fab_plans_base.declared.mapping_action.MappingAction.{MappingAction}
+use Rattle.fab_plans_text.specs.fab_plans_base.Actions as actions
+use Rattle.fab_plans_text.specs.fab_plans_base.Plans.{IsStep}
+use Rattle.fab_plans_text.specs.fab_plans_base.declared.mapping_action.MappingAction.{MappingAction}
 use Rattle.fab_plans.specs.Telling.{IsFaultOf, TellsMapping}
 use Rattle.fab_plans.specs.MappingSteps.{MappingDone, MappingFails}
 use Rattle.fab_plans.proofs.Spelled.{host_listing, unit_within}

@@ -1,7 +1,7 @@
 use Rattle.std.proofs.Common.{Some, sym, ap, ◌∙◌}
 use Rattle.fab_reach_base.specs.fab_names.declared.fabric.Fabric.TheVariants.{A, B}
 use Rattle.fab_reach_base.specs.Records.{ConfigRows}
-use Rattle.fab_plans_kept.specs.fab_plans_base.Actions.{zoning_step, mapping_step, step_of}
+use Rattle.fab_plans_text.specs.fab_plans_base.Actions.{zoning_step, mapping_step, step_of}
 use Rattle.fab_plans.proofs.StepCases.{of_no_fabric, zoning_ok, zoning_sound, zoning_err, mapping_ok, mapping_sound, mapping_err}
 use Rattle.fab_plans.proofs.outcome.take_step.Goals as goal
 

@@ -5,9 +5,9 @@ use Rattle.fab_reach_base.specs.fab_zoning_rows.Rows.{IsPlain}
 use Rattle.fab_reach_base.specs.fab_zoning.Steps.{IsPutAliasFault, CanPutZone, IsPutZoneFault, CanPutSet, IsPutSetFault}
 use Rattle.fab_reach_base.specs.fab_zoning.Zonings.{FabricZoning}
 use Rattle.fab_reach_base.specs.fab_zoning.declared.fault.ZoningFault.{ZoningFault}
-use Rattle.fab_plans_kept.specs.fab_plans_base.Actions as actions
-use Rattle.fab_plans_kept.specs.fab_plans_base.Plans.{IsStep}
-use Rattle.fab_plans_kept.specs.fab_plans_base.declared.zoning_action.ZoningAction.{ZoningAction}
+use Rattle.fab_plans_text.specs.fab_plans_base.Actions as actions
+use Rattle.fab_plans_text.specs.fab_plans_base.Plans.{IsStep}
+use Rattle.fab_plans_text.specs.fab_plans_base.declared.zoning_action.ZoningAction.{ZoningAction}
 use Rattle.fab_plans.specs.Telling.{IsFaultOf, TellsZoning}
 use Rattle.fab_plans.specs.ZoningSteps.{ZoningDone, ZoningFails}
 use Rattle.fab_plans.proofs.Spelled.{alias_listing, zone_listing, set_listing, alias_plain}

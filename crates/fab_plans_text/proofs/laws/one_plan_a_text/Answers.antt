@@ -1,4 +1,4 @@
-use Rattle.fab_plans_text.proofs.Unique.{one_plan}
+use Rattle.fab_plans_base.proofs.Unique.{one_plan}
 use Rattle.fab_plans_text.proofs.laws.one_plan_a_text.Goals as goal
 
 pub returns : goal.returns

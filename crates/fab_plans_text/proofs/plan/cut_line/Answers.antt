@@ -1,4 +1,4 @@
-use Rattle.fab_plans_text.proofs.Cuts.{cut_some, cut_none}
+use Rattle.fab_plans_base.proofs.Cuts.{cut_some, cut_none}
 use Rattle.fab_plans_text.proofs.plan.cut_line.Goals as goal
 
 pub returns-clause-some : goal.returns-clause-some

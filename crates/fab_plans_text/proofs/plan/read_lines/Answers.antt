@@ -1,7 +1,7 @@
 use Rattle.std.proofs.Common.{subst, arith}
 use Rattle.fab_plans_text.proofs.PlanReadings.{HasRead, read_none, read_more, read_all, refused, some_step, ended}
 use Rattle.fab_plans_text.proofs.Excluded.{only_memory}
-use Rattle.fab_plans_text.proofs.Unique.{one_plan}
+use Rattle.fab_plans_base.proofs.Unique.{one_plan}
 use Rattle.fab_plans_text.proofs.plan.read_lines.Goals as goal
 
 pub loop-rest-init : goal.loop-rest-init

@@ -1,7 +1,7 @@
 use Rattle.std.proofs.Common.{ℕ, List, Ok, Err, refl, subst}
 use Rattle.fab_program_outside.specs.Coming.{Then}
-use Rattle.fab_program_tries.specs.Telling.{TellsImport}
-use Rattle.fab_program_tries.specs.Tries.{ComesTold}
+use Rattle.fab_program_looks.specs.Told.{TellsImport}
+use Rattle.fab_program_looks.specs.Tries.{ComesTold}
 use Rattle.fab_program_runs.proofs.tries.import_under.Goals as goal
 
 pub returns-in-Ok : goal.returns-in-Ok

@@ -1,6 +1,6 @@
 use Rattle.fab_reach_base.specs.Views.{seen}
 use Rattle.fab_reach_books.specs.Inner.Sets.{HasPairIn}
-use Rattle.fab_reach.proofs.LooseLoops.{by_flags}
+use Rattle.fab_reach_pairs.proofs.LooseLoops.{by_flags}
 use Rattle.fab_reach.proofs.finding.add_by_flags.Goals as goal
 
 pub returns : goal.returns

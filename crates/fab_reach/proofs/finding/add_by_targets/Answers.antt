@@ -1,10 +1,10 @@
 use Rattle.std.proofs.Common.{subst}
 use Rattle.fab_reach_base.specs.Views.{seen}
 use Rattle.fab_reach_books.specs.Inner.Sets.{HasPairIn, HasPortIn}
-use Rattle.fab_reach.proofs.LooseLoops.{by_targets}
+use Rattle.fab_reach_pairs.proofs.LooseLoops.{by_targets}
 use Rattle.fab_reach_base.specs.Adding.{Adds}
 use Rattle.fab_mapping.specs.Mappings.{MappingRows}
-use Rattle.fab_reach.specs.Inner.Offering.{IsPortServedAt}
+use Rattle.fab_reach_pairs.specs.Inner.Offering.{IsPortServedAt}
 use Rattle.fab_reach_moves.specs.Moves.{flagged_at}
 use Rattle.fab_reach.proofs.finding.add_by_targets.Goals as goal
 

@@ -1,5 +1,5 @@
 use Rattle.fab_reach_base.specs.Views.{seen}
-use Rattle.fab_reach.specs.Inner.Finding.{ByInitiator, ByTarget, ByFlag, ByGroup}
+use Rattle.fab_reach_pairs.specs.Inner.Finding.{ByInitiator, ByTarget, ByFlag, ByGroup}
 use Rattle.fab_reach_moves.specs.Moves.{flagged_at}
 use Rattle.fab_reach.proofs.FoundPairs.{found_all}
 use Rattle.fab_reach.proofs.finding.found.Goals as goal

@@ -6,7 +6,7 @@ use Rattle.fab_reach_base.specs.Views.{seen}
 use Rattle.fab_reach_books.specs.Inner.Sets.{HasPortIn}
 use Rattle.fab_mapping_base.specs.Groups.{StorageGroupRows}
 use Rattle.fab_reach_base.proofs.Same.{same_some}
-use Rattle.fab_reach.specs.Inner.Offering.{IsPortServed}
+use Rattle.fab_reach_pairs.specs.Inner.Offering.{IsPortServed}
 use Rattle.fab_reach.proofs.Regroups.{offered_none, offered_here}
 use Rattle.fab_reach.proofs.regrouped.offering_before.Goals as goal
 

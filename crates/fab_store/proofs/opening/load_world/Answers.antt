@@ -4,7 +4,7 @@ use Rattle.sqlite.specs.Held.{state}
 use Rattle.fab_store_base.specs.Opened as opened
 use Rattle.fab_store_sql.proofs.Commits.{held_ok}
 use Rattle.fab_store_sql.specs.States.{IsDesk}
-use Rattle.fab_store_schema.specs.Trees.{tables_of}
+use Rattle.fab_store_sql.specs.Trees.{tables_of}
 use Rattle.fab_store.proofs.Told.{told_before, looked_before, holds_there, opens_there}
 use Rattle.fab_store.proofs.opening.load_world.Goals as goal
 

@@ -4,7 +4,7 @@ use Rattle.fab_store_load.specs.declared.fault.Table.TheVariants as table
 use Rattle.fab_reach_base.specs.Orders.{IsListOf}
 use Rattle.fab_store_tables.specs.Paths.{IsPathOf}
 use Rattle.fab_store_sql.specs.Reading.{AreLinesOf, IsOfHost}
-use Rattle.fab_store_schema.specs.Trees.{tables_of}
+use Rattle.fab_store_sql.specs.Trees.{tables_of}
 use Rattle.fab_store_tables.specs.Columns.{path_row}
 use Rattle.fab_store.proofs.PathsTold.{paths_told}
 use Rattle.fab_store.proofs.paths.find_paths.Goals as goal

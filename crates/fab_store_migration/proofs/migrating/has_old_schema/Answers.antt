@@ -3,7 +3,7 @@ use Rattle.sqlite.specs.State.{HasCleanDisk}
 use Rattle.sqlite.specs.Held.{state}
 use Rattle.fab_store_columns.specs.MetaLines.{MetaColumns}
 use Rattle.fab_store_tables.specs.Versions.{TellSchema, TellsVersion}
-use Rattle.fab_store_schema.specs.Trees.{tables_of}
+use Rattle.fab_store_sql.specs.Trees.{tables_of}
 use Rattle.fab_store_migration.specs.Migrations.{IsKnown}
 use Rattle.fab_store_migration.proofs.Seen.{same_some, told_one, told_there}
 use Rattle.fab_store_migration.proofs.migrating.has_old_schema.Goals as goal

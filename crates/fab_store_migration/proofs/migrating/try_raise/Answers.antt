@@ -5,7 +5,7 @@ use Rattle.sqlite.proofs.InsideLemmas.{keeps_then}
 use Rattle.sqlite.proofs.StateLemmas.{survives_then}
 use Rattle.fab_store_columns.specs.MetaLines.{MetaColumns}
 use Rattle.fab_store_tables.specs.Versions.{TellSchema}
-use Rattle.fab_store_schema.specs.Trees.{tables_of}
+use Rattle.fab_store_sql.specs.Trees.{tables_of}
 use Rattle.fab_store_migration.specs.Migrations.{IsShaped, old_schema}
 use Rattle.fab_store_migration.proofs.Begun.{before, seen_old, raised_from}
 use Rattle.fab_store_migration.proofs.Seen.{told_there, told_one, refused_there}

@@ -3,7 +3,7 @@ use Rattle.sqlite.specs.Held.{state}
 use Rattle.sqlite.specs.State.{ExecutesInside}
 use Rattle.fab_store_load.specs.declared.fault.Table.TheVariants as table
 use Rattle.fab_store_sql.specs.Cells.{value_of}
-use Rattle.fab_store_schema.specs.Statements.{delete_text}
+use Rattle.fab_store_sql.specs.Statements.{delete_text}
 use Rattle.fab_store_migration.proofs.Raises.{forgets}
 use Rattle.fab_store_migration.proofs.raising.forget_schema.Goals as goal
 

@@ -3,7 +3,7 @@ use Rattle.std.proofs.lemmas.Result.{IfOk-weaker}
 use Rattle.sqlite.specs.Held.{state}
 use Rattle.fab_store_load.specs.declared.fault.Table.TheVariants as table
 use Rattle.fab_store_tables.specs.Columns.{meta_row}
-use Rattle.fab_store_schema.specs.Trees.{show_of}
+use Rattle.fab_store_sql.specs.Trees.{show_of}
 use Rattle.fab_store_sql.specs.Reading.{IsAny, DoRise}
 use Rattle.fab_store_sql.proofs.Showings.{lines_exact, rise_keyed}
 use Rattle.fab_store_sql.proofs.Commits.{held_ok}

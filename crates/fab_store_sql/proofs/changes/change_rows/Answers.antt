@@ -6,7 +6,7 @@ use Rattle.sqlite.proofs.InsideLemmas.{keeps_then}
 use Rattle.sqlite.proofs.StateLemmas.{survives_then}
 use Rattle.fab_store_tables.specs.Tables.{IsAmong}
 use Rattle.fab_store_tables.specs.declared.stored_line.TableLine.{TableLine}
-use Rattle.fab_store_schema.specs.Trees.{tables_of}
+use Rattle.fab_store_sql.specs.Trees.{tables_of}
 use Rattle.fab_store_sql.specs.States.{HasKeyAmong, Loses, Gains, Walks}
 use Rattle.fab_store_sql.proofs.Walks.{changed}
 use Rattle.fab_store_sql.proofs.changes.change_rows.Goals as goal

@@ -1,7 +1,7 @@
 use Rattle.std.proofs.Common.{◌∙◌, ap}
 use Rattle.sqlite.specs.Held.{state}
-use Rattle.fab_store_schema.specs.Statements.{delete_text}
-use Rattle.fab_store_schema.specs.Trees.{key_width}
+use Rattle.fab_store_sql.specs.Statements.{delete_text}
+use Rattle.fab_store_sql.specs.Trees.{key_width}
 use Rattle.fab_store_sql.proofs.OneLine.{takes_line, key_cells}
 use Rattle.fab_store_sql.proofs.lines.delete_line.Goals as goal
 

@@ -1,6 +1,6 @@
 use Rattle.std.proofs.Common.{◌∙◌, ap}
 use Rattle.sqlite.specs.Held.{state}
-use Rattle.fab_store_schema.specs.Statements.{insert_text}
+use Rattle.fab_store_sql.specs.Statements.{insert_text}
 use Rattle.fab_store_sql.proofs.OneLine.{puts_line}
 use Rattle.fab_store_sql.proofs.lines.insert_line.Goals as goal
 

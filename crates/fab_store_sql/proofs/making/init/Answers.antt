@@ -1,7 +1,7 @@
 use Rattle.std.proofs.lemmas.Result.{on_ok_weaker}
 use Rattle.sqlite.specs.Held.{state}
 use Rattle.sqlite.proofs.StateLemmas.{survives_weaker}
-use Rattle.fab_store_schema.specs.Trees.{tables_of}
+use Rattle.fab_store_sql.specs.Trees.{tables_of}
 use Rattle.fab_store_sql.proofs.Makings.{new_desk}
 use Rattle.fab_store_sql.proofs.making.init.Goals as goal
 

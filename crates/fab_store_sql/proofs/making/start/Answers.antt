@@ -6,7 +6,7 @@ use Rattle.sqlite.specs.State.{HasCleanDisk, Survives}
 use Rattle.sqlite.specs.Held.{state}
 use Rattle.sqlite.proofs.StateLemmas.{survives_then}
 use Rattle.sqlite.proofs.Callers.{survives_begin}
-use Rattle.fab_store_schema.specs.Trees.{tables_of}
+use Rattle.fab_store_sql.specs.Trees.{tables_of}
 use Rattle.fab_store_sql.specs.States.{IsServing}
 use Rattle.fab_store_sql.specs.NewDesk.{HasMade, HaveJust, IsBlank}
 use Rattle.fab_store_sql.proofs.Commits.{settled_commit}

@@ -1,5 +1,5 @@
 use Rattle.std.proofs.Common.{◌≡◌, map, take}
-use Rattle.fab_store_schema.specs.Trees.{show_of}
+use Rattle.fab_store_sql.specs.Trees.{show_of}
 use Rattle.fab_store_sql.proofs.read.lines_from.Given as goal
 
 abbrev pub invariant-loop-row : goal.invariant-loop-row

@@ -3,8 +3,8 @@ use Rattle.sqlite.specs.Given.{IsPlain}
 use Rattle.sqlite.specs.Held.{state}
 use Rattle.sqlite.specs.Listing.{understood}
 use Rattle.sqlite.specs.State.{Shown}
-use Rattle.fab_store_schema.specs.Schema.{desk_schema}
-use Rattle.fab_store_schema.proofs.Meanings.{selects_is}
+use Rattle.fab_store_sql.specs.Schema.{desk_schema}
+use Rattle.fab_store_sql.proofs.Meanings.{selects_is}
 use Rattle.fab_store_sql.proofs.Showings.{rows_shown}
 use Rattle.fab_store_sql.proofs.Commits.{ok_both}
 use Rattle.fab_store_sql.proofs.read.query_rows.Goals as goal

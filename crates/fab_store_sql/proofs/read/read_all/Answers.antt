@@ -1,7 +1,7 @@
 use Rattle.std.proofs.Common.{◌∙◌, ap, map, subst}
 use Rattle.std.proofs.lemmas.Result.{IfOk-weaker}
 use Rattle.sqlite.specs.Held.{state}
-use Rattle.fab_store_schema.specs.Trees.{show_of}
+use Rattle.fab_store_sql.specs.Trees.{show_of}
 use Rattle.fab_store_sql.specs.Reading.{AreShown, IsAny, DoRise}
 use Rattle.fab_store_sql.proofs.Showings.{lines_exact, rise_keyed}
 use Rattle.fab_store_sql.proofs.Commits.{held_ok}

@@ -5,9 +5,9 @@ use Rattle.sqlite.specs.Held.{state}
 use Rattle.sqlite.specs.Listing.{understood}
 use Rattle.fab_store_load.specs.declared.fault.Table.TheVariants as table
 use Rattle.fab_store_tables.specs.Columns.{path_row}
-use Rattle.fab_store_schema.specs.Schema.{desk_schema}
+use Rattle.fab_store_sql.specs.Schema.{desk_schema}
 use Rattle.fab_store_sql.specs.Reading.{IsOfHost}
-use Rattle.fab_store_schema.proofs.Meanings.{paths_is}
+use Rattle.fab_store_sql.proofs.Meanings.{paths_is}
 use Rattle.fab_store_sql.proofs.Showings.{lines_exact, paths_shown}
 use Rattle.fab_store_sql.proofs.read.read_paths_of.Goals as goal
 

@@ -7,7 +7,7 @@ use Rattle.sqlite.specs.Held.{state}
 use Rattle.sqlite.specs.State.{HasCleanDisk, Survives, FailsToQuery, CommitsShowing, Shown}
 use Rattle.sqlite.specs.Values.{bound}
 use Rattle.fab_store_sql.specs.Reading.{AreStreamed}
-use Rattle.fab_store_schema.specs.Trees.{show_of}
+use Rattle.fab_store_sql.specs.Trees.{show_of}
 use Rattle.fab_store_sql.proofs.Showings.{shown_since, failed_same, nothing_kept, stays_from}
 use Rattle.fab_store_sql.proofs.read.stream.Goals as goal
 

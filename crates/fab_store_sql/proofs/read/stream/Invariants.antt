@@ -4,7 +4,7 @@ use Rattle.sqlite.specs.Held.{state}
 use Rattle.sqlite.specs.Order.{Row}
 use Rattle.sqlite.specs.State.{HasCleanDisk, IsUnchanged, Survives}
 use Rattle.sqlite.specs.Values.{bound}
-use Rattle.fab_store_schema.specs.Trees.{show_of}
+use Rattle.fab_store_sql.specs.Trees.{show_of}
 use Rattle.fab_store_sql.proofs.read.stream.Given as goal
 
 -- the lines so far are those of the rows that were given, and nothing is changed

@@ -2,7 +2,7 @@ use Rattle.std.proofs.Common.{List, MatchOption, sym, ap, ◌∙◌, subst}
 use Rattle.fab_world.specs.fab_plans_base.Steps.{PlanStep}
 use Rattle.fab_world.specs.PlanRecords.{PlanRecord}
 use Rattle.fab_store_world.specs.Parts.{standing_in, IsMadeOf}
-use Rattle.fab_world.specs.fab_plans_kept.Texts.{IsTextOf}
+use Rattle.fab_world.specs.fab_plans_text.KeptTexts.{IsTextOf}
 use Rattle.fab_store_world.proofs.plans.plan_of.Goals as goal
 
 pub returns : goal.returns

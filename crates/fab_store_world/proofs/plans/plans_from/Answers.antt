@@ -5,7 +5,7 @@ use Rattle.std.specs.BTreeMap.{get, is_at}
 use Rattle.fab_world.specs.fab_store_rows.PlanEntries.{PlanEntry}
 use Rattle.fab_reach_base.specs.fab_names.Orders.{name_cmp}
 use Rattle.fab_world.specs.PlanRecords.{PlanRecord}
-use Rattle.fab_world.specs.fab_plans_kept.Texts.{IsTextOf}
+use Rattle.fab_world.specs.fab_plans_text.KeptTexts.{IsTextOf}
 use Rattle.fab_store_world.specs.Parts.{IsMadeOf}
 use Rattle.fab_store_world.proofs.PlansMade.{none_yet, one_more, all_made, repeated, unread, none_there}
 use Rattle.fab_store_world.proofs.plans.plans_from.Goals as goal

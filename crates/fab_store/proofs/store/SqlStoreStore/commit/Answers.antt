@@ -1,7 +1,7 @@
 use Rattle.std.proofs.Common.{IsTrue, inl, inr}
 use Rattle.sqlite.specs.Held.{state}
 use Rattle.fab_store_sql.specs.States.{IsReady}
-use Rattle.fab_store_schema.specs.Trees.{tables_of}
+use Rattle.fab_store_sql.specs.Trees.{tables_of}
 use Rattle.fab_store.proofs.Left.{left_after}
 use Rattle.fab_store_tables.specs.Tables.{Tables, CanChange, AreChanged}
 use Rattle.fab_store.proofs.store.SqlStoreStore.commit.Goals as goal

@@ -1,5 +1,5 @@
 use Rattle.sqlite.specs.Held.{state}
-use Rattle.fab_store_schema.specs.Trees.{tables_of}
+use Rattle.fab_store_sql.specs.Trees.{tables_of}
 use Rattle.fab_store.proofs.store.SqlStoreStore.migrate.Goals as goal
 
 pub returns-in-Err-clause-fault : goal.returns-in-Err-clause-fault

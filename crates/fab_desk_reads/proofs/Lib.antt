@@ -1,4 +1,0 @@
-pub mod SetItems
-pub mod Entries
-pub mod Lists
-pub mod Zones

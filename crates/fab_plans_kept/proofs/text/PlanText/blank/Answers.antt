@@ -1,6 +1,0 @@
-use Rattle.std.proofs.Common.{[]}
-use Rattle.fab_plans_kept.proofs.Kept.{blank_kept}
-use Rattle.fab_plans_kept.proofs.text.PlanText.blank.Goals as goal
-
-pub returns : goal.returns
-returns g c = c.keep.ensures [] (blank_kept _ c.new.ensures.bytes)

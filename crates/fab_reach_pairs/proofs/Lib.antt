@@ -1,0 +1,6 @@
+mod OfferLoops
+pub mod LooseLoops
+mod OfInitiators
+mod Asked
+mod Deltas
+mod Owning

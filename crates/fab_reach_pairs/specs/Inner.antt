@@ -1,0 +1,3 @@
+-- What private loops say of themselves. No public contract of the room names it.
+pub mod Finding
+pub mod Offering

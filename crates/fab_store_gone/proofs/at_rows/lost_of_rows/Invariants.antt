@@ -1,8 +1,0 @@
-use Rattle.std.proofs.Common.{take}
-use Rattle.std.specs.FinMap as map
-use Rattle.fab_lemmas.specs.Firsts.{IsFirstOf}
-use Rattle.fab_store_gone.specs.Inner.Losses.{lost_cmp, RowLacks, Among}
-use Rattle.fab_store_gone.proofs.at_rows.lost_of_rows.Given as goal
-
-abbrev pub invariant-loop-row : goal.invariant-loop-row
-invariant-loop-row g l = IsFirstOf lost_cmp (Among (RowLacks l.inventory (map.get l.mapping.groups)) (take l.row-index l.come)) l.least

@@ -1,2 +1,0 @@
--- What single rows are proved by. No public contract names it.
-pub mod Losses
