@@ -27,8 +27,8 @@ use Rattle.fab_program_desks.specs.Databases.{IsMade}
 use Rattle.fab_program_desks.specs.Desks.{ProgramDesk}
 use Rattle.fab_program_runs.specs.Exits.{end_of_making, end_only, status_of, words_status}
 use Rattle.fab_program_runs.specs.Looks.{WhyComes, WhoComes, NamesComes}
-use Rattle.fab_program_serving.specs.Once.{ComesOnce}
-use Rattle.fab_program_serving.specs.Servings.{ComesServing}
+use Rattle.fab_program_runs.specs.Once.{ComesOnce}
+use Rattle.fab_program_runs.specs.Servings.{ComesServing}
 use Rattle.fab_program_runs.specs.Tries.{DiffComes, TryImportComes}
 use Rattle.fab_program_desks.specs.declared.addresses.Addresses as addresses
 use Rattle.fab_program_desks.specs.declared.database.Databases as databases

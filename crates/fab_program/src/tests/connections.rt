@@ -4,7 +4,7 @@
 use super::answers::{Asking, asking_of};
 use super::desks::made;
 use fab_policy_base::Policy;
-use fab_program_serving::Front;
+use fab_program_runs::Front;
 use fab_store::{OpenFault, SqlStore, Store};
 use fab_wire::Desk;
 use fab_wire_base::routes::Routes;

@@ -1,8 +1,8 @@
 use Rattle.std.proofs.Common.{◌∙◌, ap, sym}
 use Rattle.fab_wire_streams.specs.Counting.{inner_of, failures_of}
 use Rattle.fab_wire.specs.Serving.{Serves, side}
-use Rattle.fab_program_serving.proofs.Beginnings.{begun}
-use Rattle.fab_program_serving.proofs.asking.once_now.Goals as goal
+use Rattle.fab_program_runs.proofs.Beginnings.{begun}
+use Rattle.fab_program_runs.proofs.asking.once_now.Goals as goal
 
 pub returns-in-Ok : goal.returns-in-Ok
 returns-in-Ok g c =

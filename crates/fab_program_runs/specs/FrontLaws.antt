@@ -6,7 +6,7 @@ use Rattle.fab_store.specs.declared.Store as store
 use Rattle.fab_wire.specs.declared.Desk.{Desk}
 use Rattle.fab_wire.specs.declared.outcome.Outcome.{Outcome}
 use Rattle.fab_wire.specs.declared.outcome.Outcome.TheVariants as outcome
-use Rattle.fab_program_serving.specs.Fronts.{ServesDesk}
+use Rattle.fab_program_runs.specs.Fronts.{ServesDesk}
 
 module _ {A S B R : Type 0} (g : store.Ghosts S A) where
   pub forgets_desk : (d : Desk A S B R) (moment : ℕ) (input : List ℕ) (sent : Option (List ℕ)) (until : ℕ) (after : Sides) (o : Outcome) (e : Desk A S B R)

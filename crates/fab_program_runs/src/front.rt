@@ -31,7 +31,7 @@ impl<S: Store<Global>> Server for Front<S> {
 
     type Outcome = Outcome;
 
-    ghost use Rattle.fab_program_serving.specs.Fronts.{is_halted_desk, IsWholeDesk, LacksDesk, ServesDesk, ReleasesDesk, ReopensDesk, RefusesDesk};
+    ghost use Rattle.fab_program_runs.specs.Fronts.{is_halted_desk, IsWholeDesk, LacksDesk, ServesDesk, ReleasesDesk, ReopensDesk, RefusesDesk};
     ghost use Rattle.fab_wire_log.specs.Shown.{shown_text};
     ghost use Rattle.fab_wire.specs.Telling.{outcome_text};
 
@@ -97,7 +97,7 @@ impl<S: Store<Global>> Server for Front<S> {
 }
 
 impl<S: Store<Global>> Forgets for Front<S> {
-    ghost use Rattle.fab_program_serving.specs.FrontLaws.{forgets_desk};
+    ghost use Rattle.fab_program_runs.specs.FrontLaws.{forgets_desk};
 
     ghost forgets = { λ old moment input sent until after outcome new served. forgets_desk _ old.desk moment input sent until after outcome new.desk served };
 }

@@ -4,7 +4,7 @@ ghost use Rattle.sqlite.specs.Held.{state};
 ghost use Rattle.sqlite.specs.Steps.{over_memory};
 ghost use Rattle.fab_program_desks.specs.Tables.{AreNewTables};
 ghost use Rattle.fab_program_outside.specs.Coming.{After, Then};
-ghost use Rattle.fab_program_serving.specs.Once.{ComesOnce, IsServedAt, IsServedOver, ServesIt, ended};
+ghost use Rattle.fab_program_runs.specs.Once.{ComesOnce, IsServedAt, IsServedOver, ServesIt, ended};
 
 use fab_files::End;
 use fab_policy_base::{Policy, TRIAL_POLICY};

@@ -12,7 +12,7 @@ use Rattle.fab_wire_serving.specs.declared.serving.ServeFault.{ServeFault}
 use Rattle.fab_wire.specs.declared.outcome.Outcome.{Outcome}
 use Rattle.fab_store.specs.declared.OpenFault.{OpenFault}
 use Rattle.fab_program_desks.specs.Desks.{ProgramDesk}
-use Rattle.fab_program_serving.specs.Servings.{AreServed, EndsFrom, IsServedBy, connection_time}
+use Rattle.fab_program_runs.specs.Servings.{AreServed, EndsFrom, IsServedBy, connection_time}
 
 module _ {D S W : Type 0} (w : server.Ghosts D S OpenFault Outcome) (contents : W → Option (List ℕ)) (opens finds : Result S OpenFault → Type 0) (is_found : (again : Result S OpenFault) → opens again → finds again) (gives : Option ℕ → Type 0) (count : Option ℕ) where
   reopened : (s t : D) → IsReopened w opens s t → IsReopened w finds s t

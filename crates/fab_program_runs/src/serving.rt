@@ -4,7 +4,7 @@ ghost use Rattle.fab_store.specs.declared.OpenFault.{OpenFault};
 ghost use Rattle.fab_program_outside.specs.Coming.{After};
 ghost use Rattle.fab_wire_serving.specs.Turns.{Gives};
 ghost use Rattle.fab_program_desks.specs.Databases.{IsAgain};
-ghost use Rattle.fab_program_serving.specs.Servings.{AreServed, ComesServing, IsServedAt, IsServedBy, IsServedOver, served};
+ghost use Rattle.fab_program_runs.specs.Servings.{AreServed, ComesServing, IsServedAt, IsServedBy, IsServedOver, served};
 
 use crate::front::Front;
 use fab_files::End;

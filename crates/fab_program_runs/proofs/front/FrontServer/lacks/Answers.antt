@@ -1,4 +1,4 @@
-use Rattle.fab_program_serving.proofs.front.FrontServer.lacks.Goals as goal
+use Rattle.fab_program_runs.proofs.front.FrontServer.lacks.Goals as goal
 
 pub returns-clause-whole : goal.returns-clause-whole
 returns-clause-whole g c = rw c.of.ensures at c.lacks.ensures.whole

@@ -1,9 +1,9 @@
 use Rattle.fab_wire_serving.specs.Turns.{Gives}
 use Rattle.fab_program_desks.specs.Databases.{IsAgain}
-use Rattle.fab_program_serving.specs.contracts.front.FrontServer.TheImpl as front
-use Rattle.fab_program_serving.proofs.Served.{after_desk}
-use Rattle.fab_program_serving.proofs.serving.serve_over.Given.{F-post, N-step}
-use Rattle.fab_program_serving.proofs.serving.serve_over.Goals as goal
+use Rattle.fab_program_runs.specs.contracts.front.FrontServer.TheImpl as front
+use Rattle.fab_program_runs.proofs.Served.{after_desk}
+use Rattle.fab_program_runs.proofs.serving.serve_over.Given.{F-post, N-step}
+use Rattle.fab_program_runs.proofs.serving.serve_over.Goals as goal
 
 pub returns-in-Ok : goal.returns-in-Ok
 returns-in-Ok g c = rw c.in-Ok.is (

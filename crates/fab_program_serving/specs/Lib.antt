@@ -1,4 +1,0 @@
-pub mod Fronts
-pub mod FrontLaws
-pub mod Servings
-pub mod Once
