@@ -25,7 +25,7 @@ use fab_reach_base::{Delta, MOST_PATHS, Path, View, all_paths};
 use fab_reach_books::{Meter, PathBook, RenewedGroups, RowDiff, Sight};
 use fab_reach_index::Index;
 use fab_reach_moves::{Moved, Told, told_moved};
-use fab_reach_patches::{group_patch, patch_of};
+use fab_reach_pairs::{group_patch, patch_of};
 use std::alloc::{AllocError, Allocator};
 use std::collections::{BTreeMap, BTreeSet};
 

@@ -4,3 +4,7 @@ mod OfInitiators
 mod Asked
 mod Deltas
 mod Owning
+mod Leading
+mod Going
+mod ZonesGathered
+mod GroupsGathered

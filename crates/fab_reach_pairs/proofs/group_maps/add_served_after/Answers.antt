@@ -1,0 +1,12 @@
+use Rattle.std.proofs.Common.{sym, ◌∙◌}
+use mathlib.Core.Bool.{true≢false}
+use Rattle.fab_names.specs.Orders.{name_cmp}
+use Rattle.fab_zoning.specs.Edits.{IsIn}
+use Rattle.fab_reach_pairs.proofs.GroupsGathered.{served_adds, served_none}
+use Rattle.fab_reach_pairs.proofs.group_maps.add_served_after.Goals as goal
+
+pub returns-in_ok-add_under : goal.returns-in_ok-add_under
+returns-in_ok-add_under g c v t = served_adds v c.args.name.now c.in_ok-keys.keys (IsIn name_cmp name_cmp c.args.groups.now) (IsIn name_cmp name_cmp c.add_under.new.sets) ((c.is_exposed_after.ensures v t).0 c.if-is_exposed_after.true) (c.in_ok-keys.ensures v t) c.in_ok-add_under.ensures
+
+pub returns-else-is_exposed_after : goal.returns-else-is_exposed_after
+returns-else-is_exposed_after g c v t = served_none v c.args.name.now (IsIn name_cmp name_cmp c.args.groups.now) (λ x. true≢false (sym ((c.is_exposed_after.ensures v t).1 x) ∙ c.if-is_exposed_after.false))

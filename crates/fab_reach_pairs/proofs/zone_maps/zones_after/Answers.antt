@@ -1,0 +1,8 @@
+use Rattle.std.specs.Ordering.{nat_cmp}
+use Rattle.fab_reach_books.specs.Inner.Sets.{HasPortIn}
+use Rattle.fab_reach_index.specs.Indexes.{zone_cmp, PortInZone}
+use Rattle.fab_reach_index.proofs.Placed.{tree_is}
+use Rattle.fab_reach_pairs.proofs.zone_maps.zones_after.Goals as goal
+
+pub returns : goal.returns
+returns g c v s t = tree_is nat_cmp zone_cmp (λ p z. HasPortIn c.args.ports.now p × PortInZone v p z) c.new-zones.result c.add_all_after.new.zones c.new-zones.ensures.empty (c.in_ok-add_all_after.ensures v s t)

@@ -1,4 +1,0 @@
-mod Leading
-mod Going
-mod ZonesGathered
-mod GroupsGathered

@@ -1,2 +1,0 @@
--- What private steps say of themselves. No public contract of the room names it.
-pub mod Rows
