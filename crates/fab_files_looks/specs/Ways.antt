@@ -10,10 +10,10 @@ use Rattle.fab_inventory.specs.declared.holder.HolderKind.TheVariants as kind
 use Rattle.fab_reach_base.specs.declared.path.Path.{Path}
 use Rattle.fab_desk_base.specs.declared.reply.Shown.{Shown}
 use Rattle.fab_desk_base.specs.declared.reply.Shown.TheVariants as shown
-use Rattle.fab_looks_base.specs.Reachers.{is_in}
-use Rattle.fab_looks_base.specs.declared.explaining.Why.{Why}
-use Rattle.fab_looks_base.specs.declared.explaining.Why.TheVariants as why
-use Rattle.fab_looks_base.specs.declared.link.Link.{Link}
+use Rattle.fab_looks.specs.Reachers.{is_in}
+use Rattle.fab_looks.specs.declared.explaining.Why.{Why}
+use Rattle.fab_looks.specs.declared.explaining.Why.TheVariants as why
+use Rattle.fab_looks.specs.declared.link.Link.{Link}
 use Rattle.fab_looks_ways.specs.declared.pairing.Pair.{Pair}
 use Rattle.fab_files_looks.specs.Lines.{row_line}
 use Rattle.fab_files_looks.specs.Pairs.{pair_data, pair_lines}

@@ -1,7 +1,7 @@
 -- The words of links.
 use Rattle.std.specs.Prelude.{ℕ, List, codes}
-use Rattle.fab_looks_base.specs.declared.link.Link.{Link}
-use Rattle.fab_looks_base.specs.declared.link.Link.TheVariants as link
+use Rattle.fab_looks.specs.declared.link.Link.{Link}
+use Rattle.fab_looks.specs.declared.link.Link.TheVariants as link
 
 -- the word of a link, as JSON names it
 abbrev pub link_word : Link → List ℕ

@@ -4,7 +4,7 @@ ghost use Rattle.fab_wire_streams.specs.Taking.{Takes};
 
 use crate::pieces::{Piece, Pieces};
 use fab_files::{NAME_WIDTH, Printable, spaces_beside};
-use fab_looks_base::Counts;
+use fab_looks::Counts;
 use fab_looks_ways::Reacher;
 use fab_names::Name;
 use fab_wire_streams::object;

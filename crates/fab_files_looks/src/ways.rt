@@ -2,7 +2,7 @@
 ghost use Rattle.std.specs.Prelude.{◌≡◌};
 ghost use Rattle.fab_files_looks.specs.Ways as ways;
 ghost use Rattle.fab_files_looks.specs.Ways.{found_line, found_lines, missing_data, no_line, path_line, path_lines, reaches_data, way_json, way_text, yes_line};
-ghost use Rattle.fab_looks_base.specs.declared.explaining.Why.TheVariants.{Missing, Reaches};
+ghost use Rattle.fab_looks.specs.declared.explaining.Why.TheVariants.{Missing, Reaches};
 ghost use Rattle.fab_wire_streams.specs.JsonText.{json_text};
 ghost use Rattle.fab_wire_streams.specs.Taking.{Takes};
 
@@ -13,7 +13,7 @@ use crate::words::{link_word, missing_words};
 use fab_desk_base::Shown;
 use fab_files::Printable;
 use fab_inventory::HolderKind;
-use fab_looks_base::{Link, Why, count_at};
+use fab_looks::{Link, Why, count_at};
 use fab_looks_ways::Pair;
 use fab_names::{Fabric, Name};
 use fab_reach_base::Path;

@@ -2,7 +2,7 @@
 ghost use Rattle.std.specs.Prelude.{◌≡◌};
 ghost use Rattle.fab_files_looks.specs.Words as words;
 
-use fab_looks_base::Link;
+use fab_looks::Link;
 
 /// The word of a link, as JSON names it.
 pub fn link_word(link: Link) -> &'static str

@@ -1,3 +1,9 @@
+pub mod Filled
+pub mod Ways
+pub mod Order
+pub mod Gains
+pub mod Services
+pub mod Told
 pub mod Keys
 pub mod Opens
 pub mod Answered

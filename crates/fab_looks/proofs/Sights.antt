@@ -8,10 +8,10 @@ use Rattle.std.proofs.lemmas.List.Elements.{Contains-push_cases, Contains-append
 use Rattle.std.proofs.lemmas.Map.Views.{btree_map_get_iff}
 use Rattle.fab_reach_base.specs.fab_names.Orders.{name_cmp}
 use Rattle.fab_reach_base.proofs.fab_names.OrderLaws.{name_total, name_exact}
-use Rattle.fab_looks_base.specs.declared.reaching.Counts.{Counts}
+use Rattle.fab_looks.specs.declared.reaching.Counts.{Counts}
 use Rattle.fab_policy.specs.fab_policy_base.Policies.{PolicyRows}
 use Rattle.fab_world.specs.Worlds.{WorldRows, records_of}
-use Rattle.fab_looks_base.specs.Reachers.{AreReachers}
+use Rattle.fab_looks.specs.Reachers.{AreReachers}
 use Rattle.fab_looks.specs.Told.{SeesHost, SeesVolume}
 use Rattle.fab_looks.specs.Seeing.{AreTold}
 use Rattle.fab_looks.specs.Inner.Seen.{AreSeen}

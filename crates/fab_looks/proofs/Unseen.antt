@@ -13,10 +13,10 @@ use Rattle.fab_reach_base.specs.fab_inventory.declared.holder.HolderKind.{Holder
 use Rattle.fab_reach_base.specs.fab_inventory.declared.holder.HolderKind.TheVariants as kind
 use Rattle.fab_reach_base.specs.fab_inventory.declared.port.Port.{Port}
 use Rattle.fab_reach_base.specs.Records.{Records}
-use Rattle.fab_looks_base.specs.Links.{IsLogin, HasLogin, IsExplained, IsMissing}
-use Rattle.fab_looks_base.specs.declared.explaining.Why.{Why}
-use Rattle.fab_looks_base.specs.declared.explaining.Why.TheVariants as why
-use Rattle.fab_looks_base.specs.declared.link.Link.TheVariants as link
+use Rattle.fab_looks.specs.Links.{IsLogin, HasLogin, IsExplained, IsMissing}
+use Rattle.fab_looks.specs.declared.explaining.Why.{Why}
+use Rattle.fab_looks.specs.declared.explaining.Why.TheVariants as why
+use Rattle.fab_looks.specs.declared.link.Link.TheVariants as link
 use Rattle.fab_looks.specs.Told.{without_holder, without_volume, untold}
 
 -- what was removed is not there

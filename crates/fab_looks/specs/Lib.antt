@@ -1,3 +1,5 @@
+pub mod Links
+pub mod Reachers
 pub mod Lists
 pub mod Rows
 pub mod Told

@@ -4,9 +4,9 @@ use Rattle.std.specs.BTreeMap.{BTreeMap, get}
 use Rattle.fab_reach_base.specs.fab_names.Orders.{name_cmp}
 use Rattle.fab_policy.specs.fab_policy_base.Policies.{PolicyRows}
 use Rattle.fab_world.specs.Worlds.{WorldRows, records_of}
-use Rattle.fab_looks_base.specs.Links.{IsReached}
-use Rattle.fab_looks_base.specs.Reachers.{IsReacher}
-use Rattle.fab_looks_base.specs.declared.reaching.Counts.{Counts}
+use Rattle.fab_looks.specs.Links.{IsReached}
+use Rattle.fab_looks.specs.Reachers.{IsReacher}
+use Rattle.fab_looks.specs.declared.reaching.Counts.{Counts}
 use Rattle.fab_looks.specs.Told.{SeesHost, SeesVolume}
 
 -- just the caller's hosts that reach the volume, each with its counts; nobody, where the volume is not

@@ -7,10 +7,10 @@ use Rattle.fab_reach_base.specs.Records.{Records}
 use Rattle.fab_world.specs.Worlds.{WorldRows, records_of}
 use Rattle.fab_desk_base.specs.Showing.{IsOpenTo}
 use Rattle.fab_desk_base.specs.declared.command.Query.TheVariants as query
-use Rattle.fab_looks_base.specs.Links.{IsExplained}
-use Rattle.fab_looks_base.specs.declared.explaining.Why.{Why}
-use Rattle.fab_looks_base.specs.declared.explaining.Why.TheVariants as why
-use Rattle.fab_looks_base.specs.declared.link.Link.TheVariants as link
+use Rattle.fab_looks.specs.Links.{IsExplained}
+use Rattle.fab_looks.specs.declared.explaining.Why.{Why}
+use Rattle.fab_looks.specs.declared.explaining.Why.TheVariants as why
+use Rattle.fab_looks.specs.declared.link.Link.TheVariants as link
 
 -- the records without this holder
 abbrev pub without_holder : Records → List ℕ → Records

@@ -4,8 +4,8 @@ ghost use Rattle.fab_looks.specs.Told.{SeesHost};
 ghost use Rattle.fab_looks.specs.Seeing.{AreTold};
 ghost use Rattle.fab_looks.specs.Inner.Seen.{AreSeen};
 
+use crate::reaching::{Counts, who_reaches};
 use fab_desk_base::{Query, is_open_to};
-use fab_looks_base::{Counts, who_reaches};
 use fab_policy::{CallerId, Policy};
 use fab_reach_base::View;
 use fab_reach_base::inventory::HolderKind;

@@ -2,8 +2,9 @@
 ghost use Rattle.std.specs.Prelude.{◌≡◌, IfOk};
 ghost use Rattle.fab_looks.specs.Told.{untold, IsTold};
 
+use crate::explaining::{Why, explain};
+use crate::link::Link;
 use fab_desk_base::{Query, is_open_to};
-use fab_looks_base::{Link, Why, explain};
 use fab_policy::{CallerId, Policy};
 use fab_reach_base::View;
 use fab_reach_base::inventory::HolderKind;

@@ -26,7 +26,7 @@ use Rattle.fab_reach_base.proofs.Sets.{adds_insert, none_in}
 use Rattle.fab_world.specs.Worlds.{WorldRows}
 use Rattle.fab_desk_base.specs.Tenants.{Has, IsHolderOf}
 use Rattle.fab_looks.specs.Seeing.{AreTold}
-use Rattle.fab_looks_base.specs.declared.reaching.Counts.{Counts}
+use Rattle.fab_looks.specs.declared.reaching.Counts.{Counts}
 use Rattle.fab_looks_ways.specs.Inner.Offers.{HasUnit, IsOfferOf}
 use Rattle.fab_looks_ways.specs.Offers.{AreToldReachers, HasTenant, IsOffer, IsUnitAt, IsUnitOf, TellsReacher}
 use Rattle.fab_looks.specs.Ways.{IsOwnMapping}

@@ -15,7 +15,7 @@ use Rattle.fab_policy.specs.fab_policy_base.Policies.{PolicyRows}
 use Rattle.fab_world.specs.Worlds.{WorldRows}
 use Rattle.fab_desk_base.specs.Tenants.{IsHolderOf}
 use Rattle.fab_looks.specs.Seeing.{AreTold}
-use Rattle.fab_looks_base.specs.declared.reaching.Counts.{Counts}
+use Rattle.fab_looks.specs.declared.reaching.Counts.{Counts}
 use Rattle.fab_looks.specs.Ways.{IsOwnMapping}
 use Rattle.fab_looks_ways.specs.declared.reachers.Reacher.{Reacher}
 

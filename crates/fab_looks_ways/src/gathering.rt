@@ -8,7 +8,7 @@ ghost use Rattle.fab_world.specs.Worlds.{records_of};
 use crate::ends::Ends;
 use crate::groups::own_groups;
 use fab_desk_base::{Query, is_open_to};
-use fab_looks_base::serves;
+use fab_looks::serves;
 use fab_policy::{CallerId, Policy};
 use fab_reach_base::inventory::HolderKind;
 use fab_reach_base::mapping::StorageGroup;

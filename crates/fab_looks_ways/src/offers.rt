@@ -9,7 +9,7 @@ ghost use Rattle.fab_reach_base.specs.fab_names.Orders.{name_cmp};
 ghost use Rattle.fab_reach_base.specs.Adding.{Adds};
 ghost use Rattle.fab_reach_base.specs.Gathering.{Serves};
 
-use fab_looks_base::serves;
+use fab_looks::serves;
 use fab_reach_base::lemmas::keys_listed;
 use fab_reach_base::mapping::{Mapping, StorageGroup};
 use fab_reach_base::names::Name;

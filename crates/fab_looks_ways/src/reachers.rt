@@ -4,14 +4,13 @@ ghost use Rattle.std.specs.BTreeMap.{get};
 ghost use Rattle.std.specs.List.{AllZip};
 ghost use Rattle.fab_desk_base.specs.Tenants.{Has, IsHolderOf};
 ghost use Rattle.fab_reach_base.specs.fab_inventory.declared.holder.HolderKind.TheVariants.{Host};
-ghost use Rattle.fab_looks_base.specs.declared.reaching.Counts.{Counts};
+ghost use Rattle.fab_looks.specs.declared.reaching.Counts.{Counts};
 ghost use Rattle.fab_looks_ways.specs.Offers.{AreToldReachers, HasTenant, TellsReacher};
 ghost use Rattle.fab_reach_base.specs.fab_names.Orders.{name_cmp};
 
 use crate::groups::own_groups;
 use crate::offers::{offers_of, units_of};
-use fab_looks::who_told;
-use fab_looks_base::Counts;
+use fab_looks::{Counts, who_told};
 use fab_policy::{CallerId, Policy};
 use fab_reach_base::names::Name;
 use fab_world::World;

@@ -13,8 +13,8 @@ use Rattle.fab_files_looks.specs.Ways.{found_lines, way_json, way_text}
 use Rattle.fab_looks.specs.PortWays.{ArePortWay}
 use Rattle.fab_looks.specs.Told.{IsTold}
 use Rattle.fab_looks.specs.Ways.{AreWayRows}
-use Rattle.fab_looks_base.specs.declared.explaining.Why.{Why}
-use Rattle.fab_looks_base.specs.declared.explaining.Why.TheVariants as why
+use Rattle.fab_looks.specs.declared.explaining.Why.{Why}
+use Rattle.fab_looks.specs.declared.explaining.Why.TheVariants as why
 use Rattle.fab_looks_ways.specs.Offers.{AreToldReachers}
 use Rattle.fab_looks_ways.specs.Pairs.{ArePairs}
 use Rattle.fab_looks_ways.specs.declared.pairing.Pair.{Pair}

@@ -2,8 +2,7 @@
 
 use super::making::name_of;
 use fab_files_looks::link_word;
-use fab_looks::{told, who_told};
-use fab_looks_base::{Counts, Why};
+use fab_looks::{Counts, Why, told, who_told};
 use fab_looks_ways::{Ends, Pair, Reacher, Tie, Zoned, pairs_told, reachers_told};
 use fab_names::Name;
 use fab_policy::{CallerId, Policy};

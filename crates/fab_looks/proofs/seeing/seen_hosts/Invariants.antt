@@ -1,5 +1,5 @@
 use Rattle.std.proofs.Common.{◌≡◌, ℕ, List, ◌++◌}
-use Rattle.fab_looks_base.specs.declared.reaching.Counts.{Counts}
+use Rattle.fab_looks.specs.declared.reaching.Counts.{Counts}
 use Rattle.fab_looks.specs.Told.{SeesHost}
 use Rattle.fab_looks.proofs.Sights.{SeenSoFar}
 use Rattle.fab_looks.proofs.seeing.seen_hosts.Given as goal

@@ -2,7 +2,7 @@ use Rattle.std.proofs.Common.{sym, ap, ◌∙◌, subst}
 use mathlib.Core.Bool.{true≢false}
 use Rattle.fab_reach_base.specs.Records.{Records}
 use Rattle.fab_world.specs.Worlds.{WorldRows, records_of}
-use Rattle.fab_looks_base.specs.Reachers.{AreReachers}
+use Rattle.fab_looks.specs.Reachers.{AreReachers}
 use Rattle.fab_looks.proofs.Sights.{told_seen, told_nobody, empty_get}
 use Rattle.fab_looks.proofs.seeing.who_told.Goals as goal
 

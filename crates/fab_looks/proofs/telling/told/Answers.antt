@@ -2,7 +2,7 @@ use Rattle.std.proofs.Common.{sym, ap, ◌∙◌, subst}
 use mathlib.Core.Bool.{true≢false}
 use Rattle.fab_reach_base.specs.Records.{Records}
 use Rattle.fab_world.specs.Worlds.{WorldRows, records_of}
-use Rattle.fab_looks_base.specs.Links.{IsExplained}
+use Rattle.fab_looks.specs.Links.{IsExplained}
 use Rattle.fab_looks.specs.Told.{without_volume}
 use Rattle.fab_looks.proofs.Unseen.{unseen_host, untold_is}
 use Rattle.fab_looks.proofs.telling.told.Goals as goal

@@ -6,7 +6,7 @@ use Rattle.std.proofs.lemmas.Map.Iter.{rest_more, rest_all}
 use Rattle.fab_desk_base.specs.Tenants.{Has}
 use Rattle.fab_reach_base.proofs.fab_lemmas.Walks.{walked, walk_end}
 use Rattle.fab_looks.proofs.Answered.{zip_more}
-use Rattle.fab_looks_base.specs.declared.reaching.Counts.{Counts}
+use Rattle.fab_looks.specs.declared.reaching.Counts.{Counts}
 use Rattle.fab_looks_ways.specs.Offers.{TellsReacher}
 use Rattle.fab_looks_ways.proofs.Offered.{entry_at}
 use Rattle.fab_looks_ways.proofs.reachers.reachers_of.Goals as goal

@@ -3,7 +3,7 @@ use Rattle.std.specs.BTreeMap as tree
 use Rattle.std.specs.List.{AllZip}
 use Rattle.fab_desk_base.specs.Tenants.{Has}
 use Rattle.fab_reach_base.specs.fab_names.Orders.{name_cmp}
-use Rattle.fab_looks_base.specs.declared.reaching.Counts.{Counts}
+use Rattle.fab_looks.specs.declared.reaching.Counts.{Counts}
 use Rattle.fab_looks_ways.specs.Offers.{TellsReacher}
 use Rattle.fab_looks_ways.proofs.reachers.reachers_of.Given as goal
 
