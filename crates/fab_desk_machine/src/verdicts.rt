@@ -11,8 +11,7 @@ ghost use Rattle.fab_desk_machine.specs.Outcomes.{denied_of};
 ghost use Rattle.fab_desk_trials.specs.Trials.{HasEffect, IsPrepared, effect_world};
 
 use fab_desk_base::{Command, DeskFault};
-use fab_desk_trials::{Effect, Prepared, moved_view};
-use fab_desk_verdicts::{judged, moved_tenants};
+use fab_desk_trials::{Effect, Prepared, judged, moved_tenants, moved_view};
 use fab_policy::Verdict;
 use fab_policy::base::{CallerId, Policy};
 use fab_reach_base::names::Name;
