@@ -3,7 +3,7 @@ pub mod Ways
 pub mod Order
 pub mod Gains
 pub mod Services
-pub mod Told
+pub mod ReachersTold
 pub mod Keys
 pub mod Opens
 pub mod Answered

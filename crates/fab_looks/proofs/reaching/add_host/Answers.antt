@@ -5,7 +5,7 @@ use Rattle.fab_reach_base.specs.declared.path.Path.{Path}
 use Rattle.fab_looks.specs.Reachers.{is_in}
 use Rattle.fab_looks.specs.declared.reaching.Counts.{Counts}
 use Rattle.fab_looks.proofs.Filled.{has_none, has_some}
-use Rattle.fab_looks.proofs.Told.{no_path, host_added, reacher}
+use Rattle.fab_looks.proofs.ReachersTold.{no_path, host_added, reacher}
 use Rattle.fab_looks.proofs.reaching.add_host.Goals as goal
 
 pub returns-then-is_empty : goal.returns-then-is_empty

@@ -6,7 +6,7 @@ use Rattle.fab_names.proofs.OrderLaws.{name_total, name_exact}
 use Rattle.fab_lemmas.proofs.Walks.{walked, walk_end}
 use Rattle.fab_reach_base.specs.Views.{seen}
 use Rattle.fab_looks.proofs.Services.{is_listed, logins_at}
-use Rattle.fab_looks.proofs.Told.{among_none, among_more, all_hosts}
+use Rattle.fab_looks.proofs.ReachersTold.{among_none, among_more, all_hosts}
 use Rattle.fab_looks.proofs.reaching.add_hosts.Goals as goal
 
 pub loop-host-init : goal.loop-host-init

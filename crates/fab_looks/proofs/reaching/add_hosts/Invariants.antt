@@ -2,7 +2,7 @@ use Rattle.std.proofs.Common.{◌≡◌, ℕ, List, ◌++◌}
 use Rattle.std.specs.BTreeSet.{BTreeSet}
 use Rattle.fab_reach_base.specs.Views.{seen}
 use Rattle.fab_looks.specs.Inner.Gaining.{AddsReachers}
-use Rattle.fab_looks.proofs.Told.{IsAmong}
+use Rattle.fab_looks.proofs.ReachersTold.{IsAmong}
 use Rattle.fab_looks.proofs.reaching.add_hosts.Given as goal
 
 abbrev pub invariant-loop-host : goal.invariant-loop-host

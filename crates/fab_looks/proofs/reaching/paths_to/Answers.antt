@@ -12,7 +12,7 @@ use Rattle.fab_looks.specs.Inner.Offers.{AreJust, IsOffer}
 use Rattle.fab_looks.specs.Inner.Serving.{IsNamedBy}
 use Rattle.fab_looks.proofs.Gains.{now}
 use Rattle.fab_looks.proofs.Services.{ports_are, groups_are, not_offered}
-use Rattle.fab_looks.proofs.Told.{none_listed}
+use Rattle.fab_looks.proofs.ReachersTold.{none_listed}
 use Rattle.fab_looks.proofs.Ways.{offers_are, passed}
 use Rattle.fab_looks.proofs.reaching.paths_to.Goals as goal
 

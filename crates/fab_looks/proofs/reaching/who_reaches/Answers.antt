@@ -2,7 +2,7 @@ use Rattle.std.proofs.Common.{subst}
 use Rattle.fab_mapping.specs.Mappings.{MappingRows}
 use Rattle.fab_reach_base.specs.Views.{seen}
 use Rattle.fab_looks.specs.Inner.Serving.{IsIndexTo}
-use Rattle.fab_looks.proofs.Told.{from_empty}
+use Rattle.fab_looks.proofs.ReachersTold.{from_empty}
 use Rattle.fab_looks.proofs.reaching.who_reaches.Goals as goal
 
 pub add_hosts-requires-clause-served : goal.add_hosts-requires-clause-served
