@@ -25,8 +25,17 @@ A list has a line for each of these:
     < 405 JSON METHOD, METHOD             the same, with the methods that the path takes
     @ MOMENT                              a request whose `>` lines are all of its bytes; where it has
                                           none, it has no `<` line either
+    ; STATEMENTS                          somebody else changes the tables; no desk is open then
+    ^ WORDS                               a desk is opened over them: `serves`, and then it is asked what
+                                          follows, or a fault
+    & WORDS                               they are brought to the present schema
+    * WORDS                               the tables of a new desk are made
+    ? QUERY                               it shows these rows:
+    - ROW
 
-A `|` or `>` line stands for its text and a line feed; `\\r` is CR, `\\\\` a backslash, `\\xHH` any byte,
+The words of `^`, `&` and `*` are those of `crates/fab_wire_conformance/src/texts.rt`.
+
+A `|`, `>`, `;`, `?` or `-` line stands for its text and a line feed; `\\r` is CR, `\\\\` a backslash, `\\xHH` any byte,
 and a `\\` at the end means that no line feed follows. For instance
 
     = a host that is not there
@@ -54,6 +63,9 @@ PHRASES = {
     503: "Service Unavailable",
 }
 
+
+# The marks of what is done with tables while no desk is open.
+STEPS = (";", "^", "&", "*", "?")
 
 # A piece of a line: plain text, an escape, or the backslash at its end.
 PIECE = re.compile(r"[^\\]+|\\r|\\\\|\\x[0-9a-f]{2}|\\$")
@@ -190,7 +202,15 @@ def text_of(listed):
                 if not rest.isdecimal():
                     raise Bad("no count of calls")
                 text.append(f"{line}\n")
-            elif mark == "@" and place != "nothing":
+            elif mark in STEPS and place != "nothing":
+                end()
+                meant(rest)
+                exchange, place = None, "opened" if line == "^ serves" else f"behind {mark}"
+                text.append(f"{line}\n")
+            elif mark == "-" and place == "behind ?":
+                meant(rest)
+                text.append(f"{line}\n")
+            elif mark == "@" and place in ("policy", "request", "answer", "opened"):
                 end()
                 exchange, place = Exchange(rest), "request"
             elif mark == ">" and place == "request":
@@ -248,10 +268,10 @@ def list_of(text):
     for number, line in enumerate(lines_of(text), 1):
         mark, _, rest = line.partition(" ")
         try:
-            if mark in ("=", "@"):
+            if mark in ("=", "@", *STEPS):
                 end()
                 moment, request, answer = (rest if mark == "@" else None), b"", b""
-            if mark in ("#", "=", "|", "%"):
+            if mark in ("#", "=", "|", "%", "-", *STEPS):
                 listed.append(f"{line}\n")
             elif mark == ">":
                 request += meant(rest)
@@ -279,6 +299,8 @@ BAD_LISTS = (
     ("= a\n@ 0 GET /hosts/db1\n> \\q\n", "line 3: an escape that is none"),
     ("= a\n| x\n@ 0 GET / t\n< 200 {}\n> y\n", "line 5: a line that is out of place"),
     ("= a\n% x\n", "line 2: no count of calls"),
+    ("= a\n^ store\n@ 0\n", "line 3: a line that is out of place"),
+    ("= a\n^ serves\n- x\n", "line 3: a line that is out of place"),
 )
 
 

@@ -48,6 +48,15 @@ NOBODY = """< HTTP/1.1 401 Unauthorized\\r
 < {"code":1,"error":"no-caller"}\\
 """
 
+STORY = """; DROP TABLE paths
+^ store
+* store
+? SELECT key FROM meta WHERE key = 'schema'
+- schema
+; DELETE FROM meta
+& damaged meta
+"""
+
 GOOD = f"# A text.\n= one host\n{POLICY}{ASKED}{ANSWERED}"
 OTHER = ANSWERED.replace("404 Not Found", "200 OK").replace("not-found", "not\\\\found")
 
@@ -62,7 +71,7 @@ def difference(way, recorded=OTHER, answered=ANSWERED, outcome="404"):
 
 # What it is, the bytes of the text, the status, and what is written on standard output and error.
 CASES = (
-    ("what is recorded", GOOD.encode(), 0, "text: 7 answers as recorded, 0 otherwise\n", ""),
+    ("what is recorded", GOOD.encode(), 0, "text: 8 answers as recorded, 0 otherwise\n", ""),
     (
         "an answer that differs",
         f"# A text.\n= one host\n{POLICY}{ASKED}{OTHER}{ASKED}{ANSWERED}".encode(),
@@ -73,7 +82,8 @@ CASES = (
                      "< HTTP/1.1 404 Not Found\\r\n< Content\\\n", "unsent")
         + difference("served in a list")
         + difference("asked about every pair")
-        + "text: 8 answers as recorded, 6 otherwise\n",
+        + difference("asked a desk that is opened anew")
+        + "text: 9 answers as recorded, 7 otherwise\n",
         "",
     ),
     ("no first line", GOOD[10:].encode(), 3, "", "text: line 1 is not of the form\n"),
@@ -100,9 +110,28 @@ CASES = (
     ("half a byte", f"{GOOD}@ 0\n> \\x0\n".encode(), 3, "", "text: line 22 is not of the form\n"),
     (
         "no policy, in which nobody is a caller", f"# A text.\n= a\n{ASKED}{NOBODY}".encode(), 0,
-        "text: 7 answers as recorded, 0 otherwise\n", "",
+        "text: 8 answers as recorded, 0 otherwise\n", "",
     ),
     ("a policy that is none", b"# A text.\n= a\n| x\n", 3, "", "text: the scenario of line 2 has no policy\n"),
+    ("a story of tables", f"{GOOD}{STORY}".encode(), 0, "text: 5 answers as recorded, 0 otherwise\n", ""),
+    (
+        "what comes of tables differs", f"{GOOD}{STORY}".replace("^ store", "^ serves").encode(), 1,
+        "text, line 22: one host, its tables\nrecorded:\n^ serves\nanswered:\n^ store\n"
+        "text: 4 answers as recorded, 1 otherwise\n",
+        "",
+    ),
+    (
+        "rows that differ", f"{GOOD}{STORY}".replace("- schema", "- revision").encode(), 1,
+        "text, line 24: one host, its tables\nrecorded:\n- revision\nanswered:\n- schema\n"
+        "text: 4 answers as recorded, 1 otherwise\n",
+        "",
+    ),
+    (
+        "statements that are none", f"{GOOD}; DROP\n".encode(), 3, "",
+        "text: line 21 is not of the form, or can not be done or told\n",
+    ),
+    ("a request where no desk is", f"{GOOD}{STORY}{ASKED}".encode(), 3, "", "text: line 28 is not of the form\n"),
+    ("a row of no query", f"{GOOD}- x\n".encode(), 3, "", "text: line 21 is not of the form\n"),
     ("no UTF-8", GOOD.encode() + b"@ 0\n> \xff\n", 3, "", "text: it cannot be read\n"),
 )
 

@@ -9,6 +9,9 @@
 //!   bodies, verdicts; `requests.txt`, tokens, port lists, inputs that end early, values as JSON;
 //!   `addresses.txt`, members by address; `ports.txt`, a list of as many ports as may be known and one of
 //!   a port more; `more.txt`, other cases: answers that were written by hand;
+//! - `tables.txt`, stories of a desk's tables: somebody else changes them, and a desk is opened over them or
+//!   not; they are brought to the present schema, made, and their rows are looked at. Its values were written
+//!   by hand from the definitions;
 //! - `worlds.txt`, worlds with what two callers are told of each pair of a host and a volume, and of each
 //!   volume; `histories.txt`, configurations with the changes of the activations in force, and whether a
 //!   desk opens with them: made from the definitions by scripts. They are no exchanges:
@@ -16,11 +19,12 @@
 //!
 //! None is made by the desk itself. Nothing here is part of the product.
 //!
-//! Each scenario of exchanges is played by a new desk in memory in each of seven ways: each request is
-//! read whole; byte by byte; behind others of which a read fails, of which nothing comes; with an answer that breaks off,
-//! or that nobody takes, though the desk has acted; all of them as one list; and by a desk whose book asks
-//! about every pair of ports, which has to answer as the other. For each file a line
-//! says how many answers are as recorded. The form of a file of exchanges is told in
+//! Each scenario of exchanges is played by a new desk in memory in each of eight ways: each request is
+//! read whole; byte by byte; behind others of which a read fails, of which nothing comes; with an answer
+//! that breaks off, or that nobody takes, though the desk has acted; all of them as one list; by a desk whose
+//! book asks about every pair of ports, which has to answer as the other; and each by a desk that is opened
+//! anew over the tables, which have to have what was answered before. A story of tables is played in the first
+//! way alone. For each file a line says how many answers are as recorded. The form of a file of exchanges is told in
 //! `texts`; a line that is not of its form ends the player, which tells the file and the line on standard
 //! error, with status 3. So does a policy that is none.
 //!
@@ -40,7 +44,16 @@
 //! comes behind the first difference of a scenario may follow from it, since the desk goes on from what
 //! it has done: so the first one is read, and the lines above it in the file say what the desk was asked
 //! before. Is only one way told, then the answer depends on it. The first line tells what came of the
-//! connection: a status, `empty`, `read-failed` or `unsent`.
+//! connection: a status, `empty`, `read-failed` or `unsent`. What comes of a step with tables is told the
+//! same way, with its own line and mark:
+//!
+//! ```text
+//! tables.txt, line 77: damaged: ports, its tables
+//! recorded:
+//! ^ damaged ports
+//! answered:
+//! ^ serves
+//! ```
 //!
 //! To add a scenario, write its requests and the answers that the definitions ask for as a list, as
 //! `tools/record.py --help` tells, and put the text that the script makes of it at the end of the file that
@@ -52,7 +65,9 @@ mod connections;
 mod desks;
 mod faults;
 mod playing;
+mod rounds;
 mod scenarios;
+mod stories;
 mod telling;
 mod texts;
 mod ways;
@@ -60,7 +75,7 @@ mod ways;
 use fab_wire_base::routes::Routes;
 use fab_worlds_players::{Tally, Undone, histories, looks};
 use faults::Fault;
-use playing::play_in_each_way;
+use rounds::play_in_each_way;
 use scenarios::scenarios_of;
 use std::process::ExitCode;
 use std::{env, fs};

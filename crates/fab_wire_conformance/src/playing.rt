@@ -1,13 +1,14 @@
 //! Exchanges, played by new desks: what each answers is compared with what is recorded.
 
 use crate::connections::{End, Ending, Waiting, connection_of, serve};
-use crate::desks::{MemoryDesk, new_desk};
+use crate::desks::{MemoryDesk, MemoryStore, new_desk, new_tables, open};
 use crate::faults::Fault;
 use crate::scenarios::{Exchange, Scenario};
 use crate::telling::{Place, tell};
-use crate::ways::{WAYS, Way};
+use crate::ways::Way;
 use fab_reach::{IndexBook, PathBook};
 use fab_reach_pairs::PlainBook;
+use fab_store::OpenFault;
 use fab_wire::laws::serve_all;
 use fab_wire_base::routes::Routes;
 use fab_worlds_players::Tally;
@@ -19,12 +20,19 @@ const MOST_FAILURES: usize = 3;
 /// How many bytes a request of a scenario has at most that is played over the plain book.
 const MOST_BYTES: usize = 8192;
 
-/// What is played: a scenario of a file, in one way.
+/// What is played: exchanges of a scenario of a file, in one way.
 #[derive(Clone, Copy)]
-struct Part<'t> {
-    path: &'t str,
-    scenario: &'t Scenario<'t>,
-    way: Way,
+pub struct Part<'t> {
+    /// The path of the file.
+    pub path: &'t str,
+    /// The scenario.
+    pub scenario: &'t Scenario<'t>,
+    /// The exchanges.
+    pub exchanges: &'t [Exchange],
+    /// How many exchanges of the scenario are before them.
+    pub before: usize,
+    /// How they are served.
+    pub way: Way,
 }
 
 /// Tells whether the connection of an exchange has ended as it has to. Where it has not, it is told.
@@ -73,7 +81,7 @@ fn untaken(answer: &[u8]) -> End {
 fn cut_of(way: Way, exchange: &Exchange, number: usize) -> (usize, End) {
     let answer = exchange.answer.as_slice();
     match way {
-        Way::Whole | Way::List | Way::EveryPair => (usize::MAX, End::Sent),
+        Way::Whole | Way::List | Way::EveryPair | Way::OpenedAnew => (usize::MAX, End::Sent),
         Way::ByteByByte | Way::FailingReads => (1, End::Sent),
         Way::BrokenAnswers => (usize::MAX, break_of(answer, number)),
         Way::UntakenAnswers => (usize::MAX, untaken(answer)),
@@ -138,7 +146,7 @@ fn play_through<B: PathBook<Global>>(
     play_one(rt, routes, desk, part, number, exchange)
 }
 
-/// Plays the exchanges of a scenario by a desk, one by one.
+/// Plays exchanges by a desk, one by one.
 fn play_each<B: PathBook<Global>>(
     rt: &HostRuntime,
     routes: &Routes,
@@ -146,8 +154,8 @@ fn play_each<B: PathBook<Global>>(
     part: Part<'_>,
     tally: &mut Tally,
 ) -> Result<(), Fault> {
-    for (index, exchange) in part.scenario.exchanges.iter().enumerate() {
-        let number = index.saturating_add(1);
+    for (index, exchange) in part.exchanges.iter().enumerate() {
+        let number = part.before.saturating_add(index).saturating_add(1);
         let is_right = match part.way {
             Way::FailingReads => play_through(rt, routes, desk, part, number, exchange)?,
             _ => play_one(rt, routes, desk, part, number, exchange)?,
@@ -166,7 +174,7 @@ fn connections_of(alloc: Global, exchanges: &[Exchange]) -> Result<Vec<Waiting<'
     Ok(connections)
 }
 
-/// Plays the exchanges of a scenario by a desk, as one list.
+/// Plays exchanges by a desk, as one list.
 fn play_list<B: PathBook<Global>>(
     rt: &HostRuntime,
     routes: &Routes,
@@ -174,7 +182,7 @@ fn play_list<B: PathBook<Global>>(
     part: Part<'_>,
     tally: &mut Tally,
 ) -> Result<(), Fault> {
-    let exchanges = part.scenario.exchanges.as_slice();
+    let exchanges = part.exchanges;
     let connections = connections_of(rt.alloc(), exchanges)?;
     let all = serve_all(rt.alloc(), rt.alloc(), routes, desk, connections)?;
     for (index, (served, exchange)) in all.into_iter().zip(exchanges).enumerate() {
@@ -200,6 +208,82 @@ fn play_by<B: PathBook<Global>>(
     }
 }
 
+/// Plays exchanges by a desk, one by one, and closes it: its tables.
+fn play_and_close(
+    rt: &HostRuntime,
+    routes: &Routes,
+    desk: MemoryDesk<IndexBook<Global>>,
+    part: Part<'_>,
+    tally: &mut Tally,
+) -> Result<MemoryStore, Fault> {
+    let mut desk = desk;
+    play_each(rt, routes, &mut desk, part, tally)?;
+    match desk.close() {
+        Some(tables) => Ok(tables),
+        None => Err(Fault::Desk(part.scenario.line)),
+    }
+}
+
+/// Plays exchanges by a desk that is opened over tables, with this policy, and closes it: its tables, and
+/// why there was no desk, if none was.
+///
+/// # Errors
+/// `Policy`; `Desk` where it has no tables at the end; `Memory` and `Output`.
+pub fn visit(
+    rt: &HostRuntime,
+    routes: &Routes,
+    policy: &[u8],
+    part: Part<'_>,
+    tables: MemoryStore,
+    tally: &mut Tally,
+) -> Result<(Option<OpenFault>, MemoryStore), Fault> {
+    match open(rt.alloc(), part.scenario, policy, tables)? {
+        Ok(desk) => Ok((None, play_and_close(rt, routes, desk, part, tally)?)),
+        Err((fault, tables)) => Ok((Some(fault), tables)),
+    }
+}
+
+/// The same, where a desk has to be there.
+///
+/// # Errors
+/// As for `visit`, and `Desk` where there is none.
+pub fn serve_by(
+    rt: &HostRuntime,
+    routes: &Routes,
+    policy: &[u8],
+    part: Part<'_>,
+    tables: MemoryStore,
+    tally: &mut Tally,
+) -> Result<MemoryStore, Fault> {
+    let (fault, tables) = visit(rt, routes, policy, part, tables, tally)?;
+    if fault.is_some() {
+        return Err(Fault::Desk(part.scenario.line));
+    }
+    Ok(tables)
+}
+
+/// Plays a scenario's exchanges, each by a desk that is opened anew over the tables.
+fn play_anew(
+    rt: &HostRuntime,
+    routes: &Routes,
+    policy: &[u8],
+    part: Part<'_>,
+    tally: &mut Tally,
+) -> Result<(), Fault> {
+    let Some(mut tables) = new_tables(rt.alloc(), None) else {
+        return Err(Fault::Desk(part.scenario.line));
+    };
+    for (before, exchanges) in part.exchanges.chunks(1).enumerate() {
+        let one = Part {
+            exchanges,
+            before,
+            ..part
+        };
+        tables = serve_by(rt, routes, policy, one, tables, tally)?;
+    }
+    Ok(())
+}
+
 /// Whether no request of a scenario is longer than this: then few ports are known in it.
 fn is_small(scenario: &Scenario<'_>) -> bool {
     scenario
@@ -209,8 +293,12 @@ fn is_small(scenario: &Scenario<'_>) -> bool {
 }
 
 /// Plays a scenario in one way, by a new desk with this policy. The book that asks about every pair of
-/// ports is left out where many ports may be known.
-fn play_scenario(
+/// ports, and desks that are opened anew, are left out where many ports may be known; these also where the
+/// store refuses a call, which may be one that opens a desk.
+///
+/// # Errors
+/// `Policy` and `Desk` where there is no desk, `Memory` and `Output`.
+pub fn play_scenario(
     rt: &HostRuntime,
     routes: &Routes,
     policy: &[u8],
@@ -220,47 +308,8 @@ fn play_scenario(
     match part.way {
         Way::EveryPair if !is_small(part.scenario) => Ok(()),
         Way::EveryPair => play_by::<PlainBook<Global>>(rt, routes, policy, part, tally),
+        Way::OpenedAnew if part.scenario.calls.is_some() || !is_small(part.scenario) => Ok(()),
+        Way::OpenedAnew => play_anew(rt, routes, policy, part, tally),
         _ => play_by::<IndexBook<Global>>(rt, routes, policy, part, tally),
     }
-}
-
-/// Plays scenarios in one way, each by a new desk.
-fn play_all(
-    rt: &HostRuntime,
-    routes: &Routes,
-    path: &str,
-    scenarios: &[Scenario<'_>],
-    way: Way,
-    tally: &mut Tally,
-) -> Result<(), Fault> {
-    let mut policy: &[u8] = &[];
-    for scenario in scenarios {
-        if !scenario.policy.is_empty() {
-            policy = scenario.policy.as_slice();
-        }
-        let part = Part {
-            path,
-            scenario,
-            way,
-        };
-        play_scenario(rt, routes, policy, part, tally)?;
-    }
-    Ok(())
-}
-
-/// Plays the scenarios of the file of this name, in each way. Each answer that differs is told.
-///
-/// # Errors
-/// `Policy` and `Desk` where a scenario gets no desk, `Memory` and `Output`.
-pub fn play_in_each_way(
-    rt: &HostRuntime,
-    routes: &Routes,
-    path: &str,
-    scenarios: &[Scenario<'_>],
-) -> Result<Tally, Fault> {
-    let mut tally = Tally::new();
-    for &way in WAYS {
-        play_all(rt, routes, path, scenarios, way, &mut tally)?;
-    }
-    Ok(tally)
 }

@@ -1,4 +1,4 @@
-//! The scenarios of a text, and their exchanges.
+//! The scenarios of a text, their exchanges, and what is done with their tables.
 
 use crate::faults::Fault;
 use crate::texts::{Line, push_line};
@@ -17,7 +17,74 @@ pub struct Exchange {
     pub answer: Vec<u8>,
 }
 
-/// What a new desk is asked.
+/// What is done with the tables of a scenario.
+#[derive(Clone, Copy)]
+pub enum Act {
+    /// Somebody else makes statements.
+    Change,
+    /// A desk is opened over them, which the exchanges behind it ask.
+    Open,
+    /// They are brought to the present schema.
+    Migrate,
+    /// The tables of a new desk are made.
+    Make,
+    /// A query shows rows.
+    Show,
+}
+
+impl Act {
+    /// That of a mark.
+    fn of(mark: &str) -> Option<Act> {
+        match mark {
+            ";" => Some(Act::Change),
+            "^" => Some(Act::Open),
+            "&" => Some(Act::Migrate),
+            "*" => Some(Act::Make),
+            "?" => Some(Act::Show),
+            _ => None,
+        }
+    }
+
+    /// Whether its text is of SQL: else it is what has to come of it.
+    fn is_asked(self) -> bool {
+        matches!(self, Act::Change | Act::Show)
+    }
+
+    /// The mark of what has to come of it.
+    pub fn answer_mark(self) -> char {
+        match self {
+            Act::Change => ';',
+            Act::Open => '^',
+            Act::Migrate => '&',
+            Act::Make => '*',
+            Act::Show => '-',
+        }
+    }
+}
+
+/// What is done with tables, while no desk is open.
+#[derive(Drop)]
+pub struct Step {
+    /// The number of its line, from 1 on.
+    pub line: usize,
+    /// What is done.
+    pub act: Act,
+    /// The statements or the query.
+    pub asked: Vec<u8>,
+    /// What has to come of it.
+    pub wanted: Vec<u8>,
+    /// How many exchanges of the scenario are before it.
+    pub before: usize,
+}
+
+impl Step {
+    /// Whether a desk is there behind it.
+    fn opens(&self) -> bool {
+        matches!(self.act, Act::Open) && self.wanted.as_slice() == b"serves\n".as_slice()
+    }
+}
+
+/// What a new desk is asked, and what is done with its tables.
 #[derive(Drop)]
 pub struct Scenario<'t> {
     /// The number of the line at which it begins, from 1 on.
@@ -31,6 +98,8 @@ pub struct Scenario<'t> {
     pub calls: Option<u64>,
     /// Its requests with their answers, in order.
     pub exchanges: Vec<Exchange>,
+    /// What is done with its tables, in order, and before which exchanges.
+    pub steps: Vec<Step>,
 }
 
 impl<'t> Scenario<'t> {
@@ -42,12 +111,27 @@ impl<'t> Scenario<'t> {
             policy: Vec::new(alloc),
             calls: None,
             exchanges: Vec::new(alloc),
+            steps: Vec::new(alloc),
         }
+    }
+
+    /// Whether nothing of it was told yet.
+    fn is_new(&self) -> bool {
+        self.exchanges.is_empty() && self.steps.is_empty()
+    }
+
+    /// The last exchange, unless a step is behind it.
+    fn last_exchange(&mut self) -> Option<&mut Exchange> {
+        let before = self.steps.last().map_or(0, |step| step.before);
+        if before == self.exchanges.len() {
+            return None;
+        }
+        self.exchanges.last_mut()
     }
 
     /// Adds a line of its policy: before its first exchange.
     fn add_policy(&mut self, line: Line<'_>) -> Result<(), Fault> {
-        if !self.exchanges.is_empty() {
+        if !self.is_new() {
             return Err(Fault::Text(line.number));
         }
         push_line(&mut self.policy, line)
@@ -55,15 +139,18 @@ impl<'t> Scenario<'t> {
 
     /// Says which call of its store is refused: before its first exchange.
     fn refuse(&mut self, line: Line<'_>) -> Result<(), Fault> {
-        if !self.exchanges.is_empty() {
+        if !self.is_new() {
             return Err(Fault::Text(line.number));
         }
         self.calls = Some(line.count()?);
         Ok(())
     }
 
-    /// Begins an exchange.
+    /// Begins an exchange: where a desk is open.
     fn begin_exchange(&mut self, alloc: Global, line: Line<'_>) -> Result<(), Fault> {
+        if !self.steps.last().map_or(true, Step::opens) {
+            return Err(Fault::Text(line.number));
+        }
         let exchange = Exchange {
             line: line.number,
             moment: line.count()?,
@@ -76,7 +163,7 @@ impl<'t> Scenario<'t> {
 
     /// Adds a line of the last exchange's request: before its answer.
     fn add_request(&mut self, line: Line<'_>) -> Result<(), Fault> {
-        match self.exchanges.last_mut() {
+        match self.last_exchange() {
             Some(exchange) if exchange.answer.is_empty() => {
                 push_line(&mut exchange.request, line)
             }
@@ -86,9 +173,35 @@ impl<'t> Scenario<'t> {
 
     /// Adds a line of the last exchange's answer.
     fn add_answer(&mut self, line: Line<'_>) -> Result<(), Fault> {
-        match self.exchanges.last_mut() {
+        match self.last_exchange() {
             Some(exchange) => push_line(&mut exchange.answer, line),
             None => Err(Fault::Text(line.number)),
+        }
+    }
+
+    /// Begins a step.
+    fn begin_step(&mut self, alloc: Global, act: Act, line: Line<'_>) -> Result<(), Fault> {
+        let mut step = Step {
+            line: line.number,
+            act,
+            asked: Vec::new(alloc),
+            wanted: Vec::new(alloc),
+            before: self.exchanges.len(),
+        };
+        if act.is_asked() {
+            push_line(&mut step.asked, line)?;
+        } else {
+            push_line(&mut step.wanted, line)?;
+        }
+        self.steps.push(step)?;
+        Ok(())
+    }
+
+    /// Adds a row that the last step shows.
+    fn add_row(&mut self, line: Line<'_>) -> Result<(), Fault> {
+        match self.steps.last_mut() {
+            Some(step) if matches!(step.act, Act::Show) => push_line(&mut step.wanted, line),
+            _ => Err(Fault::Text(line.number)),
         }
     }
 
@@ -100,7 +213,11 @@ impl<'t> Scenario<'t> {
             "@" => self.begin_exchange(alloc, line),
             ">" => self.add_request(line),
             "<" => self.add_answer(line),
-            _ => Err(Fault::Text(line.number)),
+            "-" => self.add_row(line),
+            _ => match Act::of(mark) {
+                Some(act) => self.begin_step(alloc, act, line),
+                None => Err(Fault::Text(line.number)),
+            },
         }
     }
 }

@@ -2,6 +2,7 @@
 
 use crate::connections::Ending;
 use crate::faults::Fault;
+use crate::scenarios::Step;
 use std::alloc::Global;
 use std::fmt::Write;
 
@@ -21,13 +22,14 @@ fn push_byte(text: &mut String, byte: u8) -> Result<(), Fault> {
     Ok(())
 }
 
-/// The lines that stand for the bytes of an answer.
-fn lines_of(alloc: Global, bytes: &[u8]) -> Result<String, Fault> {
+/// The lines that stand for the bytes of an answer, each behind its mark.
+fn lines_of(alloc: Global, mark: char, bytes: &[u8]) -> Result<String, Fault> {
     let mut text = String::new(alloc);
     let mut is_begun = false;
     for &byte in bytes {
         if !is_begun {
-            text.push_str("< ")?;
+            text.push(mark)?;
+            text.push(' ')?;
         }
         push_byte(&mut text, byte)?;
         is_begun = byte != b'\n';
@@ -72,11 +74,34 @@ pub fn tell(
         number,
         way,
     } = place;
-    let recorded = lines_of(rt.alloc(), recorded)?;
-    let answered = lines_of(rt.alloc(), ending.written())?;
+    let recorded = lines_of(rt.alloc(), '<', recorded)?;
+    let answered = lines_of(rt.alloc(), '<', ending.written())?;
     let outcome = ending.outcome;
     match println!(rt;
         "{path}, line {line}: {name}, request {number}, {way}: {outcome}\nrecorded:\n{recorded}answered:\n{answered}"
+    ) {
+        Ok(()) => Ok(()),
+        Err(_) => Err(Fault::Output),
+    }
+}
+
+/// Tells what came of a step with the tables of the scenario of this name, beside what is recorded.
+///
+/// # Errors
+/// `Memory`, and `Output` where it cannot be written.
+pub fn tell_step(
+    rt: &HostRuntime,
+    path: &str,
+    name: &str,
+    step: &Step,
+    came: &[u8],
+) -> Result<(), Fault> {
+    let mark = step.act.answer_mark();
+    let recorded = lines_of(rt.alloc(), mark, step.wanted.as_slice())?;
+    let answered = lines_of(rt.alloc(), mark, came)?;
+    let line = step.line;
+    match println!(rt;
+        "{path}, line {line}: {name}, its tables\nrecorded:\n{recorded}answered:\n{answered}"
     ) {
         Ok(()) => Ok(()),
         Err(_) => Err(Fault::Output),

@@ -9,8 +9,19 @@
 //! | `@` | the moment at which a request comes, in Unix seconds |
 //! | `>` | the request's bytes |
 //! | `<` | those of its answer: none where there is none |
+//! | `;` | statements that somebody else makes |
+//! | `^` | what comes of opening a desk over the tables: `serves`, or a fault |
+//! | `&` | what comes of bringing them to the present schema: `changed`, `unchanged`, or a fault |
+//! | `*` | what comes of making the tables of a new desk: `made`, or a fault |
+//! | `?` | a query, each row of which is one text |
+//! | `-` | a row that the query shows |
 //!
-//! The text of a `|`, `>` or `<` stands for itself and a line feed, where `\r` is CR, `\\` a backslash,
+//! The last six speak of tables, with no desk open: each of them closes that which is, and the requests
+//! behind a `^` are asked the desk that it opens. A fault is told in these words: `damaged` and the table,
+//! `newer-schema` and `old-schema` with a number, `store` and `memory`. Where the store refuses a `^`, `&`
+//! or `*`, it counts that once, and else it counts nothing.
+//!
+//! The text of any but `#`, `=`, `%` and `@` stands for itself and a line feed, where `\r` is CR, `\\` a backslash,
 //! `\xHH` any byte, and a `\` at the end means that no line feed follows.
 
 use crate::faults::Fault;

@@ -19,6 +19,8 @@ pub enum Way {
     List,
     /// One by one, by a desk whose book asks about every pair of ports.
     EveryPair,
+    /// One by one, each by a desk that is opened anew over the tables: they have what was answered.
+    OpenedAnew,
 }
 
 impl Way {
@@ -32,6 +34,7 @@ impl Way {
             Way::UntakenAnswers => "answered to who takes no byte",
             Way::List => "served in a list",
             Way::EveryPair => "asked about every pair",
+            Way::OpenedAnew => "asked a desk that is opened anew",
         }
     }
 }
@@ -45,4 +48,5 @@ pub const WAYS: &[Way] = &[
     Way::UntakenAnswers,
     Way::List,
     Way::EveryPair,
+    Way::OpenedAnew,
 ];
