@@ -3,6 +3,7 @@
 use sqlite::Files;
 use sqlite_disk::{Crash, Disk, Fuse, Memory};
 use std::alloc::Global;
+use std::process::Abort;
 
 /// The disk that fails.
 #[derive(Clone, Copy)]
@@ -13,25 +14,57 @@ pub enum Failing {
     Log,
 }
 
-/// New files.
-pub fn new_files(alloc: Global) -> Files<Memory> {
-    Files {
-        log: Memory::new(alloc),
-        db: Memory::new(alloc),
+impl Failing {
+    /// After how many calls the disk of the database file fails, where one does after so many.
+    fn calls_of_database(self, calls: u64) -> u64 {
+        match self {
+            Failing::Database => calls,
+            Failing::Log => u64::MAX,
+        }
+    }
+
+    /// After how many calls that of the log fails.
+    fn calls_of_log(self, calls: u64) -> u64 {
+        match self {
+            Failing::Database => u64::MAX,
+            Failing::Log => calls,
+        }
     }
 }
 
-/// The files, with the disk that fails after so many calls.
-pub fn fused<D: Disk>(files: Files<D>, failing: Failing, calls: u64) -> Files<Fuse<D>> {
-    let (of_db, of_log) = match failing {
-        Failing::Database => (calls, u64::MAX),
-        Failing::Log => (u64::MAX, calls),
-    };
-    let Files { log, db } = files;
+/// The two disks.
+pub type Disks = Files<Fuse<Memory>>;
+
+/// New files, of which none fails.
+pub fn new_files(alloc: Global) -> Disks {
     Files {
-        log: Fuse::new(log, of_log),
-        db: Fuse::new(db, of_db),
+        log: Fuse::new(Memory::new(alloc), u64::MAX),
+        db: Fuse::new(Memory::new(alloc), u64::MAX),
     }
+}
+
+/// Whether the disk takes these bytes.
+fn is_written<D: Disk>(disk: &mut D, bytes: &[u8]) -> bool {
+    disk.may_be_used() && disk.write_at(0, bytes).is_ok()
+}
+
+/// Whether the disk keeps what it has.
+fn is_synced<D: Disk>(disk: &mut D) -> bool {
+    disk.may_be_used() && disk.sync().is_ok()
+}
+
+/// A disk with the bytes of this one, which fails after so many calls.
+fn copied(rt: &impl Abort, alloc: Global, disk: &Fuse<Memory>, calls: u64) -> Fuse<Memory> {
+    let mut copy = Memory::new(alloc);
+    assert!(rt; is_written(&mut copy, disk.inner().bytes()) && is_synced(&mut copy));
+    Fuse::new(copy, calls)
+}
+
+/// Files with the bytes of these, of which one fails after so many calls.
+pub fn fused(rt: &impl Abort, alloc: Global, files: &Disks, failing: Failing, calls: u64) -> Disks {
+    let log = copied(rt, alloc, &files.log, failing.calls_of_log(calls));
+    let db = copied(rt, alloc, &files.db, failing.calls_of_database(calls));
+    Files { log, db }
 }
 
 /// Whether the disk takes one call more.
@@ -44,7 +77,7 @@ pub fn have_served<D: Disk>(files: &mut Files<D>) -> bool {
     takes_one(&mut files.log) && takes_one(&mut files.db)
 }
 
-/// The machine stops: what was not synced is lost.
+/// The machine stops: what was not synced is lost, and neither disk fails any more.
 pub fn stop<D: Crash>(files: &mut Files<D>) {
     files.log.crash();
     files.db.crash();

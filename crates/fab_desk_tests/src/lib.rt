@@ -1,11 +1,11 @@
-//! Tests of the desk over tables. Those in memory are asked worked requests, changed by somebody else,
-//! loaded, and brought to the present schema, step by step. Each call of a store is refused in turn. Files
-//! are on two memory disks, one of which fails after so many calls of requests or of a migration; what is
-//! left is opened again, and serves on. Nothing here is part of the product.
+//! Tests of a desk over tables that is asked by the bytes of requests. Each request for memory that a request
+//! of the worked rows makes is refused in turn, and so is each call of the store. Files are on two memory
+//! disks, one of which fails after so many calls of requests or of a migration; what is left is opened again,
+//! and serves on. Nothing here is part of the product.
 #![tactic(auto)]
 
 #[cfg(test)]
-mod damaged;
+mod answers;
 #[cfg(test)]
 mod desks;
 #[cfg(test)]
@@ -13,22 +13,18 @@ mod disks;
 #[cfg(test)]
 mod files;
 #[cfg(test)]
-mod lists;
+mod growth;
 #[cfg(test)]
-mod making;
+mod playing;
 #[cfg(test)]
-mod migrations;
+mod quiet;
 #[cfg(test)]
 mod refused;
 #[cfg(test)]
 mod statements;
 #[cfg(test)]
-mod steps;
-#[cfg(test)]
 mod stops;
 #[cfg(test)]
-mod stored;
-#[cfg(test)]
-mod undo;
+mod tables;
 #[cfg(test)]
 mod worlds;

@@ -3,13 +3,16 @@
 //! after them and the one in progress, and a desk over it answers the rest; or it is of one schema or the
 //! other whole.
 
-use crate::disks::{Failing, fused, have_served, new_files, stop};
+use crate::disks::{Disks, Failing, fused, have_served, new_files, stop};
 use crate::files::{Work, run};
-use crate::lists::{List, all_turns};
-use crate::migrations::BEFORE;
-use fab_test_machine::Turn;
+use crate::worlds::{Tale, lines_of, worlds_after};
+use fab_test_alloc::Refusing;
+use fab_test_wire::rows::{
+    ALIAS_PUT_ANEW, FIRST_PLAN, NODE_ZONED, SECOND_PLAN, UNMAPPED, VOLUME_GONE, WORLD,
+};
 use sqlite::Files;
-use sqlite_disk::{Crash, Memory};
+use sqlite_disk::Crash;
+use std::alloc::Allocator;
 use std::process::Abort;
 
 /// More calls than a run makes.
@@ -18,16 +21,16 @@ const MOST: u64 = 1000;
 /// What is stopped.
 #[derive(Clone, Copy)]
 enum Story {
-    /// A desk that answers the turns.
+    /// A desk that answers the requests.
     Requests,
     /// A migration of the tables of schema 1 after them.
     Migration,
 }
 
-/// What is done first, and what it comes to where nothing stops it.
-fn whole(story: Story, turns: &[Turn]) -> (Work, usize) {
+/// What is done first, and what it comes to where nothing stops it, of so many requests.
+fn whole(story: Story, requests: usize) -> (Work, usize) {
     match story {
-        Story::Requests => (Work::Play, turns.len()),
+        Story::Requests => (Work::Play, requests),
         Story::Migration => (Work::Migrate, 1),
     }
 }
@@ -41,40 +44,53 @@ fn look(story: Story, count: usize) -> Work {
 }
 
 /// Whether the story over the files meets no stop. What it leaves is opened again, and looked at.
-fn is_whole<D: Crash + Drop>(
+fn is_whole<A: Allocator + Copy, D: Crash + Drop>(
     rt: &(impl Abort + AllocGlobal),
+    heap: A,
     files: Files<D>,
-    turns: &[Turn],
+    tale: Tale<'_, A>,
     story: Story,
 ) -> bool {
-    let (work, most) = whole(story, turns);
-    let (count, mut files) = run(rt, files, turns, work);
+    let (work, most) = whole(story, tale.lines.len());
+    let (count, mut files) = run(rt, heap, files, tale, work);
     let served = have_served(&mut files);
     assert!(rt; !served || count == Some(most));
     stop(&mut files);
-    let (found, _files) = run(rt, files, turns, look(story, count.unwrap_or(0)));
+    let (found, _files) = run(rt, heap, files, tale, look(story, count.unwrap_or(0)));
     assert!(rt; found.is_some());
     served
 }
 
 /// The files that the story begins with.
-fn begun(rt: &(impl Abort + AllocGlobal), turns: &[Turn], story: Story) -> Files<Memory> {
+fn begun<A: Allocator + Copy>(
+    rt: &(impl Abort + AllocGlobal),
+    heap: A,
+    tale: Tale<'_, A>,
+    story: Story,
+) -> Disks {
     let files = new_files(rt.alloc());
     match story {
         Story::Requests => files,
         Story::Migration => {
-            let (count, files) = run(rt, files, turns, Work::PlayEarlier);
-            assert!(rt; count == Some(turns.len()));
+            let (count, files) = run(rt, heap, files, tale, Work::PlayEarlier);
+            assert!(rt; count == Some(tale.lines.len()));
             files
         }
     }
 }
 
 /// Stops the story at each call of the disk that fails, until a run meets no stop.
-fn stop_each(rt: &(impl Abort + AllocGlobal), turns: &[Turn], story: Story, failing: Failing) {
+fn stop_each<A: Allocator + Copy>(
+    rt: &(impl Abort + AllocGlobal),
+    heap: A,
+    tale: Tale<'_, A>,
+    story: Story,
+    failing: Failing,
+) {
+    let begun = begun(rt, heap, tale, story);
     for calls in 0..MOST {
-        let files = fused(begun(rt, turns, story), failing, calls);
-        if is_whole(rt, files, turns, story) {
+        let files = fused(rt, rt.alloc(), &begun, failing, calls);
+        if is_whole(rt, heap, files, tale, story) {
             return;
         }
     }
@@ -82,18 +98,24 @@ fn stop_each(rt: &(impl Abort + AllocGlobal), turns: &[Turn], story: Story, fail
 }
 
 /// Stops the story of the lists at each call of either disk.
-fn stop_all(rt: &(impl Abort + AllocGlobal), lists: &[List], story: Story) {
-    let turns = all_turns(rt, lists);
-    stop_each(rt, turns.as_slice(), story, Failing::Log);
-    stop_each(rt, turns.as_slice(), story, Failing::Database);
+fn stop_all(rt: &(impl Abort + AllocGlobal), lists: &[&[&'static str]], story: Story) {
+    let heap = Refusing::new(rt.alloc());
+    let lines = lines_of(rt, lists);
+    let worlds = worlds_after(rt, &heap, lines.as_slice());
+    let tale = Tale {
+        lines: lines.as_slice(),
+        worlds: worlds.as_slice(),
+    };
+    stop_each(rt, &heap, tale, story, Failing::Log);
+    stop_each(rt, &heap, tale, story, Failing::Database);
 }
 
-/// The lists of turns up to the end of rows 5, 6, 9 and 15.
-const ROWS: &[&[List]] = &[
-    &[List::World, List::First],
-    &[List::World, List::First, List::Row6],
-    &[List::World, List::First, List::Second, List::Row9],
-    &[List::World, List::First, List::Unmapped, List::Row15],
+/// The requests up to the end of rows 5, 6, 9 and 15.
+const ROWS: &[&[&[&str]]] = &[
+    &[WORLD, FIRST_PLAN],
+    &[WORLD, FIRST_PLAN, ALIAS_PUT_ANEW],
+    &[WORLD, FIRST_PLAN, SECOND_PLAN, NODE_ZONED],
+    &[WORLD, FIRST_PLAN, UNMAPPED, VOLUME_GONE],
 ];
 
 #[test]
@@ -105,5 +127,5 @@ fn stopped_then_served(rt: HostRuntime) {
 
 #[test]
 fn a_migration_stopped_at_each_call(rt: HostRuntime) {
-    stop_all(&rt, BEFORE, Story::Migration);
+    stop_all(&rt, &[WORLD, FIRST_PLAN], Story::Migration);
 }

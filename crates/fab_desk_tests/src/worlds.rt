@@ -1,55 +1,157 @@
-//! Whether tables have the world that the machine comes to by the same requests.
+//! The world that tables have, and that of tables in memory whose desk was asked the same, and answered as
+//! recorded.
 
-use crate::desks::made;
-use fab_store::{OpenFault, Store};
-use fab_test_machine::{Turn, holds_in};
+use crate::answers::ask_each;
+use crate::desks::{Asked, Trial, closed, opened};
+use crate::tables::{Story, load, tell_in_memory};
+use fab_store::{RefusingStore, Store};
+use fab_test_alloc::Refusing;
+use fab_test_wire::rows::{FIRST_PLAN, FIRST_UNDONE, ROLLED_BACK, UNMAPPED, WORLD};
 use fab_test_world::is_same;
 use fab_world::World;
-use std::alloc::Global;
+use std::alloc::Allocator;
 use std::process::Abort;
 
-/// The world that the machine comes to by the turns. Ends the test where it answers otherwise.
-fn world_after(rt: &(impl Abort + AllocGlobal), turns: &[Turn]) -> World<Global> {
-    let mut world = World::new(rt.alloc());
-    assert!(rt; made(rt, holds_in(rt.alloc(), &mut world, turns), "machine"));
-    world
-}
-
-/// Whether the tables have the world that the machine comes to by the turns, or why they are not loaded.
-pub fn has_world<S: Store<Global>>(
-    rt: &(impl Abort + AllocGlobal),
+/// The world of the tables.
+pub fn world_of<A: Allocator + Copy, S: Store<A>>(
+    rt: &impl Abort,
+    heap: A,
     tables: &mut S,
-    turns: &[Turn],
-) -> Result<bool, OpenFault> {
-    match tables.load(rt.alloc()) {
-        Ok(loaded) => {
-            let world = world_after(rt, turns);
-            Ok(is_same(rt.alloc(), &loaded, &world).expect(rt, "memory"))
-        }
-        Err(fault) => Err(fault),
+) -> World<A> {
+    match load(heap, tables) {
+        Ok(world) => world,
+        Err(_) => panic!(rt; "no world"),
     }
 }
 
-/// Whether the tables have the world that the machine comes to by the turns.
-pub fn are_after<S: Store<Global>>(
-    rt: &(impl Abort + AllocGlobal),
-    tables: &mut S,
-    turns: &[Turn],
+/// Whether two worlds are the same.
+pub fn are_same<A: Allocator + Copy>(
+    rt: &impl Abort,
+    heap: A,
+    one: &World<A>,
+    other: &World<A>,
 ) -> bool {
-    has_world(rt, tables, turns) == Ok(true)
+    is_same(heap, one, other).expect(rt, "memory")
 }
 
-/// The turns after which the tables stand: so many, or one more.
-pub fn found<S: Store<Global>>(
-    rt: &(impl Abort + AllocGlobal),
+/// Whether the tables have this world.
+pub fn is_world_of<A: Allocator + Copy, S: Store<A>>(
+    rt: &impl Abort,
+    heap: A,
     tables: &mut S,
-    turns: &[Turn],
-    count: usize,
-) -> usize {
-    if are_after(rt, tables, turns.get(..count).unwrap_or(turns)) {
-        return count;
+    world: &World<A>,
+) -> bool {
+    are_same(rt, heap, world, &world_of(rt, heap, tables))
+}
+
+/// A desk answers these requests as recorded: the world of its tables.
+#[derive(Clone, Copy)]
+struct Answered<'t> {
+    lines: &'t [&'t str],
+}
+
+/// The store of the desk, which has answered these.
+fn store_after<A: Allocator + Copy, S, D: Asked<A, S>>(
+    rt: &(impl Abort + AllocGlobal),
+    desk: D,
+    lines: &[&str],
+) -> RefusingStore<S> {
+    let mut desk = desk;
+    ask_each(rt, &mut desk, lines);
+    closed(rt, desk)
+}
+
+impl<A: Allocator + Copy> Story<A> for Answered<'_> {
+    type Told = World<A>;
+
+    fn tell<R: Abort + AllocGlobal, S: Store<A>>(self, rt: &R, heap: A, store: S) -> World<A> {
+        let desk: Trial<A, S> = opened(rt, heap, RefusingStore::new(store, u64::MAX));
+        let mut store = store_after(rt, desk, self.lines);
+        world_of(rt, heap, &mut store)
     }
-    let after = count.saturating_add(1);
-    assert!(rt; are_after(rt, tables, turns.get(..after).unwrap_or(turns)));
-    after
+}
+
+/// The world of a desk that has answered these as recorded.
+pub fn world_after<A: Allocator + Copy>(
+    rt: &(impl Abort + AllocGlobal),
+    heap: A,
+    lines: &[&str],
+) -> World<A> {
+    tell_in_memory(rt, heap, Answered { lines })
+}
+
+/// The world of a new desk, and that after each of these requests.
+pub fn worlds_after<A: Allocator + Copy>(
+    rt: &(impl Abort + AllocGlobal),
+    heap: A,
+    lines: &[&str],
+) -> Vec<World<A>> {
+    let mut worlds = Vec::new(rt.alloc());
+    for count in 0..=lines.len() {
+        let world = world_after(rt, heap, lines.get(..count).unwrap_or(lines));
+        worlds.push(world).expect(rt, "memory");
+    }
+    worlds
+}
+
+/// The requests of the lists, one after the other.
+pub fn lines_of(rt: &(impl Abort + AllocGlobal), lists: &[&[&'static str]]) -> Vec<&'static str> {
+    let mut lines = Vec::new(rt.alloc());
+    for list in lists {
+        lines.extend_from_slice(list).expect(rt, "memory");
+    }
+    lines
+}
+
+/// Requests, and the world of a new desk and that after each of them.
+#[derive(Clone, Copy)]
+pub struct Tale<'t, A: Allocator + Copy> {
+    pub lines: &'t [&'t str],
+    pub worlds: &'t [World<A>],
+}
+
+impl<'t, A: Allocator + Copy> Tale<'t, A> {
+    /// The world after so many requests.
+    pub fn world(self, rt: &impl Abort, count: usize) -> &'t World<A> {
+        self.worlds.get(count).expect(rt, "a world")
+    }
+}
+
+/// Whether a line of a table tells a change that is done.
+fn is_change(line: &str) -> bool {
+    !line.contains(" GET ") && line.contains(" -> 200 OK: ")
+}
+
+/// The place of the first change after which the world is the same, or of the first other request after which
+/// it is another.
+fn first_other<A: Allocator + Copy>(rt: &impl Abort, heap: A, tale: Tale<'_, A>) -> Option<usize> {
+    for (place, line) in tale.lines.iter().enumerate() {
+        let after = tale.world(rt, place.saturating_add(1));
+        if are_same(rt, heap, tale.world(rt, place), after) == is_change(line) {
+            return Some(place);
+        }
+    }
+    None
+}
+
+/// Whether each change of the lists makes another world, and no other request does.
+fn are_told_apart(rt: &(impl Abort + AllocGlobal), lists: &[&[&'static str]]) -> bool {
+    let heap = Refusing::new(rt.alloc());
+    let lines = lines_of(rt, lists);
+    let worlds = worlds_after(rt, &heap, lines.as_slice());
+    let tale = Tale {
+        lines: lines.as_slice(),
+        worlds: worlds.as_slice(),
+    };
+    first_other(rt, &heap, tale).is_none()
+}
+
+#[test]
+fn each_change_makes_another_world(rt: HostRuntime) {
+    assert!(rt;
+        are_told_apart(
+            &rt,
+            &[WORLD, FIRST_PLAN, UNMAPPED, ROLLED_BACK, FIRST_UNDONE]
+        )
+    );
 }

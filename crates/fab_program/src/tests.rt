@@ -1,13 +1,8 @@
-//! Tests of the program by calls of `run`; and want of memory under a desk that is asked over the wire,
-//! one of whose requests for memory is refused, the first, then the next, until a request meets no
-//! refusal.
+//! Tests of the program by calls of `run`, and of connections over loopback that a desk serves.
 
 mod answers;
 mod clocks;
 mod connections;
-mod desks;
 mod faults;
-mod growth;
-mod quiet;
 mod runs;
 mod unsound;

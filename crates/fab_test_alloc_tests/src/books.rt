@@ -1,7 +1,12 @@
 //! A book that is led from one world to another.
+ghost use Rattle.fab_reach_base.specs.Serving.{IsServing};
+ghost use Rattle.fab_reach_base.specs.Views.{seen};
+ghost use Rattle.fab_reach_books.specs.Rows.{IsRowDiff};
+
 use crate::desk::{Heap, named};
+use fab_reach::IndexBook;
 use fab_reach_base::View;
-use fab_reach_books::{PathBook, ViewSight, row_diff};
+use fab_reach_books::{PathBook, RowDiff, ViewSight, row_diff};
 use fab_world::World;
 use std::process::Abort;
 
@@ -25,10 +30,73 @@ fn is_adopted<'a, B: PathBook<Heap<'a>>>(
     !(is_bare && heap.has_refused())
 }
 
+/// Makes the step ready to the world after, and takes it: whether there was memory for it, and none was asked
+/// for where the step was taken, if that is wanted. Ends the test where a step for which there is no memory
+/// moves the book.
+fn is_stepped<'a, B: PathBook<Heap<'a>>>(
+    rt: &impl Abort,
+    heap: Heap<'a>,
+    book: &mut B,
+    before: &View<'_, Heap<'a>>,
+    after: &View<'_, Heap<'a>>,
+    diff: &RowDiff<Heap<'a>>,
+    is_bare: bool,
+) -> bool
+    requires stands { B.stands book.old (seen before.now) }
+    requires serving { IsServing (seen after.now) }
+    requires diff { IsRowDiff (seen before.now) (seen after.now) diff.now.gone.items diff.now.come.items }
+{
+    let mut sight = ViewSight::new(heap, *after);
+    match book.prepare(before, diff, &mut sight) {
+        Ok(ready) => is_adopted(heap, book, ready, is_bare),
+        Err(_) => {
+            assert!(rt; paths_of(rt, book) == 1);
+            false
+        }
+    }
+}
+
+/// The same, where the rows that differ are looked for.
+fn is_led<'a, B: PathBook<Heap<'a>>>(
+    rt: &impl Abort,
+    heap: Heap<'a>,
+    book: &mut B,
+    before: &View<'_, Heap<'a>>,
+    after: &View<'_, Heap<'a>>,
+    is_bare: bool,
+) -> bool
+    requires stands { B.stands book.old (seen before.now) }
+    requires serving { IsServing (seen after.now) }
+{
+    match row_diff(heap, before, after) {
+        Ok(diff) => is_stepped(rt, heap, book, before, after, &diff, is_bare),
+        Err(_) => false,
+    }
+}
+
+/// The same of a book that is opened at the world before.
+fn leads_by<'a, B: PathBook<Heap<'a>>>(
+    rt: &impl Abort,
+    heap: Heap<'a>,
+    before: &View<'_, Heap<'a>>,
+    after: &View<'_, Heap<'a>>,
+    is_bare: bool,
+) -> bool {
+    assert!(rt; before.is_serving());
+    assert!(rt; after.is_serving());
+    match B::open(heap, before) {
+        Ok(book) => {
+            let mut book = book;
+            is_led(rt, heap, &mut book, before, after, is_bare)
+        }
+        Err(_) => false,
+    }
+}
+
 /// Opens a book at the first world, in which the host has a path, and leads it to the second: whether there
 /// was memory to open it and to make the step ready, and none was asked for where the step was taken, if
 /// that is wanted. Ends the test where a step for which there is no memory moves the book.
-pub fn leads<'a, B: PathBook<Heap<'a>>>(
+pub fn leads<'a>(
     rt: &impl Abort,
     heap: Heap<'a>,
     before: &World<Heap<'a>>,
@@ -37,20 +105,5 @@ pub fn leads<'a, B: PathBook<Heap<'a>>>(
 ) -> bool {
     let before = View::of(&before.inventory, &before.config);
     let after = View::of(&after.inventory, &after.config);
-    assert!(rt; before.is_serving());
-    assert!(rt; after.is_serving());
-    let Ok(mut book) = B::open(heap, &before) else {
-        return false;
-    };
-    let Ok(diff) = row_diff(heap, &before, &after) else {
-        return false;
-    };
-    let mut sight = ViewSight::new(heap, after);
-    match book.prepare(&before, &diff, &mut sight) {
-        Ok(ready) => is_adopted(heap, &mut book, ready, is_bare),
-        Err(_) => {
-            assert!(rt; paths_of(rt, &book) == 1);
-            false
-        }
-    }
+    leads_by::<IndexBook<Heap<'a>>>(rt, heap, &before, &after, is_bare)
 }

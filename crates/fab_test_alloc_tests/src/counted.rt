@@ -2,13 +2,14 @@
 ghost use Rattle.fab_world.specs.Soundness.{IsSound};
 ghost use Rattle.fab_world.specs.Worlds.{records_of};
 
-use crate::desk::{Heap, Means, Order, PORTS, STOCK, ask, filled, read_policy};
+use crate::desk::{
+    FIRST_PLAN, Heap, Means, NO_PORTS, Order, PORTS, STOCK, ask, filled, read_policy,
+};
 use fab_names::Fabric;
 use fab_policy::Policy;
 use fab_reach::IndexBook;
 use fab_reach_books::PathBook;
 use fab_test_alloc::Refusing;
-use fab_test_machine::{FIRST_PLAN, NO_PORTS};
 use fab_world::World;
 use std::process::Abort;
 

@@ -11,10 +11,11 @@ use fab_inventory::{HolderKind, Volume};
 use fab_names::{Fabric, Name, Wwn};
 use fab_plans_text::read_plan;
 use fab_policy::Policy;
-use fab_reach::Config;
+use fab_policy::base::TRIAL_POLICY;
+use fab_reach::{Config, IndexBook};
+use fab_reach_base::View;
 use fab_reach_books::PathBook;
 use fab_test_alloc::Refusing;
-use fab_test_machine::{ADA, FIRST_INITIATOR, FIRST_PLAN, FIRST_TARGET, opened, policy};
 use fab_wire_requests::port_list::read_ports;
 use fab_world::World;
 use std::alloc::Global;
@@ -22,6 +23,31 @@ use std::process::Abort;
 
 /// The allocator that refuses a request.
 pub type Heap<'a> = &'a Refusing<Global>;
+
+/// The token of an operator.
+pub const ADA: &str = "t-ada";
+
+/// The port of the first host.
+pub const FIRST_INITIATOR: u64 = 0x1000_0000_0000_0001;
+
+/// A port of the array.
+pub const FIRST_TARGET: u64 = 0x5000_0000_0000_0001;
+
+/// A port list without records.
+pub const NO_PORTS: &str = "port_name,node_name,domain,port\n";
+
+/// The first host gets the first volume: a zone by an alias, and an exposed storage group.
+pub const FIRST_PLAN: &str = "alias.put A disk wwpn=50:00:00:00:00:00:00:01
+zone.put A z1 wwpn=10:00:00:00:00:00:00:01 alias=disk
+set.put A s1 z1
+activate A s1
+hg.put hosts1 blue db1
+sg.new g1 blue arr1
+sg.host g1 hosts1
+sg.target g1 50:00:00:00:00:00:00:01
+sg.map g1 0 v1
+sg.expose g1
+";
 
 /// Something that is asked of the desk.
 #[derive(Clone, Copy)]
@@ -187,7 +213,7 @@ fn came_of(reply: &Reply<Heap<'_>>) -> Came {
 
 /// The policy of the tests.
 pub fn read_policy(rt: &(impl Abort + AllocGlobal)) -> Policy {
-    match policy(rt.alloc()) {
+    match Policy::read(rt.alloc(), TRIAL_POLICY) {
         Ok(policy) => policy,
         Err(_) => panic!(rt; "a policy"),
     }
@@ -263,6 +289,18 @@ fn fill<'a, R: Abort + AllocGlobal, B: PathBook<Heap<'a>>>(
     }
 }
 
+/// A book that stands at the world.
+fn book_at<'a, B: PathBook<Heap<'a>>>(rt: &impl Abort, heap: Heap<'a>, world: &World<Heap<'a>>) -> B
+    ensures { B.stands result (records_of world.now) }
+{
+    let view = View::of(&world.inventory, &world.config);
+    assert!(rt; view.is_serving());
+    match B::open(heap, &view) {
+        Ok(book) => book,
+        Err(_) => panic!(rt; "a book"),
+    }
+}
+
 /// Fills a new world: its book.
 pub fn filled<'a, R: Abort + AllocGlobal, B: PathBook<Heap<'a>>>(
     rt: &R,
@@ -274,21 +312,18 @@ pub fn filled<'a, R: Abort + AllocGlobal, B: PathBook<Heap<'a>>>(
     ensures sound { IsSound world.new }
     ensures stands { B.stands result (records_of world.new) }
 {
-    let mut book: B = match opened(means.heap, world) {
-        Ok(book) => book,
-        Err(_) => panic!(rt; "a book"),
-    };
+    let mut book: B = book_at(rt, means.heap, world);
     fill(rt, means, world, &mut book, orders);
     book
 }
 
 /// A world of which these were asked.
-pub fn made<'a, R: Abort + AllocGlobal, B: PathBook<Heap<'a>>>(
-    rt: &R,
+pub fn made<'a>(
+    rt: &(impl Abort + AllocGlobal),
     means: Means<'a>,
     orders: &[Order<'_>],
 ) -> World<Heap<'a>> {
     let mut world = World::new(means.heap);
-    let _book: B = filled(rt, means, &mut world, orders);
+    let _book: IndexBook<Heap<'a>> = filled(rt, means, &mut world, orders);
     world
 }

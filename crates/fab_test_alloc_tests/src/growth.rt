@@ -1,15 +1,16 @@
 //! Each request for memory of a call refused in turn: the call answers want of memory and changes nothing,
 //! and then, when memory is there again, it is done.
 use crate::books::leads;
-use crate::desk::{Heap, Means, Order, PORTS, STAGED, made, named, read_policy};
+use crate::desk::{
+    ADA, FIRST_INITIATOR, FIRST_PLAN, FIRST_TARGET, Heap, Means, Order, PORTS, STAGED, made, named,
+    read_policy,
+};
 use fab_inventory::{HolderKind, InventoryFault};
 use fab_looks::{Kind, list, list_ports};
 use fab_mapping::MappingFault;
 use fab_names::Fabric;
 use fab_policy::Policy;
-use fab_reach::IndexBook;
 use fab_test_alloc::Refusing;
-use fab_test_machine::{ADA, FIRST_INITIATOR, FIRST_PLAN, FIRST_TARGET};
 use fab_test_world::is_same;
 use fab_world::World;
 use fab_zoning::ZoningFault;
@@ -70,35 +71,50 @@ fn accepted<E: PartialEq + Copy>(rt: &impl Abort, answer: Result<(), E>, memory:
     }
 }
 
-/// Makes a call that changes the world: whether it was accepted, or there was no memory.
-fn change(rt: &impl Abort, world: &mut World<Heap<'_>>, call: Call) -> bool {
+/// Whether the first holder is put, or there was no memory.
+fn puts(rt: &impl Abort, world: &mut World<Heap<'_>>) -> bool {
     let (blue, host) = (named(rt, "blue"), named(rt, "db1"));
-    match call {
-        Call::PutHolder => {
-            let done = world
-                .inventory
-                .put_holder(host, HolderKind::Host, blue, &[]);
-            accepted(rt, done, InventoryFault::Memory)
-        }
-        Call::Activate => {
-            let done = world.config.a.activate(&named(rt, "s1"));
-            accepted(rt, done, ZoningFault::Memory)
-        }
-        _ => {
-            let (group, volume) = (named(rt, "g2"), named(rt, "v1"));
-            let done = world
-                .config
-                .mapping
-                .map(&group, 0, &volume, &world.inventory);
-            accepted(rt, done, MappingFault::Memory)
-        }
-    }
+    let done = world
+        .inventory
+        .put_holder(host, HolderKind::Host, blue, &[]);
+    accepted(rt, done, InventoryFault::Memory)
+}
+
+/// Whether the set is activated again, or there was no memory.
+fn activates(rt: &impl Abort, world: &mut World<Heap<'_>>) -> bool {
+    let done = world.config.a.activate(&named(rt, "s1"));
+    accepted(rt, done, ZoningFault::Memory)
+}
+
+/// Whether the volume is mapped, or there was no memory.
+fn maps(rt: &impl Abort, world: &mut World<Heap<'_>>) -> bool {
+    let (group, volume) = (named(rt, "g2"), named(rt, "v1"));
+    let done = world
+        .config
+        .mapping
+        .map(&group, 0, &volume, &world.inventory);
+    accepted(rt, done, MappingFault::Memory)
 }
 
 /// Whether the zones of fabric A are listed, or there was no memory.
 fn lists_zones<'a>(rt: &impl Abort, means: Means<'a>, world: &World<Heap<'a>>) -> bool {
     let id = means.policy.caller(ADA).expect(rt, "a caller");
     list(means.heap, means.policy, world, id, Kind::Zones(Fabric::A)).is_ok()
+}
+
+/// Whether all ports are, or there was no memory.
+fn lists_ports<'a>(means: Means<'a>, world: &World<Heap<'a>>) -> bool {
+    list_ports(means.heap, world).is_ok()
+}
+
+/// Whether the inventory is copied, or there was no memory.
+fn copies_inventory(world: &World<Heap<'_>>) -> bool {
+    world.inventory.copy().is_ok()
+}
+
+/// Whether the configuration is copied, or there was no memory.
+fn copies_config(world: &World<Heap<'_>>) -> bool {
+    world.config.copy().is_ok()
 }
 
 /// Makes the call on a world: whether it was accepted, or there was no memory. A book is led to the other
@@ -111,12 +127,14 @@ fn make<'a>(
     call: Call,
 ) -> bool {
     match call {
-        Call::CopyInventory => world.inventory.copy().is_ok(),
-        Call::CopyConfig => world.config.copy().is_ok(),
+        Call::CopyInventory => copies_inventory(world),
+        Call::CopyConfig => copies_config(world),
         Call::Zones => lists_zones(rt, means, world),
-        Call::Ports => list_ports(means.heap, world).is_ok(),
-        Call::Lead => leads::<IndexBook<Heap<'a>>>(rt, means.heap, world, other, false),
-        _ => change(rt, world, call),
+        Call::Ports => lists_ports(means, world),
+        Call::Lead => leads(rt, means.heap, world, other, false),
+        Call::PutHolder => puts(rt, world),
+        Call::Activate => activates(rt, world),
+        Call::Map => maps(rt, world),
     }
 }
 
@@ -143,38 +161,58 @@ fn refuse_beside<'a>(
     (is_accepted, is_refused)
 }
 
-/// The same on worlds that are made for it, with an allocator of their own.
-fn refuse<R: Abort + AllocGlobal>(
-    rt: &R,
-    policy: &Policy,
+/// The same on a world that is made for it.
+fn refuse<'a>(
+    rt: &(impl Abort + AllocGlobal),
+    means: Means<'a>,
+    worlds: (&World<Heap<'a>>, &World<Heap<'a>>),
     case: Case<'_>,
     requests: u64,
 ) -> (bool, bool) {
-    let heap = Refusing::new(rt.alloc());
-    let means = Means {
-        heap: &heap,
-        policy,
-    };
-    let before = made::<R, IndexBook<Heap<'_>>>(rt, means, case.1);
-    let other = made::<R, IndexBook<Heap<'_>>>(rt, means, STAGED);
-    let mut world = made::<R, IndexBook<Heap<'_>>>(rt, means, case.1);
-    refuse_beside(rt, means, (&before, &other), &mut world, case.0, requests)
+    let mut world = made(rt, means, case.1);
+    refuse_beside(rt, means, worlds, &mut world, case.0, requests)
 }
 
 /// How often a call is tried at most.
 const MOST: u64 = 1000;
 
 /// How many requests of the call were answered with want of memory, until a call met no refusal.
-fn refusals(rt: &(impl Abort + AllocGlobal), policy: &Policy, case: Case<'_>) -> u64 {
+fn refusals_beside<'a>(
+    rt: &(impl Abort + AllocGlobal),
+    means: Means<'a>,
+    worlds: (&World<Heap<'a>>, &World<Heap<'a>>),
+    case: Case<'_>,
+) -> u64 {
     let mut refusals = 0u64;
     for requests in 0..MOST {
-        match refuse(rt, policy, case, requests) {
+        match refuse(rt, means, worlds, case, requests) {
             (true, false) => return refusals,
             (true, true) => {}
             _ => refusals = refusals.saturating_add(1),
         }
     }
     panic!(rt; "a call that meets no refusal")
+}
+
+/// The same, beside the world as it is before the call, and one to which a book is led.
+fn refusals_from<'a>(
+    rt: &(impl Abort + AllocGlobal),
+    means: Means<'a>,
+    before: &World<Heap<'a>>,
+    case: Case<'_>,
+) -> u64 {
+    let other = made(rt, means, STAGED);
+    refusals_beside(rt, means, (before, &other), case)
+}
+
+/// The same with an allocator of its own.
+fn refusals(rt: &(impl Abort + AllocGlobal), policy: &Policy, case: Case<'_>) -> u64 {
+    let heap = Refusing::new(rt.alloc());
+    let means = Means {
+        heap: &heap,
+        policy,
+    };
+    refusals_from(rt, means, &made(rt, means, case.1), case)
 }
 
 #[test]

@@ -1,4 +1,7 @@
 //! As many paths as there may be, and more.
+ghost use Rattle.fab_reach_base.specs.Serving.{IsServing};
+ghost use Rattle.fab_reach_base.specs.Views.{seen};
+ghost use Rattle.fab_reach_books.specs.Rows.{IsRowDiff};
 
 use crate::desk::{Heap, named};
 use fab_inventory::{HolderKind, Inventory, PortRow};
@@ -8,7 +11,7 @@ use fab_plans::trial;
 use fab_plans_text::read_plan;
 use fab_reach::{Config, IndexBook};
 use fab_reach_base::{PathsFault, View, few_paths};
-use fab_reach_books::{Limited, PathBook, ViewSight, row_diff};
+use fab_reach_books::{Limited, PathBook, RowDiff, ViewSight, row_diff};
 use fab_test_alloc::Refusing;
 use fab_zoning::Zoning;
 use std::process::Abort;
@@ -136,6 +139,41 @@ fn few<'a>(
 }
 
 /// Over a sight that stops past the limit the step is made ready just where there are few paths.
+fn assert_step<'a, B: PathBook<Heap<'a>>>(
+    rt: &impl Abort,
+    heap: Heap<'a>,
+    book: &mut B,
+    before: &View<'_, Heap<'a>>,
+    after: &View<'_, Heap<'a>>,
+    diff: &RowDiff<Heap<'a>>,
+    few: bool,
+)
+    requires stands { B.stands book.old (seen before.now) }
+    requires serving { IsServing (seen after.now) }
+    requires diff { IsRowDiff (seen before.now) (seen after.now) diff.now.gone.items diff.now.come.items }
+{
+    let mut sight = Limited::new(heap, ViewSight::new(heap, *after));
+    let is_ready = book.prepare(before, diff, &mut sight).is_ok();
+    assert!(rt; is_ready == few && sight.is_over() != few);
+}
+
+/// The same, where the rows that differ are looked for.
+fn assert_led<'a, B: PathBook<Heap<'a>>>(
+    rt: &impl Abort,
+    heap: Heap<'a>,
+    book: &mut B,
+    before: &View<'_, Heap<'a>>,
+    after: &View<'_, Heap<'a>>,
+    few: bool,
+)
+    requires stands { B.stands book.old (seen before.now) }
+    requires serving { IsServing (seen after.now) }
+{
+    let diff = row_diff(heap, before, after).expect(rt, "a difference");
+    assert_step(rt, heap, book, before, after, &diff, few);
+}
+
+/// The same of a book that is opened at the world before.
 fn assert_stop<'a, B: PathBook<Heap<'a>>>(
     rt: &impl Abort,
     heap: Heap<'a>,
@@ -146,11 +184,7 @@ fn assert_stop<'a, B: PathBook<Heap<'a>>>(
     assert!(rt; before.is_serving());
     assert!(rt; after.is_serving());
     let mut book = B::open(heap, before).expect(rt, "a book");
-    let diff = row_diff(heap, before, after).expect(rt, "a difference");
-    let mut sight = Limited::new(heap, ViewSight::new(heap, *after));
-    let ready = book.prepare(before, &diff, &mut sight);
-    assert!(rt; ready.is_ok() == few);
-    assert!(rt; sight.is_over() != few);
+    assert_led(rt, heap, &mut book, before, after, few);
 }
 
 /// Initiators, volumes, and how many paths are listed under the limit: of 65,536, of 65,472, and of 66,528,

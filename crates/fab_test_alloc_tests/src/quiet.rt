@@ -1,12 +1,12 @@
 //! Calls that take no memory: with the very next request refused, each does what it says, and no
 //! request was made. Those that are lent no allocator and keep none stand beside them.
 use crate::books::leads;
-use crate::desk::{ACTIVE, Heap, Means, STAGED, made, named, read_policy};
+use crate::desk::{
+    ACTIVE, ADA, FIRST_INITIATOR, FIRST_TARGET, Heap, Means, STAGED, made, named, read_policy,
+};
 use fab_names::{Fabric, Member, Name, NameFault, Place, Wwn};
 use fab_policy::{Act, Action, Policy, Verdict, decide};
-use fab_reach::IndexBook;
 use fab_test_alloc::Refusing;
-use fab_test_machine::{ADA, FIRST_INITIATOR, FIRST_TARGET};
 use fab_world::World;
 use std::fmt;
 use std::process::Abort;
@@ -91,12 +91,12 @@ fn no_memory_calls(rt: HostRuntime) {
         heap: &heap,
         policy: &policy,
     };
-    let world = made::<HostRuntime, IndexBook<Heap<'_>>>(&rt, means, ACTIVE);
+    let world = made(&rt, means, ACTIVE);
     heap.refuse_after(0);
     assert!(rt; are_shown() && is_allowed(&policy));
     assert!(rt; is_found(&rt, &world) && is_joined(&world));
     assert!(rt; !heap.has_refused());
     heap.refuse_none();
-    let other = made::<HostRuntime, IndexBook<Heap<'_>>>(&rt, means, STAGED);
-    assert!(rt; leads::<IndexBook<Heap<'_>>>(&rt, &heap, &world, &other, true));
+    let other = made(&rt, means, STAGED);
+    assert!(rt; leads(&rt, &heap, &world, &other, true));
 }

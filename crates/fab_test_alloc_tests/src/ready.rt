@@ -5,7 +5,10 @@ ghost use Rattle.std.specs.Prelude.{◌≡◌, IfSome};
 ghost use Rattle.fab_world.specs.Soundness.{IsSound};
 ghost use Rattle.fab_world.specs.Worlds.{records_of};
 
-use crate::desk::{ACTIVE, Came, Heap, Means, Order, STAGED, command, filled, read_policy, taken};
+use crate::desk::{
+    ACTIVE, ADA, Came, FIRST_INITIATOR, Heap, Means, NO_PORTS, Order, STAGED, command, filled,
+    read_policy, taken,
+};
 use fab_desk_machine::{Proposal, propose};
 use fab_inventory::HolderKind;
 use fab_names::Fabric;
@@ -13,7 +16,6 @@ use fab_policy::Policy;
 use fab_reach::{Config, IndexBook};
 use fab_reach_books::PathBook;
 use fab_test_alloc::Refusing;
-use fab_test_machine::{ADA, FIRST_INITIATOR, NO_PORTS};
 use fab_world::World;
 use std::process::Abort;
 

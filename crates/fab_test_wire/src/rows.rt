@@ -81,6 +81,17 @@ sg.expose g2
     r#"ada POST /plans/p2/activate -> 200 OK: {"gained":[{"fabric":"A","initiator":"10:00:00:00:00:00:00:02","lun":0,"target":"50:00:00:00:00:00:00:01","volume":"v2"},{"fabric":"A","initiator":"10:00:00:00:00:00:00:03","lun":0,"target":"50:00:00:00:00:00:00:01","volume":"v2"}],"lost":[],"plan":"p2","revision":8}"#,
 ];
 
+/// A zone of a node after the second plan, by which both its ports communicate.
+pub const NODE_ZONED: &[&str] = &[
+    r#"ada PUT /plans/p3 zone.put A z4 wwnn=50:00:00:00:00:00:00:00
+set.put A s1 z1 z3 z4
+activate A s1
+ -> 200 OK: {"plan":"p3","steps":3}"#,
+    r#"ada GET /joined/50:00:00:00:00:00:00:01/50:00:00:00:00:00:00:02 -> 200 OK: {"joined":false}"#,
+    r#"ada POST /plans/p3/activate -> 200 OK: {"gained":[],"lost":[],"plan":"p3","revision":9}"#,
+    r#"ada GET /joined/50:00:00:00:00:00:00:01/50:00:00:00:00:00:00:02 -> 200 OK: {"joined":true,"why":"zone","zone":"z4"}"#,
+];
+
 /// Approvals by the author, by one caller twice, by two, and of an earlier revision.
 pub const APPROVALS: &[&str] = &[
     r#"ada@349200 PUT /plans/q1 default B deny
@@ -137,4 +148,14 @@ pub const VOLUME_GONE: &[&str] = &[
 /// A rollback while the volume is there.
 pub const ROLLED_BACK: &[&str] = &[
     r#"ada POST /plans/p2/rollback -> 200 OK: {"gained":[{"fabric":"A","initiator":"10:00:00:00:00:00:00:01","lun":0,"target":"50:00:00:00:00:00:00:01","volume":"v1"}],"lost":[],"plan":"p2","revision":9}"#,
+];
+
+/// The rollback of the first plan after that, and what is there no more.
+pub const FIRST_UNDONE: &[&str] = &[
+    r#"ada POST /plans/p2/activate -> 409 Conflict: {"code":16,"error":"wrong-state","state":"rolled-back"}"#,
+    r#"ada POST /plans/p2/rollback -> 409 Conflict: {"code":16,"error":"wrong-state","state":"rolled-back"}"#,
+    r#"ada POST /plans/p1/rollback -> 200 OK: {"gained":[],"lost":[{"fabric":"A","initiator":"10:00:00:00:00:00:00:01","lun":0,"target":"50:00:00:00:00:00:00:01","volume":"v1"}],"plan":"p1","revision":10}"#,
+    r#"ada GET /joined/10:00:00:00:00:00:00:01/50:00:00:00:00:00:00:01 -> 200 OK: {"joined":false}"#,
+    r#"ada GET /groups/g1 -> 404 Not Found: {"code":9,"error":"not-found"}"#,
+    r#"ada DELETE /hosts/db1 -> 200 OK: {"revision":11}"#,
 ];

@@ -1,11 +1,11 @@
 //! Connections over loopback, whose requests are sent before a desk serves them one after the other: each
 //! at the moment at which its turn comes.
 
-use super::answers::{Asking, asking_of};
-use super::desks::made;
+use super::answers::exchange_in;
 use fab_policy_base::Policy;
 use fab_program_runs::Front;
 use fab_store::{OpenFault, SqlStore, Store};
+use fab_test_wire::Exchange;
 use fab_wire::Desk;
 use fab_wire_base::routes::Routes;
 use fab_wire_log::Watch;
@@ -62,21 +62,21 @@ fn front_of<S: Store<Global>>(rt: &(impl Abort + AllocGlobal), store: S) -> Fron
 fn sent(
     rt: &(impl Abort + Net<Stream = TcpStream>),
     listener: &TcpListener,
-    asking: &Asking,
+    exchange: &Exchange,
 ) -> TcpStream {
     let address = listener.local_addr().expect(rt, "an address");
     let mut stream = TcpStream::connect(rt, address).expect(rt, "a connection");
-    let request = asking.exchange.request.as_bytes();
+    let request = exchange.request.as_bytes();
     stream.write_all(request).expect(rt, "a request sent");
     stream
 }
 
 /// Ends the test where the connection's answer is another.
-fn is_answered(rt: &(impl Abort + AllocGlobal), stream: &TcpStream, asking: &Asking) {
+fn is_answered(rt: &(impl Abort + AllocGlobal), stream: &TcpStream, exchange: &Exchange) {
     let mut stream = stream;
     let mut answer = Vec::new(rt.alloc());
     stream.read_to_end(&mut answer).expect(rt, "an answer");
-    assert!(rt; answer.as_slice() == asking.exchange.answer.as_bytes());
+    assert!(rt; answer.as_slice() == exchange.answer.as_bytes());
 }
 
 /// Serves as many connections as there are requests, the first at second 59 and each a second later.
@@ -107,22 +107,24 @@ fn are_served<S: Store<Global>>(
     let listener = TcpListener::bind(rt, address).expect(rt, "a listener");
     let mut streams = Vec::new(rt.alloc());
     for text in ASKED {
-        let stream = sent(rt, &listener, &asking_of(rt, text));
+        let stream = sent(rt, &listener, &exchange_in(rt, text));
         streams.push(stream).expect(rt, "memory");
     }
     let mut front = front_of(rt, store);
     serve(rt, &listener, &mut front);
     for (stream, text) in streams.iter().zip(ASKED) {
-        is_answered(rt, stream, &asking_of(rt, text));
+        is_answered(rt, stream, &exchange_in(rt, text));
     }
 }
 
-/// The same over these new tables.
+/// The same over these tables, which are made.
 fn are_served_over<S: Alter + Drop>(
     rt: &(impl Abort + AllocGlobal + Clock + Net<Listener = TcpListener, Stream = TcpStream>),
     tables: SqlStore<S>,
 ) {
-    are_served(rt, made(rt, tables));
+    let mut tables = tables;
+    assert!(rt; tables.init().is_ok());
+    are_served(rt, tables);
 }
 
 #[test]

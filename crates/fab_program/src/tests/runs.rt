@@ -1,7 +1,7 @@
 //! Runs of the program, each by the words of its command line: what it reads and writes, and its exit
 //! status. The desk stands in a file, which each run opens anew.
 
-use super::answers::asking_of;
+use super::answers::exchange_in;
 use fab_policy_base::TRIAL_POLICY;
 use fab_program_runs::run;
 use fab_test_wire::rows::{FIRST_PLAN, FIRST_STAGED, WORLD};
@@ -99,11 +99,11 @@ pub fn put(host: &HostRuntime, rt: &impl Abort, name: &str, bytes: &[u8]) {
 
 /// Has the desk in the file answer a request, as a line of a table tells both.
 fn is_answered(host: &HostRuntime, rt: &(impl Abort + AllocGlobal), line: &str) {
-    let asking = asking_of(rt, line);
+    let exchange = exchange_in(rt, line);
     let wanted = Run {
         words: "sandesk once --db round.db --policy round.toml",
-        input: asking.exchange.request.as_str(),
-        output: asking.exchange.answer.as_str(),
+        input: exchange.request.as_str(),
+        output: exchange.answer.as_str(),
         ..QUIET
     };
     is_run(host, rt, &wanted);

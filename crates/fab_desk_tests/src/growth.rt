@@ -5,18 +5,17 @@
 //! which have the rows that they had. Where a refusal is survived the answer is the worked one, and the
 //! next refusal is tried at a new desk. At last no refusal is met.
 
-use super::answers::{Asking, asking_of, is_given};
-use super::desks::{Asked, Trial, desk_of, made};
-use super::quiet::is_quiet;
-use fab_reach::IndexBook;
-use fab_reach_books::PathBook;
-use fab_store::{SqlStore, Store};
+use crate::answers::{Asking, Came, ask, ask_each, asking_of};
+use crate::desks::{Asked, Trial, closed, opened};
+use crate::tables::{Story, tell_in_memory};
+use crate::worlds::{are_same, world_of};
+use fab_store::{RefusingStore, Store};
 use fab_test_alloc::Refusing;
 use fab_test_wire::rows::{
     ALIAS_PUT_ANEW, APPROVALS, FIRST_PLAN, ROLLED_BACK, SECOND_PLAN, UNIT_CLASH, UNMAPPED,
     VOLUME_GONE, WORLD,
 };
-use sqlite::{Alter, Connection};
+use fab_world::World;
 use std::alloc::{Allocator, Global};
 use std::process::Abort;
 
@@ -25,26 +24,18 @@ const MOST: u64 = 100_000;
 
 /// Whether the desk stays after a refusal, or is opened anew.
 #[derive(Clone, Copy)]
-pub enum Way {
+enum Way {
     Stays,
     Opened,
 }
 
 /// A request that is tried: what its desk was asked before it, and what becomes of the desk.
 #[derive(Clone, Copy)]
-pub struct Case<'t> {
+struct Case<'t> {
     way: Way,
     lists: &'t [&'t [&'t str]],
     texts: &'t [&'t str],
     asking: &'t Asking,
-}
-
-/// What is done with a new desk: a request is tried from a refusal on, or calls are made that take no
-/// memory.
-#[derive(Clone, Copy)]
-pub enum Task<'t> {
-    Refused(Case<'t>, u64),
-    Quiet,
 }
 
 /// What came of a request, one of whose requests for memory was to be refused.
@@ -59,15 +50,15 @@ enum Answered {
 }
 
 /// Serves the request while the request for memory of this number is refused.
-fn came(
+fn came<A: Allocator + Copy, S, D: Asked<A, S>>(
     rt: &(impl Abort + AllocGlobal),
     refusing: &Refusing<Global>,
-    desk: &mut impl Asked,
+    desk: &mut D,
     asking: &Asking,
     number: u64,
 ) -> Answered {
     refusing.refuse_after(number);
-    let is_ample = is_given(rt, desk, asking);
+    let is_ample = matches!(ask(rt, desk, asking), Came::Told);
     let is_refused = refusing.has_refused();
     refusing.refuse_none();
     match (is_ample, is_refused) {
@@ -85,12 +76,35 @@ fn end_after(rt: &impl Abort, number: u64) -> Option<u64> {
     None
 }
 
+/// The desk opened again over its store, and the world of its tables.
+fn with_world<A: Allocator + Copy, S: Store<A>, D: Asked<A, S>>(
+    rt: &(impl Abort + AllocGlobal),
+    heap: A,
+    desk: D,
+) -> (World<A>, D) {
+    let mut store = closed(rt, desk);
+    let world = world_of(rt, heap, &mut store);
+    (world, opened(rt, heap, store))
+}
+
+/// The desk opened again over its store. Ends the test where that has other rows than the world.
+fn opened_again<A: Allocator + Copy, S: Store<A>, D: Asked<A, S>>(
+    rt: &(impl Abort + AllocGlobal),
+    heap: A,
+    desk: D,
+    before: &World<A>,
+) -> D {
+    let (world, desk) = with_world(rt, heap, desk);
+    assert!(rt; are_same(rt, heap, before, &world));
+    desk
+}
+
 /// Tries the request at the desk, which stays, with each request for memory from this one on refused
 /// in turn. The number behind the first refusal that was survived, if any was.
-fn kept(
+fn kept<A: Allocator + Copy, S, D: Asked<A, S>>(
     rt: &(impl Abort + AllocGlobal),
     refusing: &Refusing<Global>,
-    desk: &mut impl Asked,
+    desk: &mut D,
     asking: &Asking,
     first: u64,
 ) -> Option<u64> {
@@ -106,45 +120,44 @@ fn kept(
 
 /// The same, where the desk is opened anew after each refusal, and its tables have the rows that they
 /// had.
-fn opened(
+fn reopened<A: Allocator + Copy, S: Store<A>, D: Asked<A, S>>(
     rt: &(impl Abort + AllocGlobal),
+    heap: A,
     refusing: &Refusing<Global>,
-    desk: impl Asked,
+    desk: D,
     asking: &Asking,
     first: u64,
 ) -> Option<u64> {
-    let (before, mut desk) = desk.with_world(rt);
+    let (before, mut desk) = with_world(rt, heap, desk);
     for number in first..MOST {
         match came(rt, refusing, &mut desk, asking, number) {
             Answered::Whole => return end_after(rt, number),
             Answered::Survived => return Some(number.saturating_add(1)),
             Answered::Short => {}
         }
-        desk = desk.opened_again(rt, &before);
+        desk = opened_again(rt, heap, desk, &before);
     }
     panic!(rt; "no end")
 }
 
-/// Asks each of these, where there is memory.
-fn ask_each(rt: &(impl Abort + AllocGlobal), desk: &mut impl Asked, texts: &[&str]) {
-    for text in texts {
-        assert!(rt; is_given(rt, desk, &asking_of(rt, text)));
-    }
-}
-
-/// Asks each of these lists.
-fn ask_all(rt: &(impl Abort + AllocGlobal), desk: &mut impl Asked, lists: &[&[&str]]) {
+/// Asks each of these lists, where there is memory.
+fn ask_all<A: Allocator + Copy, S, D: Asked<A, S>>(
+    rt: &(impl Abort + AllocGlobal),
+    desk: &mut D,
+    lists: &[&[&str]],
+) {
     for list in lists {
         ask_each(rt, desk, list);
     }
 }
 
 /// Tries the request at a new desk, from this refusal on.
-fn tried(
+fn tried<A: Allocator + Copy, S: Store<A>, D: Asked<A, S>>(
     rt: &(impl Abort + AllocGlobal),
+    heap: A,
     refusing: &Refusing<Global>,
-    desk: impl Asked,
-    case: &Case<'_>,
+    desk: D,
+    case: Case<'_>,
     first: u64,
 ) -> Option<u64> {
     let mut desk = desk;
@@ -152,72 +165,43 @@ fn tried(
     ask_each(rt, &mut desk, case.texts);
     match case.way {
         Way::Stays => kept(rt, refusing, &mut desk, case.asking, first),
-        Way::Opened => opened(rt, refusing, desk, case.asking, first),
+        Way::Opened => reopened(rt, heap, refusing, desk, case.asking, first),
     }
 }
 
-/// Makes the calls that take no memory. The number of a request for memory, if there was one.
-fn quiet(refusing: &Refusing<Global>, desk: &impl Asked) -> Option<u64> {
-    if is_quiet(refusing, desk) {
-        None
-    } else {
-        Some(0)
+/// A request is tried from a refusal on.
+#[derive(Clone, Copy)]
+struct Refused<'t, 'r> {
+    case: Case<'t>,
+    refusing: &'r Refusing<Global>,
+    first: u64,
+}
+
+impl<A: Allocator + Copy> Story<A> for Refused<'_, '_> {
+    type Told = Option<u64>;
+
+    fn tell<R: Abort + AllocGlobal, S: Store<A>>(self, rt: &R, heap: A, store: S) -> Option<u64> {
+        let desk: Trial<A, S> = opened(rt, heap, RefusingStore::new(store, u64::MAX));
+        tried(rt, heap, self.refusing, desk, self.case, self.first)
     }
 }
 
-/// Does this with the desk.
-fn done(
-    rt: &(impl Abort + AllocGlobal),
-    refusing: &Refusing<Global>,
-    desk: impl Asked,
-    task: &Task<'_>,
-) -> Option<u64> {
-    match task {
-        Task::Refused(case, first) => tried(rt, refusing, desk, case, *first),
-        Task::Quiet => quiet(refusing, &desk),
-    }
-}
-
-/// Does it with a new desk over this store.
-fn done_at<R: Abort + AllocGlobal, A: Allocator + Copy, S: Store<A>, B: PathBook<A>>(
-    rt: &R,
-    alloc: A,
-    refusing: &Refusing<Global>,
-    store: S,
-    task: &Task<'_>,
-) -> Option<u64> {
-    let desk: Trial<A, S, B> = desk_of(rt, alloc, store);
-    done(rt, refusing, desk, task)
-}
-
-/// The same over these new tables, with the book that asks about affected pairs.
-fn done_over<R: Abort + AllocGlobal, S: Alter + Drop>(
-    rt: &R,
-    refusing: &Refusing<Global>,
-    tables: SqlStore<S>,
-    task: &Task<'_>,
-) -> Option<u64> {
-    let tables = made(rt, tables);
-    done_at::<R, &Refusing<Global>, SqlStore<S>, IndexBook<&Refusing<Global>>>(
-        rt, refusing, refusing, tables, task,
-    )
-}
-
-/// Does it with a new desk in memory.
-pub fn done_anew(rt: &(impl Abort + AllocGlobal), task: &Task<'_>) -> Option<u64> {
+/// Tries the request at a new desk in memory, from this refusal on.
+fn tried_anew(rt: &(impl Abort + AllocGlobal), case: Case<'_>, first: u64) -> Option<u64> {
     let refusing = Refusing::new(rt.alloc());
-    let Ok(connection) = Connection::open_in_memory(rt.alloc()) else {
-        panic!(rt; "no connection");
+    let refused = Refused {
+        case,
+        refusing: &refusing,
+        first,
     };
-    let tables = SqlStore::new(connection, rt.alloc());
-    done_over(rt, &refusing, tables, task)
+    tell_in_memory(rt, &refusing, refused)
 }
 
 /// Tries the request with each of its requests for memory refused.
-fn try_case(rt: &(impl Abort + AllocGlobal), case: &Case<'_>) {
+fn try_case(rt: &(impl Abort + AllocGlobal), case: Case<'_>) {
     let mut first = 0;
     for _ in 0..MOST {
-        match done_anew(rt, &Task::Refused(*case, first)) {
+        match tried_anew(rt, case, first) {
             None => return,
             Some(next) => first = next,
         }
@@ -237,7 +221,7 @@ fn try_one(rt: &(impl Abort + AllocGlobal), way: Way, row: &Row, place: usize, t
         texts: row.1.get(..place).unwrap_or(row.1),
         asking: &asking,
     };
-    try_case(rt, &case);
+    try_case(rt, case);
 }
 
 /// Tries each request of a row.
