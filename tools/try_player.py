@@ -116,13 +116,13 @@ CASES = (
     ("a story of tables", f"{GOOD}{STORY}".encode(), 0, "text: 5 answers as recorded, 0 otherwise\n", ""),
     (
         "what comes of tables differs", f"{GOOD}{STORY}".replace("^ store", "^ serves").encode(), 1,
-        "text, line 22: one host, its tables\nrecorded:\n^ serves\nanswered:\n^ store\n"
+        "text, line 22: one host, its tables\nrecorded:\n^ serves\nanswered:\n^ store\n\n"
         "text: 4 answers as recorded, 1 otherwise\n",
         "",
     ),
     (
         "rows that differ", f"{GOOD}{STORY}".replace("- schema", "- revision").encode(), 1,
-        "text, line 24: one host, its tables\nrecorded:\n- revision\nanswered:\n- schema\n"
+        "text, line 24: one host, its tables\nrecorded:\n- revision\nanswered:\n- schema\n\n"
         "text: 4 answers as recorded, 1 otherwise\n",
         "",
     ),
