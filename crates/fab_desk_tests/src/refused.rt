@@ -114,22 +114,30 @@ impl<A: Allocator + Copy> Story<A> for Refusals<'_, '_, A> {
 /// More calls than any list of requests makes.
 const MANY: u64 = 100;
 
+/// How many calls are refused, one at most, where a new desk in memory answers these, whose store refuses the
+/// call after so many.
+fn refusals_in<A: Allocator + Copy>(
+    rt: &(impl Abort + AllocGlobal),
+    heap: A,
+    lines: &[&str],
+    world: &World<A>,
+    calls: u64,
+) -> u64 {
+    let refusals = Refusals {
+        lines: &*lines,
+        world: &*world,
+        calls,
+    };
+    tell_in_memory(rt, heap, refusals)
+}
+
 /// How many calls of the store a desk makes for these requests. Each of them is refused, in runs of
 /// their own, until a run meets no refusal.
 fn calls_for(rt: &(impl Abort + AllocGlobal), lines: &[&str]) -> u64 {
     let heap = Refusing::new(rt.alloc());
     let world = world_after(rt, &heap, lines);
     for calls in 0..MANY {
-        let world = &world;
-        match tell_in_memory(
-            rt,
-            &heap,
-            Refusals {
-                lines,
-                world,
-                calls,
-            },
-        ) {
+        match refusals_in(rt, &heap, lines, &world, calls) {
             0 => return calls,
             count => assert!(rt; count == 1),
         }
