@@ -15,8 +15,7 @@ fn paths_of<'a, B: PathBook<Heap<'a>>>(rt: &impl Abort, book: &B) -> usize {
     book.of_host(&named(rt, "db1")).expect(rt, "paths").len()
 }
 
-/// Takes a step that is ready, where the next request for memory is refused if that is wanted: whether none
-/// was made then.
+/// Takes a step that is ready: whether no memory was asked for, if that is looked at.
 fn is_adopted<'a, B: PathBook<Heap<'a>>>(
     heap: Heap<'a>,
     book: &mut B,
@@ -93,9 +92,7 @@ fn leads_by<'a, B: PathBook<Heap<'a>>>(
     }
 }
 
-/// Opens a book at the first world, in which the host has a path, and leads it to the second: whether there
-/// was memory to open it and to make the step ready, and none was asked for where the step was taken, if
-/// that is wanted. Ends the test where a step for which there is no memory moves the book.
+/// The same over two worlds, in the first of which the host has a path.
 pub fn leads<'a>(
     rt: &impl Abort,
     heap: Heap<'a>,

@@ -117,8 +117,7 @@ fn copies_config(world: &World<Heap<'_>>) -> bool {
     world.config.copy().is_ok()
 }
 
-/// Makes the call on a world: whether it was accepted, or there was no memory. A book is led to the other
-/// world.
+/// Makes the call on a world: whether it was accepted, or there was no memory. A book goes to the other one.
 fn make<'a>(
     rt: &impl Abort,
     means: Means<'a>,

@@ -1,8 +1,5 @@
-//! Tests of what fails from outside, and of what a step of a book costs: each request for memory of a call
-//! refused in turn, calls that take none, and the allocator that refuses; streams that fail, and the longest
-//! body; the spare configuration, how many pairs a step asks about, the limit on paths, and the places that a
-//! step makes in an index. What is said by requests and answers alone is recorded in `fab_wire_conformance`.
-//! Nothing here is part of the product.
+//! Tests of what fails from outside, and of what a step of a book costs: what each file has, it tells. What is
+//! said by requests and answers alone is recorded in `fab_wire_conformance`. Nothing here is part of the product.
 #![tactic(auto)]
 
 #[cfg(test)]

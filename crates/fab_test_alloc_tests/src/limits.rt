@@ -82,8 +82,7 @@ fn stock<'a>(
     inventory
 }
 
-/// The plan by which the default zone permits, and an exposed group gives the host so many volumes at all
-/// targets.
+/// The default zone permits, and an exposed group gives the host so many volumes at all targets.
 fn plan(rt: &(impl Abort + AllocGlobal), volumes: u64) -> String {
     let front = "default A permit\nhg.put hosts blue h\nsg.new g blue arr1\nsg.host g hosts\n";
     let mut text = String::from_str(rt.alloc(), front).expect(rt, "memory");

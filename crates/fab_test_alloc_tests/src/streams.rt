@@ -1,5 +1,4 @@
-//! What is heard of an input: byte by byte, where one read fails and the reads behind it work again; and the
-//! longest body.
+//! What is heard of an input byte by byte, where one read fails and later ones work again; and the longest body.
 
 ghost use Rattle.std.specs.Prelude.{◌||◌, codes};
 ghost use Rattle.std.specs.Str.{bytes_eq};

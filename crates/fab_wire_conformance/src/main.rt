@@ -10,8 +10,7 @@
 //!   `addresses.txt`, members by address; `ports.txt`, a list of as many ports as may be known and one of
 //!   a port more; `more.txt`, other cases: answers that were written by hand;
 //! - `tables.txt`, stories of a desk's tables: somebody else changes them, and a desk is opened over them or
-//!   not; they are brought to the present schema, made, and their rows are looked at. Its values were written
-//!   by hand from the definitions;
+//!   not; they are migrated, made, and looked at: values that were written by hand from the definitions;
 //! - `worlds.txt`, worlds with what two callers are told of each pair of a host and a volume, and of each
 //!   volume; `histories.txt`, configurations with the changes of the activations in force, and whether a
 //!   desk opens with them: made from the definitions by scripts. They are no exchanges:
@@ -28,36 +27,11 @@
 //! `texts`; a line that is not of its form ends the player, which tells the file and the line on standard
 //! error, with status 3. So does a policy that is none.
 //!
-//! An answer that differs is told on standard output, in the form of the exchanges, and the status is 1:
-//!
-//! ```text
-//! rows.txt, line 77: default permit, request 3, read byte by byte: 404
-//! recorded:
-//! < HTTP/1.1 200 OK\r
-//! ..
-//! answered:
-//! < HTTP/1.1 404 Not Found\r
-//! ..
-//! ```
-//!
-//! The line is that of the request's `@`; the number counts the requests of the scenario from 1 on. What
-//! comes behind the first difference of a scenario may follow from it, since the desk goes on from what
-//! it has done: so the first one is read, and the lines above it in the file say what the desk was asked
-//! before. Is only one way told, then the answer depends on it. The first line tells what came of the
-//! connection: a status, `empty`, `read-failed` or `unsent`. What comes of a step with tables is told the
-//! same way, with its own line and mark:
-//!
-//! ```text
-//! tables.txt, line 77: damaged: ports, its tables
-//! recorded:
-//! ^ damaged ports
-//! answered:
-//! ^ serves
-//! ```
+//! An answer that differs is told on standard output, beside the one that is recorded, with its line, and the
+//! status is 1: `CONTRIBUTING.md` shows how it is read.
 //!
 //! To add a scenario, write its requests and the answers that the definitions ask for as a list, as
-//! `tools/record.py --help` tells, and put the text that the script makes of it at the end of the file that
-//! tells of its like.
+//! `tools/record.py --help` tells, and put the text that it makes at the end of the file that tells of its like.
 //! `tools/try_player.py` shows what the player does with a bad text and with an answer that differs.
 #![tactic(auto)]
 
