@@ -9,7 +9,7 @@ use std::alloc::{Allocator, Global};
 use std::process::Abort;
 
 /// Whether the desk tells its callers and that it serves, without memory.
-fn is_quiet<A: Allocator + Copy, S, D: Asked<A, S>>(refusing: &Refusing<Global>, desk: &D) -> bool {
+fn is_quiet<A: Allocator + Copy, S, D: Asked<A, S>>(refusing: &Refusing<Global>, desk: D) -> bool {
     refusing.refuse_after(0);
     let knows = desk.knows("t-ada") && desk.knows("t-eve") && !desk.knows("t-fay");
     knows && !desk.is_halted() && !refusing.has_refused()
@@ -26,7 +26,7 @@ impl<A: Allocator + Copy> Story<A> for Quiet<'_> {
 
     fn tell<R: Abort + AllocGlobal, S: Store<A>>(self, rt: &R, heap: A, store: S) -> bool {
         let desk: Trial<A, S> = opened(rt, heap, RefusingStore::new(store, u64::MAX));
-        is_quiet(self.refusing, &desk)
+        is_quiet(self.refusing, desk)
     }
 }
 
