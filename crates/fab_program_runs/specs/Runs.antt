@@ -22,7 +22,7 @@ use Rattle.fab_program_words.specs.declared.words.Words.TheVariants as words
 use Rattle.fab_program_checks.specs.Checks.{CheckComes}
 use Rattle.fab_program_checks.specs.declared.modes.Modes as modes
 use Rattle.fab_program_checks.specs.Explains.{ExplainComes, now_in}
-use Rattle.fab_program_commands.specs.Commands.{DryRunComes, ImportComes, ShowComes}
+use Rattle.fab_program_desks.specs.Commands.{DryRunComes, ImportComes, ShowComes}
 use Rattle.fab_program_desks.specs.Databases.{IsMade}
 use Rattle.fab_program_desks.specs.Desks.{ProgramDesk}
 use Rattle.fab_program_runs.specs.Exits.{end_of_making, end_only, status_of, words_status}

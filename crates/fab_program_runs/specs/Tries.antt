@@ -3,7 +3,7 @@ use Rattle.std.specs.Prelude.{ℕ, List, Option, Result}
 use Rattle.std.specs.declared.alloc.Global.{Global}
 use Rattle.fab_files.specs.declared.printing.End.{End}
 use Rattle.fab_policy_base.specs.Policies.{PolicyRows}
-use Rattle.fab_program_commands.specs.Commands.{IsReadAt}
+use Rattle.fab_program_desks.specs.Commands.{IsReadAt}
 use Rattle.fab_program_desks.specs.declared.database.Databases as databases
 use Rattle.fab_program_outside.specs.Coming.{Then}
 use Rattle.fab_program_outside.specs.Contents.{IsPolicyAt}

@@ -6,3 +6,4 @@ pub mod Telling
 pub mod InTurn
 pub mod Runs
 pub mod Beginnings
+pub mod Tasks

@@ -6,9 +6,11 @@ mod callers;
 pub mod laws;
 mod outcome;
 mod serving;
+mod tasks;
 
 pub use callers::KnownTo;
 pub use fab_desk::Desk;
 pub use fab_wire_streams::counted::Counted;
 pub use outcome::Outcome;
 pub use serving::serve_one;
+pub use tasks::{Task, answer_task};

@@ -1,6 +1,6 @@
 use Rattle.std.proofs.Common.{inr, refl, rules}
-use Rattle.fab_desk_base.specs.declared.command.Command.TheVariants as command
-use Rattle.fab_program_commands.proofs.tasks.import_known.Goals as goal
+use Rattle.fab_desk.specs.fab_desk_base.declared.command.Command.TheVariants as command
+use Rattle.fab_wire.proofs.tasks.import_known.Goals as goal
 
 pub returns-in-Ok : goal.returns-in-Ok
 returns-in-Ok g c = inr (

@@ -17,7 +17,8 @@ use Rattle.fab_program_words.specs.declared.words.Access.{Access}
 use Rattle.fab_program_words.specs.declared.words.DryRun.{DryRun}
 use Rattle.fab_program_words.specs.declared.words.Import.{Import}
 use Rattle.fab_program_desks.specs.Desks.{ProgramDesk}
-use Rattle.fab_program_commands.specs.Tasks.{ComesOver, ImportsAt, Replies}
+use Rattle.fab_program_desks.specs.Tasks.{ComesOver}
+use Rattle.fab_wire.specs.Tasks.{ImportsAt, Replies}
 use Rattle.fab_program_desks.specs.declared.database.Databases as databases
 
 -- what reading a file comes to: the bytes that it has, as many as a file may have and one more; or it is not read

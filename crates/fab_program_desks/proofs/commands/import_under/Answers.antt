@@ -1,8 +1,8 @@
 use Rattle.std.proofs.Common.{ℕ, List, Ok, Err, refl, subst}
 use Rattle.fab_files.specs.declared.forms.Form.TheVariants as forms
-use Rattle.fab_program_commands.specs.Commands.{ComesIn}
-use Rattle.fab_program_commands.specs.Tasks.{ImportsAt}
-use Rattle.fab_program_commands.proofs.commands.import_under.Goals as goal
+use Rattle.fab_program_desks.specs.Commands.{ComesIn}
+use Rattle.fab_wire.specs.Tasks.{ImportsAt}
+use Rattle.fab_program_desks.proofs.commands.import_under.Goals as goal
 
 pub returns-in-Ok : goal.returns-in-Ok
 returns-in-Ok g c =

@@ -2,17 +2,17 @@
 ghost use Rattle.std.specs.Prelude.{Ok};
 ghost use Rattle.fab_desk_base.specs.declared.command.Query.TheVariants as queries;
 ghost use Rattle.fab_files.specs.declared.forms.Form.TheVariants as forms;
-ghost use Rattle.fab_program_commands.specs.Commands.{ComesBy, ComesIn, DryRunComes, ImportComes, ImportComesIn, ShowComes};
-ghost use Rattle.fab_program_commands.specs.Tasks.{AnswersTask};
-ghost use Rattle.fab_program_commands.specs.Tasks as tasks;
+ghost use Rattle.fab_program_desks.specs.Commands.{ComesBy, ComesIn, DryRunComes, ImportComes, ImportComesIn, ShowComes};
+ghost use Rattle.fab_wire.specs.Tasks.{AnswersTask};
 
-use crate::tasks::{Call, Task, do_over};
+use crate::database::Databases;
+use crate::tasks::{Call, do_over};
 use fab_desk_base::Query;
 use fab_files::{End, Form};
 use fab_policy_base::Policy;
-use fab_program_desks::Databases;
 use fab_program_outside::{Fault, Files, bytes_of, policy_of};
 use fab_program_words::{Access, DryRun, Export, Import, Paths};
+use fab_wire::Task;
 use std::alloc::Global;
 use std::io::Write;
 
@@ -29,12 +29,12 @@ fn do_in<O: Databases, W: Write + Drop>(
     task: &Task<'_>,
     writer: W,
 ) -> Result<(W, End), Fault>
-    ensures { ComesIn O.Databases O.Tables.Store (λ d m a e. AnswersTask O.Tables.Store d call.now.token.now m task.now a e) W.contents (tasks.form_of task.now) outside.now db.now policy call.now.moment writer result }
+    ensures { ComesIn O.Databases O.Tables.Store (λ d m a e. AnswersTask O.Tables.Store d call.now.token.now m task.now a e) W.contents call.now.form outside.now db.now policy call.now.moment writer result }
 {
     do_over(alloc, outside.tables_in(db), policy, call, task, writer)
 }
 
-/// Does a task at a database at a moment, and prints the reply. The writer is handed back.
+/// Does a task at a database at a moment, and prints the reply in a form. The writer is handed back.
 ///
 /// # Errors
 /// As for the policy, the database, the moment and the stream, in this order.
@@ -44,13 +44,15 @@ fn do_by<O: Files + Databases, W: Write + Drop>(
     access: &Access<'_>,
     moment: Result<u64, Fault>,
     task: &Task<'_>,
+    form: Form,
     writer: W,
 ) -> Result<(W, End), Fault>
-    ensures { ComesBy O.Files O.File.remaining O.Databases O.Tables.Store (λ d m a e. AnswersTask O.Tables.Store d access.now.token.now m task.now a e) W.contents (tasks.form_of task.now) outside.now access.now moment writer result }
+    ensures { ComesBy O.Files O.File.remaining O.Databases O.Tables.Store (λ d m a e. AnswersTask O.Tables.Store d access.now.token.now m task.now a e) W.contents form outside.now access.now moment writer result }
 {
     let call = Call {
         token: access.token,
         moment,
+        form,
     };
     match policy_of(alloc, outside, access.policy) {
         Ok(policy) => do_in(alloc, outside, access.db, policy, &call, task, writer),
@@ -93,6 +95,7 @@ fn import_under<O: Files + Databases, W: Write + Drop>(
             let call = Call {
                 token: asked.access.token,
                 moment,
+                form: Form::Json,
             };
             let task = Task::Import {
                 fabric: asked.fabric,
@@ -126,7 +129,15 @@ pub fn dry_run<O: Files + Databases, W: Write + Drop>(
     ensures { DryRunComes O.Files O.File.remaining O.Databases O.Tables.Store W.contents outside.now asked.entry.now moment writer result }
 {
     let task = Task::DryRun { plan: asked.plan };
-    do_by(alloc, outside, &asked.access, moment, &task, writer)
+    do_by(
+        alloc,
+        outside,
+        &asked.access,
+        moment,
+        &task,
+        Form::Json,
+        writer,
+    )
 }
 
 /// Prints what a read shows, in a form. The writer is handed back.
@@ -140,8 +151,8 @@ fn show<O: Files + Databases, W: Write + Drop>(
 ) -> Result<(W, End), Fault>
     ensures { ShowComes O.Files O.File.remaining O.Databases O.Tables.Store W.contents outside.now access.now query form writer result }
 {
-    let task = Task::Show { query, form };
-    do_by(alloc, outside, access, Ok(0), &task, writer)
+    let task = Task::Show { query };
+    do_by(alloc, outside, access, Ok(0), &task, form, writer)
 }
 
 /// Prints the paths of a host as CSV. The writer is handed back.

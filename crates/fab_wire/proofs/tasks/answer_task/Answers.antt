@@ -1,4 +1,4 @@
-use Rattle.fab_program_commands.proofs.tasks.answer_to.Goals as goal
+use Rattle.fab_wire.proofs.tasks.answer_task.Goals as goal
 
 pub returns-in-Import : goal.returns-in-Import
 returns-in-Import g c = rw c.in-Import.is c.import_over.ensures
