@@ -14,7 +14,7 @@ use fab_wire_base::routes::Routes;
 use fab_worlds_players::Tally;
 use std::alloc::Global;
 
-/// How many times a request comes at most of which a read fails.
+/// In how many parts a request comes: a read fails before each of them, and behind the last.
 const MOST_FAILURES: usize = 3;
 
 /// How many bytes a request of a scenario has at most that is played over the plain book.

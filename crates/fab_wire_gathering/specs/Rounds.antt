@@ -18,7 +18,7 @@ pub record EachGoesOn (so : Guest → Guest → Type 0) (old new : Seats) : Type
   pub seats : length new ≡ length old
   pub each : (place : ℕ) (seat : Option Guest) → slice_get old place ≡ Some seat → (after : Option Guest) × (slice_get new place ≡ Some after) × GoesOnSo so seat after
 
--- the connection is the same
+-- its socket is the same, and what it has come to goes by its stage
 abbrev pub HasGoneOn : Guest → Guest → Type 0
 HasGoneOn guest after = (after.stream ≡ guest.stream) × ComesTo guest.stage guest after
 
