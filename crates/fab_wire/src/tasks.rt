@@ -23,11 +23,12 @@ pub enum Task<'t> {
     Show { query: Query },
 }
 
-/// What a desk answers to a task of the caller who has the token, at a moment in Unix seconds. It is
-/// the answer to the request that asks the same, and the desk is then as after that request.
+/// What a desk answers to a task of the caller who has the token, at a moment in Unix seconds. The desk
+/// handles just the command that is asked for, and its reply is the answer.
 ///
-/// `BadBody` has the number of the first faulty record, and `TooLarge` comes where there are more than
-/// 1048576 bytes: nothing has changed then, and where there was no memory neither.
+/// Bytes are not imported, and nothing has changed, where nobody has the token (`NoCaller`), where there
+/// are more than 1048576 of them (`TooLarge`), where a record is faulty (`BadBody`, with the number of
+/// the first one), and where there was no memory to read them.
 pub fn answer_task<S: Store<Global>, B: PathBook<Global>>(
     alloc: Global,
     desk: &mut Desk<Global, S, B>,
