@@ -4,6 +4,7 @@ use Rattle.std.proofs.lemmas.List.{length-set, get_or-set_same, get_or-set_other
 use Rattle.std.proofs.lemmas.Option.{slice_get_within, slice_get-get_or}
 use Rattle.fab_wire_gathering.specs.Seats.{Seats, HasSeat, SameSeats, given_up_at, numbered_in}
 use Rattle.std.specs.declared.net.tcp.TcpStream.{TcpStream}
+use Rattle.fab_wire_deadlines.specs.Deadlines.{end_of}
 use Rattle.fab_wire_gathering.specs.Ends.{HasComeTo}
 use Rattle.fab_wire_gathering.specs.Guests.{given_up, given_up_stage}
 use Rattle.fab_wire_gathering.specs.declared.guest.Guest.{Guest}
@@ -56,11 +57,12 @@ module _ (seats : Seats) (place : ℕ) (seat : Option Guest) (q : ℕ) (other : 
       let same : get_or seats q None ≡ other = cc in
       there ∙ ap (λ (o : Option Guest). Some o) same
 
-pub comes_to_seat : (old mid : Seats) (place : ℕ) (guest : Guest) (stream : TcpStream) → SameSeats old mid → slice_get mid place ≡ Some None → guest.stream ≡ stream → HasComeTo old (set mid place (Some guest)) stream place
-comes_to_seat old mid place guest stream same free is = record {
+pub comes_to_seat : (old mid : Seats) (place : ℕ) (guest : Guest) (stream : TcpStream) (end : ℕ) → SameSeats old mid → slice_get mid place ≡ Some None → guest.stream ≡ stream → end_of guest.deadline ≡ end → HasComeTo old (set mid place (Some guest)) stream end place
+comes_to_seat old mid place guest stream end same free is end_is = record {
   guest = guest;
   seated = set_there mid place (Some guest) (slice_get_within mid place None free);
   is = is;
+  end_is = end_is;
   free = λ other was. let e : ◌≡◌ {A = Option (Option Guest)} (Some None) (Some (Some other)) = sym free ∙ (same place other).0 was in absurd cc;
   others = λ q other apart. (
     (λ was. set_elsewhere mid place (Some guest) q (Some other) apart ((same q other).0 was)),

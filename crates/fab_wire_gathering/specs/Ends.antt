@@ -5,34 +5,45 @@ use Rattle.std.specs.declared.alloc.Global.{Global}
 use Rattle.std.specs.declared.cmp.Ordering.{Ordering}
 use Rattle.std.specs.declared.net.tcp.TcpStream.{TcpStream}
 use Rattle.std.specs.declared.time.Instant.{Instant}
-use Rattle.fab_wire_deadlines.specs.Deadlines.{end_after}
+use Rattle.std.specs.Time.{instant_nanos}
+use Rattle.fab_wire_deadlines.specs.Deadlines.{end_after, end_of}
 use Rattle.fab_wire_gathering.specs.Guests.{TakesRest, given_up}
 use Rattle.fab_wire_gathering.specs.Seats.{Seats, HasSeat, SameSeats, IsFirstSeat, ended_of, ends_at, given_up_at, has_taken, kept_in, leaves_at, most_guests, most_kept, most_waiting, silent_since, takes_until, told}
 use Rattle.fab_wire_gathering.specs.declared.gathering.Ended.{Ended}
+use Rattle.fab_wire_gathering.specs.declared.gathering.Gathering.{Gathering}
 use Rattle.fab_wire_gathering.specs.declared.gathering.Seating.{Seating}
 use Rattle.fab_wire_gathering.specs.declared.gathering.Seating.TheVariants.{At, Full, Refused}
 use Rattle.fab_wire_gathering.specs.declared.guest.Guest.{Guest}
 use Rattle.fab_wire_gathering.specs.declared.guest.Stage.{Stage}
 use Rattle.fab_wire_gathering.specs.declared.guest.Stage.TheVariants.{Taken}
 
+-- the seats of those who are there
+abbrev pub seats_of : Gathering → Seats
+seats_of gathering = gathering.seats.items
+
+-- when all were tried, the last time
+abbrev pub tried_at : Gathering → ℕ
+tried_at gathering = instant_nanos gathering.tried
+
 -- no seat is free, and there is no place for one more: there are as many as there may be, or memory for no more
 pub record HasNoPlace (seats : Vec (Option Guest) Global) : Type 0 where
   pub taken : (place : ℕ) → slice_get seats.items place ≡ Some None → ⊥
   pub most : (most_guests ≤ length seats.items) ⊎ (vec_capacity seats ≤ length seats.items)
 
--- the connection has the seat that was given, which nobody had; the others are there as they were
-pub record HasComeTo (old new : Seats) (stream : TcpStream) (place : ℕ) : Type 0 where
+-- the connection has the seat that was given, which nobody had, until this end; the others are there as they were
+pub record HasComeTo (old new : Seats) (stream : TcpStream) (end place : ℕ) : Type 0 where
   pub guest : Guest
   pub seated : HasSeat new place guest
   pub is : guest.stream ≡ stream
+  pub end_is : end_of guest.deadline ≡ end
   pub free : (other : Guest) → HasSeat old place other → ⊥
   pub others : (q : ℕ) (other : Guest) → q ≢ place → HasSeat old q other ↔ HasSeat new q other
 
 -- what came of seating a connection: one without a seat comes back, and everybody is there as before
-abbrev pub IsSeated : Vec (Option Guest) Global → Seats → TcpStream → Seating → Type 0
-IsSeated old new stream (At place) = HasComeTo old.items new stream place
-IsSeated old new stream (Full back) = (back ≡ stream) × HasNoPlace old × (new ≡ old.items)
-IsSeated old new stream (Refused back) = (back ≡ stream) × SameSeats old.items new
+abbrev pub IsSeated : Vec (Option Guest) Global → Seats → TcpStream → ℕ → Seating → Type 0
+IsSeated old new stream end (At place) = HasComeTo old.items new stream end place
+IsSeated old new stream end (Full back) = (back ≡ stream) × HasNoPlace old × (new ≡ old.items)
+IsSeated old new stream end (Refused back) = (back ≡ stream) × SameSeats old.items new
 
 -- ---- how long may be waited
 

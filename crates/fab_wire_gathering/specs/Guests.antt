@@ -1,5 +1,5 @@
 -- What is known of the request of a guest, and of its answer.
-use Rattle.std.specs.Prelude.{ℕ, zero, suc, ◌≡◌, ◌⊎◌, ◌++◌, ⊤, List, Option, Some, None, Bool, true, false, Vec}
+use Rattle.std.specs.Prelude.{ℕ, zero, suc, ◌≡◌, ◌≤◌, ◌⊎◌, ◌++◌, length, ⊤, List, Option, Some, None, Bool, true, false, Vec}
 use Rattle.std.specs.declared.alloc.Global.{Global}
 use Rattle.fab_wire_deadlines.specs.declared.deadline.Deadline.{Deadline}
 use Rattle.fab_wire_gathering.specs.declared.guest.Ending.{Ending}
@@ -11,6 +11,10 @@ use Rattle.fab_wire_gathering.specs.declared.guest.Stage.TheVariants as stage
 -- how long bytes that nobody reads are taken behind an answer at most, in nanoseconds: a second
 abbrev pub most_lingering : ℕ
 most_lingering = 1_000_000_000
+
+-- how many pieces of them are taken at most
+abbrev pub most_takings : ℕ
+most_takings = 4096
 
 -- how many bytes are read at most before it is known how many there have to be
 abbrev pub most_first : ℕ
@@ -27,6 +31,10 @@ read_of ending.Starved bytes = None
 -- what is read of the request of a guest
 abbrev pub gathered_of : Guest → Option (List ℕ)
 gathered_of guest = read_of guest.ending guest.bytes.items
+
+-- how the bytes of its request ended
+abbrev pub ending_of : Guest → Ending
+ending_of guest = guest.ending
 
 -- its request waits for its turn, and ended so
 abbrev pub WaitsSo : Ending → Guest → Type 0
@@ -67,17 +75,30 @@ abbrev pub TakesRest : Stage → Stage → Type 0
 TakesRest (stage.Leaves left) after = (after ≡ stage.Leaves left) ⊎ (after ≡ one_taken left) ⊎ (after ≡ stage.Gone)
 TakesRest other after = after ≡ other
 
--- its rest is taken still, or it is gone
-abbrev pub IsLeaving : Stage → Type 0
-IsLeaving (stage.Leaves left) = ⊤
-IsLeaving stage.Gone = ⊤
-IsLeaving other = ⊥
+-- so many pieces are left to take of the rest at most, or it is gone
+abbrev pub LeavesWithin : ℕ → Stage → Type 0
+LeavesWithin most (stage.Leaves left) = left ≤ most
+LeavesWithin most stage.Gone = ⊤
+LeavesWithin most other = ⊥
 
--- what one who goes on comes to, by its stage: of one that sends bytes are added to those that have come, if any, and it sends
--- on or waits for its turn; one that takes keeps its answer, and takes on, has taken all of it or did not take all; of one whose
--- rest is taken more is taken, or it is gone; another is as it was
+-- of one that sends bytes are added to those that have come, if any, and it sends on or waits for its turn, with a number then;
+-- its deadline is the same, and so is what was sent to it
+pub record HasSent (guest after : Guest) : Type 0 where
+  pub bytes : (more : List ℕ) × (after.bytes.items ≡ guest.bytes.items ++ more)
+  pub stages : (after.stage ≡ stage.Sends) ⊎ (after.stage ≡ stage.Waits)
+  pub number : after.stage ≡ stage.Sends → after.number ≡ guest.number
+  pub rest : after ≡ record guest { bytes = after.bytes; stage = after.stage; ending = after.ending; heard = after.heard; wanted = after.wanted; number = after.number }
+
+-- one that takes keeps its answer, and takes on, has taken all of it or did not take all; what is sent of it, and no more, changes
+pub record TakesMore (guest after : Guest) : Type 0 where
+  pub stages : (after.stage ≡ stage.Takes) ⊎ ((after.stage ≡ stage.Taken) ⊎ (after.stage ≡ stage.Unsent))
+  pub whole : after.stage ≡ stage.Taken → length after.bytes.items ≤ after.sent
+  pub rest : after ≡ record guest { stage = after.stage; sent = after.sent }
+
+-- what one who goes on comes to, by its stage: of one whose rest is taken more is taken, or it is gone, and nothing else changes;
+-- one of which nothing is to come, and to which nothing is to be sent, is as it was
 abbrev pub ComesTo : Stage → Guest → Guest → Type 0
-ComesTo stage.Sends guest after = ((more : List ℕ) × (after.bytes.items ≡ guest.bytes.items ++ more)) × ((after.stage ≡ stage.Sends) ⊎ (after.stage ≡ stage.Waits))
-ComesTo stage.Takes guest after = (after.bytes ≡ guest.bytes) × ((after.stage ≡ stage.Takes) ⊎ ((after.stage ≡ stage.Taken) ⊎ (after.stage ≡ stage.Unsent)))
-ComesTo (stage.Leaves left) guest after = IsLeaving after.stage
+ComesTo stage.Sends guest after = HasSent guest after
+ComesTo stage.Takes guest after = TakesMore guest after
+ComesTo (stage.Leaves left) guest after = LeavesWithin left after.stage × (after ≡ record guest { stage = after.stage })
 ComesTo other guest after = after ≡ guest

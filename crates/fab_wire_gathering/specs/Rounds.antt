@@ -1,9 +1,9 @@
 -- What a round makes of each who is there.
-use Rattle.std.specs.Prelude.{ℕ, ◌≡◌, ◌<◌, ⊤, Bool, true, false, Option, Some, None, length, max, nat_le, slice_get}
+use Rattle.std.specs.Prelude.{ℕ, ◌≡◌, ◌<◌, ⊤, Bool, true, false, Option, Some, None, length, map, max, nat_le, slice_get}
 use Rattle.fab_wire_deadlines.specs.Deadlines.{end_after, end_of, seen_by}
 use Rattle.fab_wire_deadlines.specs.declared.deadline.Deadline.{Deadline}
-use Rattle.fab_wire_gathering.specs.Guests.{ComesTo, IsLeaving, goes_on, most_lingering}
-use Rattle.fab_wire_gathering.specs.Seats.{Seats, HasSeat, given_up_at}
+use Rattle.fab_wire_gathering.specs.Guests.{ComesTo, LeavesWithin, goes_on, most_lingering, most_takings}
+use Rattle.fab_wire_gathering.specs.Seats.{Seats, HasSeat, SameSeats, given_up_at, without_gone}
 use Rattle.fab_wire_gathering.specs.declared.guest.Guest.{Guest}
 use Rattle.fab_wire_gathering.specs.declared.guest.Stage.{Stage}
 use Rattle.fab_wire_gathering.specs.declared.guest.Stage.TheVariants.{Waits, Taken, Unsent, Told}
@@ -26,11 +26,11 @@ HasGoneOn guest after = (after.stream ≡ guest.stream) × ComesTo guest.stage g
 abbrev pub IsPutOff : ℕ → Guest → Guest → Type 0
 IsPutOff by guest after = (deadline : Deadline) × (end_of deadline ≡ end_after (end_of guest.deadline) by) × (after ≡ record guest { deadline = deadline })
 
--- one of which was told that it has its answer is seen off: what is still sent is taken from now on, for a second at most; or it
--- is gone
+-- one of which was told that it has its answer is seen off: what is still sent is taken from now on, for a second and so many
+-- pieces at most; or it is gone
 abbrev pub IsSeenOffIn : Stage → ℕ → Guest → Guest → Type 0
 IsSeenOffIn Told now guest after =
-    (deadline : Deadline) × (is : Stage) × IsLeaving is × (end_of deadline ≡ end_after now most_lingering) × (after ≡ record guest { deadline = deadline; stage = is })
+    (deadline : Deadline) × (is : Stage) × LeavesWithin most_takings is × (end_of deadline ≡ end_after now most_lingering) × (after ≡ record guest { deadline = deadline; stage = is })
 IsSeenOffIn other now guest after = after ≡ guest
 
 abbrev pub IsSeenOff : ℕ → Guest → Guest → Type 0
@@ -48,6 +48,10 @@ abbrev pub IsTimed : ℕ → Guest → Guest → Type 0
 IsTimed now guest after =
     (deadline : Deadline) × (waited : ℕ) × (end_of deadline ≡ end_of guest.deadline) × (seen_by deadline ≡ max (seen_by guest.deadline) now)
     × (after ≡ given_up_late waited (record guest { deadline = deadline }))
+
+-- a round: everybody goes on, whoever is late then is given up, and whoever is gone goes
+abbrev pub IsRound : ℕ → Seats → Seats → Type 0
+IsRound now old new = (on : Seats) × (timed : Seats) × EachGoesOn HasGoneOn old on × EachGoesOn (IsTimed now) on timed × SameSeats (map without_gone timed) new
 
 -- everybody of whom nothing is to come, and to whom nothing is to be sent, has the seat still, but who is gone: whose turn is to
 -- come keeps the request and its number, whose turn has ended what was sent

@@ -8,7 +8,7 @@ ghost use Rattle.fab_wire_deadlines.specs.Deadlines.{end_after};
 ghost use Rattle.fab_wire_gathering.specs.Ends.{HasNoPlace, IsSeated, IsFirstEnd, IsNextEnded, FreesLeaver, LeavesIf, GivesUpSilent, MakesWay, MakesRoom, IsHanded};
 ghost use Rattle.fab_wire_gathering.specs.Guests.{answered};
 ghost use Rattle.fab_wire_gathering.specs.Inner.Seating.{IsSooner};
-ghost use Rattle.fab_wire_gathering.specs.Rounds.{EachGoesOn, GoesOnSo, HasGoneOn, IsPutOff, IsSeenOff, IsTimed, KeepResting, NobodyIsLate};
+ghost use Rattle.fab_wire_gathering.specs.Rounds.{EachGoesOn, GoesOnSo, HasGoneOn, IsPutOff, IsRound, IsSeenOff, IsTimed, KeepResting, NobodyIsLate};
 ghost use Rattle.fab_wire_gathering.specs.Seats.{most_guests, HasSeat, IsFirstSeat, turn_of, ended_of, leaves_at, takes_until, silent_since, ends_at, has_taken, dismissed, takers_given_up, without_gone, given_up_at, numbered_in, waited_in, most_waiting, kept_by, kept_in, SameSeats};
 ghost use Rattle.fab_wire_gathering.specs.declared.guest.Guest.{Guest};
 ghost use Rattle.fab_wire_gathering.specs.declared.guest.Stage.{Stage};
@@ -210,7 +210,7 @@ impl Gathering {
         now: Instant,
         most: Duration,
     ) -> Seating
-        ensures { IsSeated self.old.seats self.new.seats.items stream result }
+        ensures { IsSeated self.old.seats self.new.seats.items stream (end_after (instant_nanos now) (as_nanos most)) result }
     {
         let Some(place) = self.free_place() else {
             return Seating::Full(stream);
@@ -298,6 +298,7 @@ impl Gathering {
     /// tried, as they are once in a second: so a report that got lost is no hang.
     pub fn go_on<F: Framing>(&mut self, poll: &Poll, framing: &F, now: Instant) -> bool
         ensures tried { result ≡ nat_le (end_after (instant_nanos self.old.tried) most_waiting) (instant_nanos now) }
+        ensures round { IsRound (instant_nanos now) self.old.seats.items self.new.seats.items }
         ensures resting { KeepResting self.old.seats.items self.new.seats.items }
         ensures late { NobodyIsLate (instant_nanos now) self.new.seats.items }
     {

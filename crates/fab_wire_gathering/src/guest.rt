@@ -86,6 +86,7 @@ impl Guest {
         ensures sends { result.stage ≡ stage.Sends }
         ensures none { result.bytes.items ≡ [] }
         ensures deadline { result.deadline ≡ deadline }
+        ensures heard { result.heard ≡ now }
     {
         Guest {
             stream,
@@ -201,6 +202,8 @@ impl Guest {
     pub fn go_on<F: Framing>(&mut self, framing: &F, piece: &mut [u8], now: Instant) -> bool
         ensures whole { self.old.stage ≡ stage.Sends → WaitsSo ending.Whole self.new → F.is_whole framing.now self.new.bytes.items }
         ensures comes { ComesTo self.old.stage self.old self.new }
+        ensures leaves { (left : ℕ) → self.old.stage ≡ stage.Leaves left → TakesRest (stage.Leaves left) self.new.stage }
+        ensures number { self.new.number ≡ self.old.number }
         ensures stream { self.new.stream ≡ self.old.stream }
     {
         match self.stage {
@@ -227,6 +230,7 @@ impl Guest {
         ensures bytes { (more : List ℕ) × (self.new.bytes.items ≡ self.old.bytes.items ++ more) }
         ensures stage { self.old.stage ≡ stage.Sends → (self.new.stage ≡ stage.Sends) ⊎ (self.new.stage ≡ stage.Waits) }
         ensures whole { self.old.stage ≡ stage.Sends → WaitsSo ending.Whole self.new → F.is_whole framing.now self.new.bytes.items }
+        ensures rest { self.new ≡ record self.old { bytes = self.new.bytes; stage = self.new.stage; ending = self.new.ending; heard = self.new.heard; wanted = self.new.wanted } }
         ensures stream { self.new.stream ≡ self.old.stream }
     {
         for _ in 0..MOST_PIECES {
@@ -253,6 +257,7 @@ impl Guest {
     fn starve(&mut self, piece: &mut [u8])
         ensures bytes { self.new.bytes ≡ self.old.bytes }
         ensures waits { (self.new ≡ self.old) ⊎ WaitsSo ending.Starved self.new }
+        ensures rest { self.new ≡ record self.old { stage = self.new.stage; ending = self.new.ending } }
         ensures stream { self.new.stream ≡ self.old.stream }
     {
         match Went::of(self.stream.peek(room_in(piece, 1))) {
@@ -267,6 +272,7 @@ impl Guest {
             ⊎ ((self.new.bytes.items ≡ self.old.bytes.items) × WaitsSo ending.Failed self.new) }
         ensures stage { (self.new.stage ≡ self.old.stage) ⊎ (self.new.stage ≡ stage.Waits) }
         ensures whole { self.old.stage ≡ stage.Sends → WaitsSo ending.Whole self.new → F.is_whole framing.now self.new.bytes.items }
+        ensures rest { self.new ≡ record self.old { bytes = self.new.bytes; stage = self.new.stage; ending = self.new.ending; heard = self.new.heard; wanted = self.new.wanted } }
         ensures stream { self.new.stream ≡ self.old.stream }
     {
         self.heard = now;

@@ -1,4 +1,5 @@
 pub mod Coming
+pub mod Rooms
 pub mod Sides
 pub mod Starts
 pub mod Stops

@@ -1,10 +1,17 @@
 //! The connections that are there, and the lines of the log that wait.
 
-ghost use Rattle.std.specs.Prelude.{◌≡◌, ◌<◌, ◌++◌, ◌∷◌, [], true, IfOk, IfErr, IfSome, IfNone};
+ghost use Rattle.std.specs.Prelude.{◌≡◌, ◌≢◌, ◌<◌, ◌⊎◌, ◌++◌, ◌∷◌, ℕ, [], true, Some, None, is_some, map, IfOk, IfErr, IfSome, IfNone};
+ghost use Rattle.std.specs.Duration.{as_nanos};
 ghost use Rattle.std.specs.Time.{instant_nanos};
 ghost use Rattle.std.specs.VecDeque.{deque_len, deque_capacity};
-ghost use Rattle.fab_wire_log.specs.Numbers.{first_of};
+ghost use Rattle.fab_wire_gathering.specs.Ends.{IsHanded, seats_of, tried_at};
+ghost use Rattle.fab_wire_gathering.specs.Guests.{WaitsSo, answered, ending_of};
+ghost use Rattle.fab_wire_gathering.specs.Rounds.{EachGoesOn, IsPutOff};
+ghost use Rattle.fab_wire_gathering.specs.Seats.{takers_given_up};
+ghost use Rattle.fab_wire_gathering.specs.declared.guest.Ending.TheVariants as ending;
+ghost use Rattle.fab_wire_log.specs.Numbers.{first_of, next_of};
 ghost use Rattle.fab_wire_log.specs.Pending.{Advances, AreMarked, FirstWaits, HasEnded};
+ghost use Rattle.fab_wire_serving.specs.Rooms.{HasTurn, MayWait, TakesNoneUp, TakesUp};
 ghost use Rattle.fab_wire_serving.specs.Starts.{AreTold};
 ghost use Rattle.fab_wire_serving.specs.Stops.{IsStopped};
 
@@ -245,7 +252,11 @@ impl Room {
     }
 
     /// How long may be waited for something to do.
-    fn time_to_wait(&self, now: Instant) -> Duration {
+    fn time_to_wait(&self, now: Instant) -> Duration
+        ensures knocks { TakesUp self.now.knocks self.now.left self.now.comer → as_nanos result ≡ 0 }
+        ensures waits { TakesNoneUp self.now.knocks self.now.left self.now.comer
+            → MayWait (is_some self.now.comer) (tried_at self.now.gathering) (instant_nanos now) (seats_of self.now.gathering) (as_nanos result) }
+    {
         if self.knocks && self.left > 0 && self.comer.is_none() {
             Duration::ZERO
         } else {
@@ -313,6 +324,7 @@ impl Room {
         ensures lines { Advances (C.tells watch.old.clock.now) (C.fails watch.old.clock.now) W.contents
             watch.old.log self.old.pending.lines.items watch.new.log self.new.pending.lines.items }
         ensures start { IfOk result (λ turn. C.tells watch.old.clock.now (instant_nanos turn.start)) }
+        ensures turn { IfOk result (λ turn. HasTurn turn.place turn.guest (seats_of self.new.gathering)) }
         ensures fault { IfErr result (IsStopped (L.fails listener.now) (C.fails watch.old.clock.now)) }
     {
         for _ in 0..u64::MAX {
@@ -344,6 +356,10 @@ impl Room {
         ensures starts { self.new.starts ≡ self.old.starts }
         ensures lines { AreMarked (C.tells watch.now.clock.now) (C.fails watch.now.clock.now)
             (self.old.pending.lines.items ++ line ∷ []) self.new.pending.lines.items }
+        ensures handed { (place : ℕ) → turn.place ≡ Some place → ending_of turn.guest ≢ ending.Starved
+            → IsHanded ⟦<Instant as Ord>⟧.cmp (seats_of self.old.gathering) (seats_of self.new.gathering) place
+            (answered answer (next_of self.old.pending) deadline turn.guest) }
+        ensures carried { (turn.place ≡ None) ⊎ (ending_of turn.guest ≡ ending.Starved) → self.new.gathering ≡ self.old.gathering }
     {
         let number = self.pending.next_number();
         self.pending.push(line);
@@ -376,6 +392,7 @@ impl Room {
             self.old.pending.lines.items self.new.pending.lines.items }
         ensures ended { HasEnded (C.tells watch.now.clock.now) (C.fails watch.now.clock.now)
             (first_of self.old.pending) number true self.old.pending.lines.items self.new.pending.lines.items }
+        ensures gathering { self.new.gathering ≡ self.old.gathering }
     {
         let ended = Ended {
             number,
@@ -389,6 +406,7 @@ impl Room {
     pub(crate) fn put_off(&mut self, by: Duration)
         ensures starts { self.new.starts ≡ self.old.starts }
         ensures pending { self.new.pending ≡ self.old.pending }
+        ensures seats { EachGoesOn (IsPutOff (as_nanos by)) (seats_of self.old.gathering) (seats_of self.new.gathering) }
     {
         self.gathering.put_off(by);
     }
@@ -402,6 +420,8 @@ impl Room {
         ensures lines { Advances (C.tells watch.old.clock.now) (C.fails watch.old.clock.now) W.contents
             watch.old.log self.old.pending.lines.items watch.new.log self.new.pending.lines.items }
         ensures room { deque_len self.new.pending.lines < deque_capacity self.new.pending.lines }
+        ensures seats { (seats_of self.new.gathering ≡ seats_of self.old.gathering)
+            ⊎ (seats_of self.new.gathering ≡ map takers_given_up (seats_of self.old.gathering)) }
     {
         if !self.pending.is_full() {
             return;
@@ -449,7 +469,9 @@ impl Room {
 
 /// A turn of a connection that has no seat: all of it is read in its turn.
 fn carried<C: Ticks, W: Write>(watch: &Watch<'_, C, W>, stream: TcpStream, now: Instant) -> Turn
-    ensures { result.start ≡ now }
+    ensures start { result.start ≡ now }
+    ensures place { result.place ≡ None }
+    ensures waits { WaitsSo ending.Starved result.guest }
 {
     let deadline = Deadline::after(now, watch.most);
     Turn {
@@ -461,7 +483,9 @@ fn carried<C: Ticks, W: Write>(watch: &Watch<'_, C, W>, stream: TcpStream, now: 
 
 /// A turn of a connection that leaves its seat for it.
 fn seated(place: usize, guest: Guest, start: Instant) -> Turn
-    ensures { result.start ≡ start }
+    ensures start { result.start ≡ start }
+    ensures place { result.place ≡ Some place }
+    ensures guest { result.guest ≡ guest }
 {
     Turn {
         place: Some(place),
@@ -479,6 +503,7 @@ fn waited_for<C: Ticks, W: Write, L: Listens>(
     listener: &L,
 ) -> Result<Turn, ServeFault>
     ensures start { IfOk result (λ turn. C.tells watch.now.clock.now (instant_nanos turn.start)) }
+    ensures turn { IfOk result (λ turn. (turn.place ≡ None) × WaitsSo ending.Starved turn.guest) }
     ensures fault { IfErr result (IsStopped (L.fails listener.now) (C.fails watch.now.clock.now)) }
 {
     let stream = listener.connection().map_err(ServeFault::Listener)?;

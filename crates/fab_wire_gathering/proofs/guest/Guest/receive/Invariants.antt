@@ -6,4 +6,4 @@ abbrev pub invariant-loop : goal.invariant-loop
 invariant-loop g l =
     ((more : List ℕ) × (l.self.bytes.items ≡ l.fn.self.bytes.items ++ more))
     × (l.fn.self.stage ≡ stage.Sends → l.self.stage ≡ stage.Sends)
-    × (l.self.stream ≡ l.fn.self.stream)
+    × (l.self ≡ record l.fn.self { bytes = l.self.bytes; stage = l.self.stage; ending = l.self.ending; heard = l.self.heard; wanted = l.self.wanted })
