@@ -1,12 +1,12 @@
 //! The connections on which exchanges are played: how many bytes each read and each write moves, which
 //! of them fails, and how the connection has to end then.
 
-use crate::desks::MemoryDesk;
+use crate::desks::Tables;
 use crate::scenarios::Exchange;
 use fab_reach::PathBook;
 use fab_test_wire::streams::{Breaking, Slow};
 use fab_wire::laws::{Connection, Served};
-use fab_wire::{Outcome, serve_one};
+use fab_wire::{Desk, Outcome, serve_one};
 use fab_wire_base::routes::Routes;
 use fab_wire_streams::counted::Counted;
 use std::alloc::Global;
@@ -142,10 +142,10 @@ pub fn connection_of(alloc: Global, exchange: &Exchange, reads: usize, end: End)
 }
 
 /// Serves a connection by a desk.
-pub fn serve<B: PathBook<Global>>(
+pub fn serve<T: Tables, B: PathBook<Global>>(
     alloc: Global,
     routes: &Routes,
-    desk: &mut MemoryDesk<B>,
+    desk: &mut Desk<Global, T, B>,
     connection: Waiting<'_>,
 ) -> Ending {
     let Connection {

@@ -6,86 +6,80 @@ use fab_policy_base::Policy;
 use fab_reach::PathBook;
 use fab_store::{OpenFault, RefusingStore, SqlStore, Store};
 use fab_wire::Desk;
-use sqlite::{Connection, Error, MemStore};
+use sqlite::{Alter, Connection, Error};
 use std::alloc::Global;
 use std::str;
-
-/// Tables in memory, of which one call may be refused.
-pub type MemoryStore = RefusingStore<SqlStore<MemStore>>;
-
-/// A desk over them, with this book of paths.
-pub type MemoryDesk<B> = Desk<Global, MemoryStore, B>;
-
-/// A desk over tables, or why there is none, with the tables.
-pub type Opened<B> = Result<MemoryDesk<B>, (OpenFault, MemoryStore)>;
 
 /// What comes of a call, in a word, or why nothing does.
 pub type Came = Result<&'static str, OpenFault>;
 
 /// The policy that a text spells.
 fn policy_of(alloc: Global, text: &[u8]) -> Option<Policy> {
-    let Ok(text) = str::from_utf8(text) else {
+    let text = str::from_utf8(text).ok()?;
+    Policy::read(alloc, text).ok()
+}
+
+/// Tables of a desk, and what is done with them while no desk is open.
+pub trait Tables: Store<Global> + Drop + Sized {
+    /// The tables after statements of somebody else, all of which are executed.
+    fn changed(self, alloc: Global, statements: &str) -> Option<Self>;
+
+    /// The tables of which a query shows rows, which are added.
+    fn shown(self, alloc: Global, query: &str, text: &mut String) -> Option<Self>;
+
+    /// Makes the tables of a new desk: `made`.
+    fn made(self) -> (Came, Self);
+}
+
+/// The tables of a new desk over a connection, of whose calls one is refused behind so many.
+pub fn new_tables<S: Alter + Drop>(
+    alloc: Global,
+    connection: Connection<S>,
+    calls: u64,
+) -> Option<RefusingStore<SqlStore<S>>> {
+    if !connection.is_autocommit() {
         return None;
-    };
-    match Policy::read(alloc, text) {
-        Ok(policy) => Some(policy),
+    }
+    let mut tables = SqlStore::new(connection, alloc);
+    match tables.init() {
+        Ok(()) => Some(RefusingStore::new(tables, calls)),
         Err(_) => None,
     }
 }
 
-/// New tables, of whose calls one is refused behind so many, if one is.
-pub fn new_tables(alloc: Global, calls: Option<u64>) -> Option<MemoryStore> {
-    let Ok(connection) = Connection::open_in_memory(alloc) else {
-        return None;
-    };
-    let mut tables = SqlStore::new(connection, alloc);
-    match tables.init() {
-        Ok(()) => Some(RefusingStore::new(tables, calls.unwrap_or(u64::MAX))),
-        Err(_) => None,
-    }
-}
+/// A desk over tables, or why there is none, with the tables.
+type Opened<T, B> = Result<Desk<Global, T, B>, (OpenFault, T)>;
 
 /// Opens a desk for a scenario over tables, with the policy of this text.
 ///
 /// # Errors
 /// `Policy` where the text spells none.
-pub fn open<B: PathBook<Global>>(
+pub fn open<T: Tables, B: PathBook<Global>>(
     alloc: Global,
     scenario: &Scenario<'_>,
     policy: &[u8],
-    tables: MemoryStore,
-) -> Result<Opened<B>, Fault> {
+    tables: T,
+) -> Result<Opened<T, B>, Fault> {
     match policy_of(alloc, policy) {
         Some(policy) => Ok(Desk::open(alloc, tables, policy)),
         None => Err(Fault::Policy(scenario.line)),
     }
 }
 
-/// A new desk for a scenario, with the policy of this text.
-///
-/// # Errors
-/// `Policy` where the text spells none, and `Desk` where there is no desk.
-pub fn new_desk<B: PathBook<Global>>(
-    alloc: Global,
-    scenario: &Scenario<'_>,
-    policy: &[u8],
-) -> Result<MemoryDesk<B>, Fault> {
-    let Some(tables) = new_tables(alloc, scenario.calls) else {
-        return Err(Fault::Desk(scenario.line));
-    };
-    match open(alloc, scenario, policy, tables)? {
-        Ok(desk) => Ok(desk),
-        Err(_) => Err(Fault::Desk(scenario.line)),
+/// Brings the tables to the present schema: `changed` or `unchanged`.
+pub fn migrate<T: Tables>(tables: &mut T) -> Came {
+    match Store::<Global>::migrate(tables) {
+        Ok(true) => Ok("changed"),
+        Ok(false) => Ok("unchanged"),
+        Err(fault) => Err(fault),
     }
 }
 
-/// How many calls the tables refused.
-pub fn refusals(tables: &MemoryStore) -> u64 {
-    Store::<Global>::refusals(tables)
-}
-
 /// Tables over a connection, none of whose calls is refused: none while a transaction runs.
-fn tables_over(alloc: Global, connection: Connection<MemStore>) -> Option<MemoryStore> {
+fn tables_over<S: Alter + Drop>(
+    alloc: Global,
+    connection: Connection<S>,
+) -> Option<RefusingStore<SqlStore<S>>> {
     if connection.is_autocommit() {
         let tables = SqlStore::new(connection, alloc);
         return Some(RefusingStore::new(tables, u64::MAX));
@@ -93,18 +87,9 @@ fn tables_over(alloc: Global, connection: Connection<MemStore>) -> Option<Memory
     None
 }
 
-/// The tables after statements of somebody else, all of which are executed.
-pub fn changed(alloc: Global, tables: MemoryStore, statements: &str) -> Option<MemoryStore> {
-    let mut connection = tables.into_inner().into_connection();
-    match connection.execute_batch(statements) {
-        Ok(()) => tables_over(alloc, connection),
-        Err(_) => None,
-    }
-}
-
 /// Adds the rows of a query, each of which is one text, on lines of their own.
-fn add_rows(
-    connection: &mut Connection<MemStore>,
+fn add_rows<S: Alter + Drop>(
+    connection: &mut Connection<S>,
     query: &str,
     text: &mut String,
 ) -> Result<(), Error> {
@@ -117,35 +102,29 @@ fn add_rows(
     Ok(())
 }
 
-/// The tables of which a query shows rows, which are added.
-pub fn shown(
-    alloc: Global,
-    tables: MemoryStore,
-    query: &str,
-    text: &mut String,
-) -> Option<MemoryStore> {
-    let mut connection = tables.into_inner().into_connection();
-    match add_rows(&mut connection, query, text) {
-        Ok(()) => tables_over(alloc, connection),
-        Err(_) => None,
+impl<S: Alter + Drop> Tables for RefusingStore<SqlStore<S>> {
+    fn changed(self, alloc: Global, statements: &str) -> Option<Self> {
+        let mut connection = self.into_inner().into_connection();
+        match connection.execute_batch(statements) {
+            Ok(()) => tables_over(alloc, connection),
+            Err(_) => None,
+        }
     }
-}
 
-/// Makes the tables of a new desk: `made`.
-pub fn make(tables: MemoryStore) -> (Came, MemoryStore) {
-    let mut inner = tables.into_inner();
-    let came = match inner.init() {
-        Ok(()) => Ok("made"),
-        Err(_) => Err(OpenFault::Store),
-    };
-    (came, RefusingStore::new(inner, u64::MAX))
-}
+    fn shown(self, alloc: Global, query: &str, text: &mut String) -> Option<Self> {
+        let mut connection = self.into_inner().into_connection();
+        match add_rows(&mut connection, query, text) {
+            Ok(()) => tables_over(alloc, connection),
+            Err(_) => None,
+        }
+    }
 
-/// Brings the tables to the present schema: `changed` or `unchanged`.
-pub fn migrate(tables: &mut MemoryStore) -> Came {
-    match Store::<Global>::migrate(tables) {
-        Ok(true) => Ok("changed"),
-        Ok(false) => Ok("unchanged"),
-        Err(fault) => Err(fault),
+    fn made(self) -> (Came, Self) {
+        let mut inner = self.into_inner();
+        let came = match inner.init() {
+            Ok(()) => Ok("made"),
+            Err(_) => Err(OpenFault::Store),
+        };
+        (came, RefusingStore::new(inner, u64::MAX))
     }
 }

@@ -112,15 +112,9 @@ fn play_files(rt: &HostRuntime, routes: &Routes, paths: &[String]) -> Option<boo
 
 /// Plays the files that the words name, behind the program's name.
 fn play_words(rt: &HostRuntime) -> Option<bool> {
-    let Ok(words) = env::args(rt) else {
-        return None;
-    };
-    let Ok(paths) = words.skip(1).collect::<Vec<String>>(rt.alloc()) else {
-        return None;
-    };
-    let Ok(routes) = Routes::new(rt.alloc()) else {
-        return None;
-    };
+    let words = env::args(rt).ok()?;
+    let paths = words.skip(1).collect::<Vec<String>>(rt.alloc()).ok()?;
+    let routes = Routes::new(rt.alloc()).ok()?;
     play_files(rt, &routes, paths.as_slice())
 }
 

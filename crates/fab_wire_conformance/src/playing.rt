@@ -1,7 +1,7 @@
 //! Exchanges, played by new desks: what each answers is compared with what is recorded.
 
 use crate::connections::{End, Ending, Waiting, connection_of, serve};
-use crate::desks::{MemoryDesk, MemoryStore, new_desk, new_tables, open};
+use crate::desks::{Tables, open};
 use crate::faults::Fault;
 use crate::scenarios::{Exchange, Scenario};
 use crate::telling::{Place, tell};
@@ -9,6 +9,7 @@ use crate::ways::Way;
 use fab_reach::{IndexBook, PathBook};
 use fab_reach_pairs::PlainBook;
 use fab_store::OpenFault;
+use fab_wire::Desk;
 use fab_wire::laws::serve_all;
 use fab_wire_base::routes::Routes;
 use fab_worlds_players::Tally;
@@ -16,9 +17,6 @@ use std::alloc::Global;
 
 /// In how many parts a request comes: a read fails before each of them, and behind the last.
 const MOST_FAILURES: usize = 3;
-
-/// How many bytes a request of a scenario has at most that is played over the plain book.
-const MOST_BYTES: usize = 8192;
 
 /// What is played: exchanges of a scenario of a file, in one way.
 #[derive(Clone, Copy)]
@@ -89,10 +87,10 @@ fn cut_of(way: Way, exchange: &Exchange, number: usize) -> (usize, End) {
 }
 
 /// Serves an exchange, and tells whether it ends as recorded.
-fn play_one<B: PathBook<Global>>(
+fn play_one<T: Tables, B: PathBook<Global>>(
     rt: &HostRuntime,
     routes: &Routes,
-    desk: &mut MemoryDesk<B>,
+    desk: &mut Desk<Global, T, B>,
     part: Part<'_>,
     number: usize,
     exchange: &Exchange,
@@ -105,10 +103,10 @@ fn play_one<B: PathBook<Global>>(
 
 /// Serves an exchange of which the read of one number fails, if it comes to that. What tells whether it
 /// ends as it has to, and whether no read failed: then the request was served.
-fn play_failing<B: PathBook<Global>>(
+fn play_failing<T: Tables, B: PathBook<Global>>(
     rt: &HostRuntime,
     routes: &Routes,
-    desk: &mut MemoryDesk<B>,
+    desk: &mut Desk<Global, T, B>,
     part: Part<'_>,
     number: usize,
     exchange: &Exchange,
@@ -128,10 +126,10 @@ fn play_failing<B: PathBook<Global>>(
 
 /// Serves an exchange several times, and another read fails each time, from the first to that of the
 /// end; and then as if nothing had been.
-fn play_through<B: PathBook<Global>>(
+fn play_through<T: Tables, B: PathBook<Global>>(
     rt: &HostRuntime,
     routes: &Routes,
-    desk: &mut MemoryDesk<B>,
+    desk: &mut Desk<Global, T, B>,
     part: Part<'_>,
     number: usize,
     exchange: &Exchange,
@@ -147,10 +145,10 @@ fn play_through<B: PathBook<Global>>(
 }
 
 /// Plays exchanges by a desk, one by one.
-fn play_each<B: PathBook<Global>>(
+fn play_each<T: Tables, B: PathBook<Global>>(
     rt: &HostRuntime,
     routes: &Routes,
-    desk: &mut MemoryDesk<B>,
+    desk: &mut Desk<Global, T, B>,
     part: Part<'_>,
     tally: &mut Tally,
 ) -> Result<(), Fault> {
@@ -175,10 +173,10 @@ fn connections_of(alloc: Global, exchanges: &[Exchange]) -> Result<Vec<Waiting<'
 }
 
 /// Plays exchanges by a desk, as one list.
-fn play_list<B: PathBook<Global>>(
+fn play_list<T: Tables, B: PathBook<Global>>(
     rt: &HostRuntime,
     routes: &Routes,
-    desk: &mut MemoryDesk<B>,
+    desk: &mut Desk<Global, T, B>,
     part: Part<'_>,
     tally: &mut Tally,
 ) -> Result<(), Fault> {
@@ -193,15 +191,18 @@ fn play_list<B: PathBook<Global>>(
     Ok(())
 }
 
-/// Plays a scenario in one way, by a new desk with this policy and such a book of paths.
-fn play_by<B: PathBook<Global>>(
+/// Plays a scenario in one way, by a new desk over tables with this policy and such a book of paths.
+fn play_by<T: Tables, B: PathBook<Global>>(
     rt: &HostRuntime,
     routes: &Routes,
     policy: &[u8],
     part: Part<'_>,
+    tables: T,
     tally: &mut Tally,
 ) -> Result<(), Fault> {
-    let mut desk = new_desk::<B>(rt.alloc(), part.scenario, policy)?;
+    let Ok(mut desk) = open::<T, B>(rt.alloc(), part.scenario, policy, tables)? else {
+        return Err(Fault::Desk(part.scenario.line));
+    };
     match part.way {
         Way::List => play_list(rt, routes, &mut desk, part, tally),
         _ => play_each(rt, routes, &mut desk, part, tally),
@@ -209,13 +210,13 @@ fn play_by<B: PathBook<Global>>(
 }
 
 /// Plays exchanges by a desk, one by one, and closes it: its tables.
-fn play_and_close(
+fn play_and_close<T: Tables, B: PathBook<Global>>(
     rt: &HostRuntime,
     routes: &Routes,
-    desk: MemoryDesk<IndexBook<Global>>,
+    desk: Desk<Global, T, B>,
     part: Part<'_>,
     tally: &mut Tally,
-) -> Result<MemoryStore, Fault> {
+) -> Result<T, Fault> {
     let mut desk = desk;
     play_each(rt, routes, &mut desk, part, tally)?;
     match desk.close() {
@@ -229,15 +230,15 @@ fn play_and_close(
 ///
 /// # Errors
 /// `Policy`; `Desk` where it has no tables at the end; `Memory` and `Output`.
-pub fn visit(
+pub fn visit<T: Tables>(
     rt: &HostRuntime,
     routes: &Routes,
     policy: &[u8],
     part: Part<'_>,
-    tables: MemoryStore,
+    tables: T,
     tally: &mut Tally,
-) -> Result<(Option<OpenFault>, MemoryStore), Fault> {
-    match open(rt.alloc(), part.scenario, policy, tables)? {
+) -> Result<(Option<OpenFault>, T), Fault> {
+    match open::<T, IndexBook<Global>>(rt.alloc(), part.scenario, policy, tables)? {
         Ok(desk) => Ok((None, play_and_close(rt, routes, desk, part, tally)?)),
         Err((fault, tables)) => Ok((Some(fault), tables)),
     }
@@ -247,14 +248,14 @@ pub fn visit(
 ///
 /// # Errors
 /// As for `visit`, and `Desk` where there is none.
-pub fn serve_by(
+pub fn serve_by<T: Tables>(
     rt: &HostRuntime,
     routes: &Routes,
     policy: &[u8],
     part: Part<'_>,
-    tables: MemoryStore,
+    tables: T,
     tally: &mut Tally,
-) -> Result<MemoryStore, Fault> {
+) -> Result<T, Fault> {
     let (fault, tables) = visit(rt, routes, policy, part, tables, tally)?;
     if fault.is_some() {
         return Err(Fault::Desk(part.scenario.line));
@@ -263,16 +264,15 @@ pub fn serve_by(
 }
 
 /// Plays a scenario's exchanges, each by a desk that is opened anew over the tables.
-fn play_anew(
+fn play_anew<T: Tables>(
     rt: &HostRuntime,
     routes: &Routes,
     policy: &[u8],
     part: Part<'_>,
+    tables: T,
     tally: &mut Tally,
 ) -> Result<(), Fault> {
-    let Some(mut tables) = new_tables(rt.alloc(), None) else {
-        return Err(Fault::Desk(part.scenario.line));
-    };
+    let mut tables = tables;
     for (before, exchanges) in part.exchanges.chunks(1).enumerate() {
         let one = Part {
             exchanges,
@@ -284,32 +284,21 @@ fn play_anew(
     Ok(())
 }
 
-/// Whether no request of a scenario is longer than this: then few ports are known in it.
-fn is_small(scenario: &Scenario<'_>) -> bool {
-    scenario
-        .exchanges
-        .iter()
-        .all(|exchange| exchange.request.len() <= MOST_BYTES)
-}
-
-/// Plays a scenario in one way, by a new desk with this policy. The book that asks about every pair of
-/// ports, and desks that are opened anew, are left out where many ports may be known; these also where the
-/// store refuses a call, which may be one that opens a desk.
+/// Plays a scenario in one way, by a new desk over tables with this policy.
 ///
 /// # Errors
 /// `Policy` and `Desk` where there is no desk, `Memory` and `Output`.
-pub fn play_scenario(
+pub fn play_scenario<T: Tables>(
     rt: &HostRuntime,
     routes: &Routes,
     policy: &[u8],
     part: Part<'_>,
+    tables: T,
     tally: &mut Tally,
 ) -> Result<(), Fault> {
     match part.way {
-        Way::EveryPair if !is_small(part.scenario) => Ok(()),
-        Way::EveryPair => play_by::<PlainBook<Global>>(rt, routes, policy, part, tally),
-        Way::OpenedAnew if part.scenario.calls.is_some() || !is_small(part.scenario) => Ok(()),
-        Way::OpenedAnew => play_anew(rt, routes, policy, part, tally),
-        _ => play_by::<IndexBook<Global>>(rt, routes, policy, part, tally),
+        Way::EveryPair => play_by::<T, PlainBook<Global>>(rt, routes, policy, part, tables, tally),
+        Way::OpenedAnew => play_anew(rt, routes, policy, part, tables, tally),
+        _ => play_by::<T, IndexBook<Global>>(rt, routes, policy, part, tables, tally),
     }
 }

@@ -1,5 +1,6 @@
 //! The scenarios of a file, each played in each way.
 
+use crate::desks::{Tables, new_tables};
 use crate::faults::Fault;
 use crate::playing::{Part, play_scenario};
 use crate::scenarios::Scenario;
@@ -7,9 +8,67 @@ use crate::stories::play_story;
 use crate::ways::{WAYS, Way};
 use fab_wire_base::routes::Routes;
 use fab_worlds_players::Tally;
+use sqlite::{Alter, Connection};
 
-/// Plays a scenario in one way. One that does something with its tables is a story of them, and is played
-/// once.
+/// How many bytes a request of a scenario has at most that is played over the plain book.
+const MOST_BYTES: usize = 8192;
+
+/// Whether no request of a scenario is longer than this: then few ports are known in it.
+fn is_small(scenario: &Scenario<'_>) -> bool {
+    scenario
+        .exchanges
+        .iter()
+        .all(|exchange| exchange.request.len() <= MOST_BYTES)
+}
+
+/// Whether a scenario is played in this way. One that does something with its tables is a story of them, and
+/// is played once. The book that asks about every pair of ports, and desks that are opened anew, are left out
+/// where many ports may be known; these also where the store refuses a call, which may be one that opens a
+/// desk.
+fn is_played(scenario: &Scenario<'_>, way: Way) -> bool {
+    match way {
+        Way::Whole => true,
+        Way::EveryPair => scenario.steps.is_empty() && is_small(scenario),
+        Way::OpenedAnew => {
+            scenario.steps.is_empty() && scenario.calls.is_none() && is_small(scenario)
+        }
+        _ => scenario.steps.is_empty(),
+    }
+}
+
+/// Plays a part by tables, with this policy.
+fn play_by_tables<T: Tables>(
+    rt: &HostRuntime,
+    routes: &Routes,
+    policy: &[u8],
+    part: Part<'_>,
+    tables: T,
+    tally: &mut Tally,
+) -> Result<(), Fault> {
+    if part.scenario.steps.is_empty() {
+        play_scenario(rt, routes, policy, part, tables, tally)
+    } else {
+        play_story(rt, routes, policy, part, tables, tally)
+    }
+}
+
+/// The same by the tables of a new desk over a connection.
+fn play_over<S: Alter + Drop>(
+    rt: &HostRuntime,
+    routes: &Routes,
+    policy: &[u8],
+    part: Part<'_>,
+    connection: Connection<S>,
+    tally: &mut Tally,
+) -> Result<(), Fault> {
+    let calls = part.scenario.calls.unwrap_or(u64::MAX);
+    match new_tables(rt.alloc(), connection, calls) {
+        Some(tables) => play_by_tables(rt, routes, policy, part, tables, tally),
+        None => Err(Fault::Desk(part.scenario.line)),
+    }
+}
+
+/// The same in memory. The type of its tables is long, so all is done through one call of it.
 fn play_part(
     rt: &HostRuntime,
     routes: &Routes,
@@ -17,12 +76,9 @@ fn play_part(
     part: Part<'_>,
     tally: &mut Tally,
 ) -> Result<(), Fault> {
-    if part.scenario.steps.is_empty() {
-        return play_scenario(rt, routes, policy, part, tally);
-    }
-    match part.way {
-        Way::Whole => play_story(rt, routes, policy, part, tally),
-        _ => Ok(()),
+    match Connection::open_in_memory(rt.alloc()) {
+        Ok(connection) => play_over(rt, routes, policy, part, connection, tally),
+        Err(_) => Err(Fault::Desk(part.scenario.line)),
     }
 }
 
@@ -47,7 +103,9 @@ fn play_all(
             before: 0,
             way,
         };
-        play_part(rt, routes, policy, part, tally)?;
+        if is_played(scenario, way) {
+            play_part(rt, routes, policy, part, tally)?;
+        }
     }
     Ok(())
 }

@@ -1,6 +1,6 @@
 //! Stories of tables: what comes of each step is compared with what is recorded.
 
-use crate::desks::{Came, MemoryStore, changed, make, migrate, new_tables, refusals, shown};
+use crate::desks::{Came, Tables, migrate};
 use crate::faults::Fault;
 use crate::playing::{Part, serve_by, visit};
 use crate::scenarios::{Act, Step};
@@ -21,10 +21,7 @@ fn push_fault(text: &mut String, fault: OpenFault) -> Result<(), Fault> {
         OpenFault::Store => write!(text, "store"),
         OpenFault::Memory => write!(text, "memory"),
     };
-    match written {
-        Ok(()) => Ok(()),
-        Err(_) => Err(Fault::Memory),
-    }
+    written.map_err(|_| Fault::Memory)
 }
 
 /// Adds how many refusals were counted, where they are not those of the call.
@@ -33,10 +30,7 @@ fn push_count(text: &mut String, came: Came, counted: u64) -> Result<(), Fault> 
     if counted == u64::from(is_refused) {
         return Ok(());
     }
-    match write!(text, ", and {counted} counted") {
-        Ok(()) => Ok(()),
-        Err(_) => Err(Fault::Memory),
-    }
+    write!(text, ", and {counted} counted").map_err(|_| Fault::Memory)
 }
 
 /// What comes of a call as a text, where so many refusals were counted.
@@ -53,87 +47,76 @@ fn told(alloc: Global, came: Came, counted: u64) -> Result<String, Fault> {
 
 /// The statements or the query of a step.
 fn asked(step: &Step) -> Result<&str, Fault> {
-    match str::from_utf8(step.asked.as_slice()) {
-        Ok(text) => Ok(text),
-        Err(_) => Err(Fault::Text(step.line)),
-    }
-}
-
-/// The tables that there are, where what a step asks was done.
-fn done(step: &Step, tables: Option<MemoryStore>) -> Result<MemoryStore, Fault> {
-    match tables {
-        Some(tables) => Ok(tables),
-        None => Err(Fault::Undone(step.line)),
-    }
+    str::from_utf8(step.asked.as_slice()).map_err(|_| Fault::Text(step.line))
 }
 
 /// What comes of making the tables of a new desk, and the tables.
-fn made(alloc: Global, tables: MemoryStore) -> Result<(String, MemoryStore), Fault> {
-    let before = refusals(&tables);
-    let (came, tables) = make(tables);
-    let counted = refusals(&tables).saturating_sub(before);
+fn made<T: Tables>(alloc: Global, tables: T) -> Result<(String, T), Fault> {
+    let before = tables.refusals();
+    let (came, tables) = tables.made();
+    let counted = tables.refusals().saturating_sub(before);
     Ok((told(alloc, came, counted)?, tables))
 }
 
 /// What comes of bringing the tables to the present schema, and the tables.
-fn migrated(alloc: Global, tables: MemoryStore) -> Result<(String, MemoryStore), Fault> {
+fn migrated<T: Tables>(alloc: Global, tables: T) -> Result<(String, T), Fault> {
     let mut tables = tables;
-    let before = refusals(&tables);
+    let before = tables.refusals();
     let came = migrate(&mut tables);
-    let counted = refusals(&tables).saturating_sub(before);
+    let counted = tables.refusals().saturating_sub(before);
     Ok((told(alloc, came, counted)?, tables))
 }
 
 /// What comes of opening a desk over the tables, which plays the exchanges of a part; and the tables.
-fn opened(
+fn opened<T: Tables>(
     rt: &HostRuntime,
     routes: &Routes,
     policy: &[u8],
     part: Part<'_>,
-    tables: MemoryStore,
+    tables: T,
     tally: &mut Tally,
-) -> Result<(String, MemoryStore), Fault> {
-    let before = refusals(&tables);
+) -> Result<(String, T), Fault> {
+    let before = tables.refusals();
     let (fault, tables) = visit(rt, routes, policy, part, tables, tally)?;
     let Some(fault) = fault else {
         return Ok((told(rt.alloc(), Ok("serves"), 0)?, tables));
     };
-    let counted = refusals(&tables).saturating_sub(before);
+    let counted = tables.refusals().saturating_sub(before);
     Ok((told(rt.alloc(), Err(fault), counted)?, tables))
 }
 
 /// The tables behind statements of somebody else, of which nothing comes.
-fn changed_by(
+fn changed_by<T: Tables>(
     alloc: Global,
-    tables: MemoryStore,
+    tables: T,
     step: &Step,
-) -> Result<(String, MemoryStore), Fault> {
-    let tables = done(step, changed(alloc, tables, asked(step)?))?;
-    Ok((String::new(alloc), tables))
+) -> Result<(String, T), Fault> {
+    let tables = tables.changed(alloc, asked(step)?);
+    Ok((String::new(alloc), tables.ok_or(Fault::Undone(step.line))?))
 }
 
 /// The rows that a query shows, and the tables.
-fn shown_by(
+fn shown_by<T: Tables>(
     alloc: Global,
-    tables: MemoryStore,
+    tables: T,
     step: &Step,
-) -> Result<(String, MemoryStore), Fault> {
+) -> Result<(String, T), Fault> {
     let mut rows = String::new(alloc);
-    let tables = done(step, shown(alloc, tables, asked(step)?, &mut rows))?;
-    Ok((rows, tables))
+    let tables = tables.shown(alloc, asked(step)?, &mut rows);
+    Ok((rows, tables.ok_or(Fault::Undone(step.line))?))
 }
 
 /// What comes of a step, and the tables behind it. The exchanges of the part are asked the desk that it
 /// opens.
-fn come(
+fn come<T: Tables>(
     rt: &HostRuntime,
     routes: &Routes,
     policy: &[u8],
     part: Part<'_>,
     step: &Step,
-    tables: MemoryStore,
+    tables: T,
     tally: &mut Tally,
-) -> Result<(String, MemoryStore), Fault> {
+) -> Result<(String, T), Fault> {
     match step.act {
         Act::Change => changed_by(rt.alloc(), tables, step),
         Act::Show => shown_by(rt.alloc(), tables, step),
@@ -173,21 +156,19 @@ fn part_behind<'t>(part: Part<'t>, before: usize, next: Option<&Step>) -> Part<'
     }
 }
 
-/// Plays a story by new tables: a desk is asked the exchanges before the first step, and then what is done
+/// Plays a story by tables: a desk is asked the exchanges before the first step, and then what is done
 /// with them step by step.
 ///
 /// # Errors
 /// `Policy`, `Desk`, `Memory` and `Output`; `Undone` where SQL of a step is not executed.
-pub fn play_story(
+pub fn play_story<T: Tables>(
     rt: &HostRuntime,
     routes: &Routes,
     policy: &[u8],
     part: Part<'_>,
+    tables: T,
     tally: &mut Tally,
 ) -> Result<(), Fault> {
-    let Some(tables) = new_tables(rt.alloc(), part.scenario.calls) else {
-        return Err(Fault::Desk(part.scenario.line));
-    };
     let steps = part.scenario.steps.as_slice();
     let first = part_behind(part, 0, steps.first());
     let mut tables = serve_by(rt, routes, policy, first, tables, tally)?;
