@@ -2,9 +2,12 @@
 //! the clock and the standard streams of the machine.
 #![tactic(auto)]
 
+mod looks;
+mod running;
 mod starting;
 #[cfg(test)]
 mod tests;
+mod tries;
 
 use starting::start;
 use std::process::ExitCode;

@@ -1,8 +1,8 @@
 //! The start of the program on this machine.
-ghost use Rattle.fab_program_runs.specs.Exits.{IsExitStatus};
+ghost use Rattle.fab_program.specs.Exits.{IsExitStatus};
 
+use crate::running::run;
 use fab_program_outside::{fail, open_standard, refuse_args, seconds, words_of};
-use fab_program_runs::run;
 use fab_wire_streams::counted::Counted;
 use std::io;
 

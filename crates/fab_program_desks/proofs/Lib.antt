@@ -1,1 +1,3 @@
+mod Beginnings
 mod Finding
+pub mod Served

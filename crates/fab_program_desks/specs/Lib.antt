@@ -1,6 +1,10 @@
 pub mod Commands
 pub mod Databases
 pub mod Desks
+pub mod FrontLaws
+pub mod Fronts
+pub mod Once
 pub mod Prints
+pub mod Servings
 pub mod Tables
 pub mod Tasks

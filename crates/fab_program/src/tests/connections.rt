@@ -3,7 +3,7 @@
 
 use super::answers::exchange_in;
 use fab_policy_base::Policy;
-use fab_program_runs::Front;
+use fab_program_desks::Front;
 use fab_store::{OpenFault, SqlStore, Store};
 use fab_test_wire::Exchange;
 use fab_wire::Desk;

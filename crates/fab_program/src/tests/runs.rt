@@ -2,8 +2,8 @@
 //! status. The desk stands in a file, which each run opens anew.
 
 use super::answers::exchange_in;
+use crate::running::run;
 use fab_policy_base::TRIAL_POLICY;
-use fab_program_runs::run;
 use fab_test_wire::rows::{FIRST_PLAN, FIRST_STAGED, WORLD};
 use fab_test_wire::streams::{Breaking, Slow};
 use std::cell::Cell;

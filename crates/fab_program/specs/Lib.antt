@@ -1,0 +1,4 @@
+pub mod Exits
+pub mod Looks
+pub mod Runs
+pub mod Tries

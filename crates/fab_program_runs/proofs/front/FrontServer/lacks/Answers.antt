@@ -1,7 +1,0 @@
-use Rattle.fab_program_runs.proofs.front.FrontServer.lacks.Goals as goal
-
-pub returns-clause-whole : goal.returns-clause-whole
-returns-clause-whole g c = rw c.of.ensures at c.lacks.ensures.whole
-
-pub returns-clause-lacking : goal.returns-clause-lacking
-returns-clause-lacking g c = rw c.of.ensures at c.lacks.ensures.lacks
