@@ -3,17 +3,14 @@ ghost use Rattle.fab_reach_base.specs.Serving.{IsServing};
 ghost use Rattle.fab_reach_base.specs.Views.{seen};
 ghost use Rattle.fab_reach_books.specs.Rows.{IsRowDiff};
 
-use crate::desk::{Heap, named};
+use crate::worlds::{Heap, hold, planned, put_volume};
 use fab_inventory::{HolderKind, Inventory, PortRow};
-use fab_mapping::Mapping;
 use fab_names::{Fabric, Place, Wwn};
-use fab_plans::trial;
-use fab_plans_text::read_plan;
 use fab_reach::{Config, IndexBook};
 use fab_reach_base::{PathsFault, View, few_paths};
 use fab_reach_books::{Limited, PathBook, RowDiff, ViewSight, row_diff};
 use fab_test_alloc::Refusing;
-use fab_zoning::Zoning;
+use fab_world::World;
 use std::process::Abort;
 
 /// The ports of these numbers, of three digits, before the last.
@@ -40,29 +37,11 @@ fn list(inventory: &mut Inventory<Heap<'_>>, rt: &(impl Abort + AllocGlobal)) {
         .expect(rt, "a port list");
 }
 
-/// A holder of the ports of these numbers.
-fn hold(
-    inventory: &mut Inventory<Heap<'_>>,
-    rt: &(impl Abort + AllocGlobal),
-    kind: HolderKind,
-    holder: &str,
-    first: u64,
-    end: u64,
-) {
-    let ports = ports(rt, first, end);
-    inventory
-        .put_holder(named(rt, holder), kind, named(rt, "blue"), ports.as_slice())
-        .expect(rt, "a holder");
-}
-
 /// So many volumes of the array.
 fn put_volumes(inventory: &mut Inventory<Heap<'_>>, rt: &(impl Abort + AllocGlobal), count: u64) {
-    let (array, tenant) = (named(rt, "arr1"), named(rt, "blue"));
     for number in 0..count {
         let name = format!(in rt.alloc(); "v{number}").expect(rt, "memory");
-        inventory
-            .put_volume(named(rt, name.as_str()), array, tenant, 1)
-            .expect(rt, "a volume");
+        put_volume(inventory, rt, name.as_str());
     }
 }
 
@@ -76,8 +55,9 @@ fn stock<'a>(
     let mut inventory = Inventory::new(heap);
     let end = initiators.saturating_add(100);
     list(&mut inventory, rt);
-    hold(&mut inventory, rt, HolderKind::Host, "h", 100, end);
-    hold(&mut inventory, rt, HolderKind::Array, "arr1", 164, 196);
+    let (initiators, targets) = (ports(rt, 100, end), ports(rt, 164, 196));
+    hold(&mut inventory, rt, HolderKind::Host, "h", &initiators);
+    hold(&mut inventory, rt, HolderKind::Array, "arr1", &targets);
     put_volumes(&mut inventory, rt, volumes);
     inventory
 }
@@ -94,33 +74,6 @@ fn plan(rt: &(impl Abort + AllocGlobal), volumes: u64) -> String {
     }
     text.push_str("sg.expose g\n").expect(rt, "memory");
     text
-}
-
-/// No zone, and no group.
-fn empty(heap: Heap<'_>) -> Config<Heap<'_>> {
-    Config {
-        a: Zoning::new(heap, Fabric::A),
-        b: Zoning::new(heap, Fabric::B),
-        mapping: Mapping::new(heap),
-    }
-}
-
-/// The configuration that the plan makes of the empty one.
-fn planned<'a>(
-    rt: &(impl Abort + AllocGlobal),
-    heap: Heap<'a>,
-    inventory: &Inventory<Heap<'a>>,
-    bare: &Config<Heap<'a>>,
-    volumes: u64,
-) -> Config<Heap<'a>> {
-    let text = plan(rt, volumes);
-    let Ok(steps) = read_plan(heap, text.as_str()) else {
-        panic!(rt; "no plan");
-    };
-    let Ok(config) = trial(bare, inventory, &steps) else {
-        panic!(rt; "no configuration");
-    };
-    config
 }
 
 /// How many paths there are, or none where there are more than there may be.
@@ -199,10 +152,14 @@ const CASES: &[Case] = &[
 /// So many paths are listed, and a sight that stops tells whether there may be.
 fn assert_case(rt: &(impl Abort + AllocGlobal), heap: Heap<'_>, case: Case) {
     let inventory = stock(rt, heap, case.0, case.1);
-    let bare = empty(heap);
-    let config = planned(rt, heap, &inventory, &bare, case.1);
+    let bare = World::new(heap);
+    let text = plan(rt, case.1);
+    let config = planned(rt, heap, &inventory, &bare.config, text.as_str());
     assert!(rt; few(rt, heap, &inventory, &config) == case.2);
-    let worlds = (View::of(&inventory, &bare), View::of(&inventory, &config));
+    let worlds = (
+        View::of(&inventory, &bare.config),
+        View::of(&inventory, &config),
+    );
     assert_stop::<IndexBook<Heap<'_>>>(rt, heap, &worlds.0, &worlds.1, case.2.is_some());
 }
 

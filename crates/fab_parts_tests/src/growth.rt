@@ -1,10 +1,8 @@
 //! Each request for memory of a call refused in turn: the call answers want of memory and changes nothing,
 //! and then, when memory is there again, it is done.
 use crate::books::leads;
-use crate::desk::{
-    ADA, FIRST_INITIATOR, FIRST_PLAN, FIRST_TARGET, Heap, Means, Order, PORTS, STAGED, made, named,
-    read_policy,
-};
+use crate::named::named;
+use crate::worlds::{ADA, FIRST_PLAN, Heap, made, read_policy};
 use fab_inventory::{HolderKind, InventoryFault};
 use fab_looks::{Kind, list, list_ports};
 use fab_mapping::MappingFault;
@@ -34,31 +32,34 @@ enum Call {
     Lead,
 }
 
-/// The first plan is active, and there is a group without a volume.
-const GROUPED: &[Order<'static>] = &[
-    Order::Import(Fabric::A, PORTS),
-    Order::Put(HolderKind::Host, "db1", FIRST_INITIATOR, FIRST_INITIATOR),
-    Order::Put(HolderKind::Array, "arr1", FIRST_TARGET, FIRST_TARGET),
-    Order::Volume("v1"),
-    Order::Stage("p1", FIRST_PLAN),
-    Order::Activate("p1"),
-    Order::Stage("p2", "sg.new g2 blue arr1\n"),
-    Order::Activate("p2"),
+/// What a call is made with.
+#[derive(Clone, Copy)]
+struct Means<'a> {
+    heap: Heap<'a>,
+    policy: &'a Policy,
+}
+
+/// A call, and whether its world is new. It is grouped where it is not.
+type Case = (Call, bool);
+
+const CASES: &[Case] = &[
+    (Call::PutHolder, true),
+    (Call::Activate, false),
+    (Call::Map, false),
+    (Call::CopyInventory, false),
+    (Call::CopyConfig, false),
+    (Call::Zones, false),
+    (Call::Ports, false),
+    (Call::Lead, false),
 ];
 
-/// Each call, and what its world is made of.
-const CASES: &[Case<'static>] = &[
-    (Call::PutHolder, &[]),
-    (Call::Activate, GROUPED),
-    (Call::Map, GROUPED),
-    (Call::CopyInventory, GROUPED),
-    (Call::CopyConfig, GROUPED),
-    (Call::Zones, GROUPED),
-    (Call::Ports, GROUPED),
-    (Call::Lead, GROUPED),
-];
-
-type Case<'c> = (Call, &'c [Order<'c>]);
+/// The world of a call: a new one, or the first plan is done, and there is a group without a volume.
+fn begun<'a>(rt: &(impl Abort + AllocGlobal), heap: Heap<'a>, case: Case) -> World<Heap<'a>> {
+    if case.1 {
+        return World::new(heap);
+    }
+    made(rt, heap, &[FIRST_PLAN, "sg.new g2 blue arr1\n"])
+}
 
 /// Whether a call was accepted. Ends the test at another refusal than want of memory.
 fn accepted<E: PartialEq + Copy>(rt: &impl Abort, answer: Result<(), E>, memory: E) -> bool {
@@ -165,10 +166,10 @@ fn refuse<'a>(
     rt: &(impl Abort + AllocGlobal),
     means: Means<'a>,
     worlds: (&World<Heap<'a>>, &World<Heap<'a>>),
-    case: Case<'_>,
+    case: Case,
     requests: u64,
 ) -> (bool, bool) {
-    let mut world = made(rt, means, case.1);
+    let mut world = begun(rt, means.heap, case);
     refuse_beside(rt, means, worlds, &mut world, case.0, requests)
 }
 
@@ -180,7 +181,7 @@ fn refusals_beside<'a>(
     rt: &(impl Abort + AllocGlobal),
     means: Means<'a>,
     worlds: (&World<Heap<'a>>, &World<Heap<'a>>),
-    case: Case<'_>,
+    case: Case,
 ) -> u64 {
     let mut refusals = 0u64;
     for requests in 0..MOST {
@@ -198,20 +199,20 @@ fn refusals_from<'a>(
     rt: &(impl Abort + AllocGlobal),
     means: Means<'a>,
     before: &World<Heap<'a>>,
-    case: Case<'_>,
+    case: Case,
 ) -> u64 {
-    let other = made(rt, means, STAGED);
+    let other = made(rt, means.heap, &[]);
     refusals_beside(rt, means, (before, &other), case)
 }
 
 /// The same with an allocator of its own.
-fn refusals(rt: &(impl Abort + AllocGlobal), policy: &Policy, case: Case<'_>) -> u64 {
+fn refusals(rt: &(impl Abort + AllocGlobal), policy: &Policy, case: Case) -> u64 {
     let heap = Refusing::new(rt.alloc());
     let means = Means {
         heap: &heap,
         policy,
     };
-    refusals_from(rt, means, &made(rt, means, case.1), case)
+    refusals_from(rt, means, &begun(rt, means.heap, case), case)
 }
 
 #[test]

@@ -1,5 +1,6 @@
 //! The worked policy, which is also that of trials, and what it is where it is cut behind a byte.
-use fab_policy_base::{Policy, PolicyFault, TRIAL_POLICY};
+use fab_policy::base::TRIAL_POLICY;
+use fab_policy::{Policy, PolicyFault};
 use std::process::Abort;
 
 /// The worked policy.

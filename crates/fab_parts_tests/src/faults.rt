@@ -1,5 +1,5 @@
 //! The words for each fault of a policy's text.
-use fab_policy_base::Policy;
+use fab_policy::Policy;
 use std::process::Abort;
 
 /// Texts, and how the fault of each is told: three that are no TOML, and one for each other fault.

@@ -1,9 +1,8 @@
 //! Calls that take no memory: with the very next request refused, each does what it says, and no
 //! request was made. Those that are lent no allocator and keep none stand beside them.
 use crate::books::leads;
-use crate::desk::{
-    ACTIVE, ADA, FIRST_INITIATOR, FIRST_TARGET, Heap, Means, STAGED, made, named, read_policy,
-};
+use crate::named::named;
+use crate::worlds::{ADA, FIRST_PLAN, Heap, INITIATOR, TARGET, made, read_policy};
 use fab_names::{Fabric, Member, Name, NameFault, Place, Wwn};
 use fab_policy::{Act, Action, Policy, Verdict, decide};
 use fab_test_alloc::Refusing;
@@ -75,8 +74,8 @@ fn is_found(rt: &impl Abort, world: &World<Heap<'_>>) -> bool {
 
 /// Whether both ports are known and joined.
 fn is_joined(world: &World<Heap<'_>>) -> bool {
-    let one = world.inventory.port(&Wwn::new(FIRST_INITIATOR));
-    let other = world.inventory.port(&Wwn::new(FIRST_TARGET));
+    let one = world.inventory.port(&Wwn::new(INITIATOR));
+    let other = world.inventory.port(&Wwn::new(TARGET));
     match (one, other) {
         (Some(one), Some(other)) => world.config.a.joined(&one, &other).is_some(),
         _ => false,
@@ -87,16 +86,12 @@ fn is_joined(world: &World<Heap<'_>>) -> bool {
 fn no_memory_calls(rt: HostRuntime) {
     let policy = read_policy(&rt);
     let heap = Refusing::new(rt.alloc());
-    let means = Means {
-        heap: &heap,
-        policy: &policy,
-    };
-    let world = made(&rt, means, ACTIVE);
+    let world = made(&rt, &heap, &[FIRST_PLAN]);
     heap.refuse_after(0);
     assert!(rt; are_shown() && is_allowed(&policy));
     assert!(rt; is_found(&rt, &world) && is_joined(&world));
     assert!(rt; !heap.has_refused());
     heap.refuse_none();
-    let other = made(&rt, means, STAGED);
+    let other = made(&rt, &heap, &[]);
     assert!(rt; leads(&rt, &heap, &world, &other, true));
 }

@@ -3,7 +3,8 @@ ghost use Rattle.fab_reach_base.specs.Serving.{IsServing};
 ghost use Rattle.fab_reach_base.specs.Views.{seen};
 ghost use Rattle.fab_reach_books.specs.Rows.{IsRowDiff};
 
-use crate::desk::{Heap, named};
+use crate::named::named;
+use crate::worlds::Heap;
 use fab_reach::IndexBook;
 use fab_reach_base::View;
 use fab_reach_books::{PathBook, RowDiff, ViewSight, row_diff};

@@ -1,6 +1,7 @@
 //! Places that a step makes in an index: those that stay empty are taken out, and no others.
 
-use crate::desk::{Heap, named};
+use crate::named::named;
+use crate::worlds::Heap;
 use fab_reach_index::Index;
 use fab_test_alloc::Refusing;
 use std::collections::BTreeSet;
