@@ -40,6 +40,9 @@ pub trait Asked<A: Allocator + Copy, S>: Sized + Drop {
 
     fn is_halted(&self) -> bool;
 
+    /// How many pairs of ports it has asked about since it was opened.
+    fn pairs_asked(&self) -> u64;
+
     /// The store of a halted desk, which it hands out once.
     fn release(&mut self) -> Option<RefusingStore<S>>;
 
@@ -83,6 +86,10 @@ impl<A: Allocator + Copy, S: Store<A>> Asked<A, S> for Trial<A, S> {
 
     fn is_halted(&self) -> bool {
         self.desk.halted()
+    }
+
+    fn pairs_asked(&self) -> u64 {
+        self.desk.pairs_asked()
     }
 
     fn release(&mut self) -> Option<RefusingStore<S>> {

@@ -3,7 +3,8 @@
 //! What is answered then is want of memory, or that the store refused a call, and the same request is
 //! asked again with the next refusal: of the same desk, or of one that is opened anew over its tables,
 //! which have the rows that they had. Where a refusal is survived the answer is the worked one, and the
-//! next refusal is tried at a new desk. At last no refusal is met.
+//! next refusal is tried at a new desk. At last no refusal is met. Changes are also asked for with each
+//! request for memory from one on refused: what is ready and committed is taken over without memory.
 
 use crate::answers::{Asking, Came, ask, ask_each, asking_of};
 use crate::desks::{Asked, Trial, closed, opened};
@@ -12,8 +13,8 @@ use crate::worlds::{are_same, world_of};
 use fab_store::{RefusingStore, Store};
 use fab_test_alloc::Refusing;
 use fab_test_wire::rows::{
-    ALIAS_PUT_ANEW, APPROVALS, FIRST_PLAN, ROLLED_BACK, SECOND_PLAN, UNIT_CLASH, UNMAPPED,
-    VOLUME_GONE, WORLD,
+    ALIAS_PUT_ANEW, APPROVALS, FIRST_ACTIVATED, FIRST_PLAN, FIRST_STAGED, NO_PORTS, ROLLED_BACK,
+    SECOND_PLAN, UNIT_CLASH, UNMAPPED, VOLUME_GONE, WORLD,
 };
 use fab_world::World;
 use std::alloc::{Allocator, Global};
@@ -22,11 +23,15 @@ use std::process::Abort;
 /// More requests for memory than a request makes.
 const MOST: u64 = 100_000;
 
-/// Whether the desk stays after a refusal, or is opened anew.
+/// Whether one request for memory is refused, or each from one on, and whether the desk stays.
 #[derive(Clone, Copy)]
 enum Way {
+    /// One, and the desk stays.
     Stays,
+    /// One, and the desk is opened anew.
     Opened,
+    /// Each, and the desk stays.
+    Bare,
 }
 
 /// A request that is tried: what its desk was asked before it, and what becomes of the desk.
@@ -38,7 +43,7 @@ struct Case<'t> {
     asking: &'t Asking,
 }
 
-/// What came of a request, one of whose requests for memory was to be refused.
+/// What came of a request, of whose requests for memory one was to be refused, or each from one on.
 #[derive(Clone, Copy)]
 enum Answered {
     /// None was refused: it makes fewer.
@@ -49,16 +54,24 @@ enum Answered {
     Survived,
 }
 
-/// Serves the request while the request for memory of this number is refused.
+/// Has the request for memory of this number refused, or each from it on.
+fn refuse(refusing: &Refusing<Global>, way: Way, number: u64) {
+    match way {
+        Way::Stays | Way::Opened => refusing.refuse_after(number),
+        Way::Bare => refusing.refuse_all_after(number),
+    }
+}
+
+/// Serves the request of the case while the request for memory of this number is refused, or each from it on.
 fn came<A: Allocator + Copy, S, D: Asked<A, S>>(
     rt: &(impl Abort + AllocGlobal),
     refusing: &Refusing<Global>,
     desk: &mut D,
-    asking: &Asking,
+    case: Case<'_>,
     number: u64,
 ) -> Answered {
-    refusing.refuse_after(number);
-    let is_ample = matches!(ask(rt, desk, asking), Came::Told);
+    refuse(refusing, case.way, number);
+    let is_ample = matches!(ask(rt, desk, case.asking), Came::Told);
     let is_refused = refusing.has_refused();
     refusing.refuse_none();
     match (is_ample, is_refused) {
@@ -105,11 +118,11 @@ fn kept<A: Allocator + Copy, S, D: Asked<A, S>>(
     rt: &(impl Abort + AllocGlobal),
     refusing: &Refusing<Global>,
     desk: &mut D,
-    asking: &Asking,
+    case: Case<'_>,
     first: u64,
 ) -> Option<u64> {
     for number in first..MOST {
-        match came(rt, refusing, desk, asking, number) {
+        match came(rt, refusing, desk, case, number) {
             Answered::Whole => return end_after(rt, number),
             Answered::Survived => return Some(number.saturating_add(1)),
             Answered::Short => {}
@@ -125,12 +138,12 @@ fn reopened<A: Allocator + Copy, S: Store<A>, D: Asked<A, S>>(
     heap: A,
     refusing: &Refusing<Global>,
     desk: D,
-    asking: &Asking,
+    case: Case<'_>,
     first: u64,
 ) -> Option<u64> {
     let (before, mut desk) = with_world(rt, heap, desk);
     for number in first..MOST {
-        match came(rt, refusing, &mut desk, asking, number) {
+        match came(rt, refusing, &mut desk, case, number) {
             Answered::Whole => return end_after(rt, number),
             Answered::Survived => return Some(number.saturating_add(1)),
             Answered::Short => {}
@@ -164,8 +177,8 @@ fn tried<A: Allocator + Copy, S: Store<A>, D: Asked<A, S>>(
     ask_all(rt, &mut desk, case.lists);
     ask_each(rt, &mut desk, case.texts);
     match case.way {
-        Way::Stays => kept(rt, refusing, &mut desk, case.asking, first),
-        Way::Opened => reopened(rt, heap, refusing, desk, case.asking, first),
+        Way::Stays | Way::Bare => kept(rt, refusing, &mut desk, case, first),
+        Way::Opened => reopened(rt, heap, refusing, desk, case, first),
     }
 }
 
@@ -243,19 +256,32 @@ const ROWS: &[Row] = &[
     (&[WORLD, FIRST_PLAN, UNMAPPED], ROLLED_BACK),
 ];
 
+/// Requests that change something: imports and puts, an activation, a rollback.
+const CHANGES: &[Row] = &[
+    (&[], WORLD),
+    (&[WORLD, &[FIRST_STAGED]], &[FIRST_ACTIVATED]),
+    (&[WORLD, FIRST_PLAN], &[NO_PORTS]),
+    (&[WORLD, FIRST_PLAN, UNMAPPED], ROLLED_BACK),
+];
+
 /// Tries each request of each row.
-fn try_rows(rt: &(impl Abort + AllocGlobal), way: Way) {
-    for row in ROWS {
+fn try_rows(rt: &(impl Abort + AllocGlobal), way: Way, rows: &[Row]) {
+    for row in rows {
         try_row(rt, way, row);
     }
 }
 
 #[test]
 fn refused_growth_desk(rt: HostRuntime) {
-    try_rows(&rt, Way::Stays);
+    try_rows(&rt, Way::Stays, ROWS);
 }
 
 #[test]
 fn refused_growth_leaves_tables(rt: HostRuntime) {
-    try_rows(&rt, Way::Opened);
+    try_rows(&rt, Way::Opened, ROWS);
+}
+
+#[test]
+fn ready_changes_need_no_memory(rt: HostRuntime) {
+    try_rows(&rt, Way::Bare, CHANGES);
 }

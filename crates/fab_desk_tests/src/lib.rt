@@ -7,6 +7,8 @@
 #[cfg(test)]
 mod answers;
 #[cfg(test)]
+mod counted;
+#[cfg(test)]
 mod desks;
 #[cfg(test)]
 mod disks;

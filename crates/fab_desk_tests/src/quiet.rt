@@ -1,11 +1,15 @@
 //! Calls of a desk that take no memory: with the next request refused each tells what it does, and makes
-//! none.
+//! none. And the spare configuration, which a dry run, an activation and a put leave, and on which the steps of
+//! the next plan are done: a desk that was just opened has none, and copies the configuration.
 
+use crate::answers::{ask_each, ask_line};
 use crate::desks::{Asked, Trial, opened};
 use crate::tables::{Story, tell_in_memory};
+use crate::worlds::store_after;
 use fab_store::{RefusingStore, Store};
 use fab_test_alloc::Refusing;
 use std::alloc::{Allocator, Global};
+use std::fmt::Write;
 use std::process::Abort;
 
 /// Whether the desk tells its callers and that it serves, without memory.
@@ -37,4 +41,97 @@ fn no_memory_calls(rt: HostRuntime) {
         refusing: &refusing,
     };
     assert!(rt; tell_in_memory(&rt, &refusing, quiet));
+}
+
+#[test]
+fn all_requests_are_refused_after_as_many_as_told(rt: HostRuntime) {
+    let refusing = Refusing::new(rt.alloc());
+    refusing.refuse_all_after(3);
+    for request in 0..8u64 {
+        let is_given = Box::new(&refusing, 7u64).is_ok();
+        assert!(rt; is_given == (request < 3) && refusing.has_refused() == (request >= 3));
+    }
+}
+
+/// How many zones the configuration has. A copy makes a request for memory for each, for its members.
+const ZONES: u64 = 64;
+
+/// The plan of the zones is activated.
+const ACTIVATED: &str =
+    r#"ada POST /plans/p1/activate -> 200 OK: {"gained":[],"lost":[],"plan":"p1","revision":1}"#;
+
+/// A small plan is staged, and tried.
+const STAGED: &str = r#"ada PUT /plans/p2 default A permit
+ -> 200 OK: {"plan":"p2","steps":1}"#;
+
+const TRIED: &str = r#"ada GET /plans/p2/dryrun -> 200 OK: {"gained":[],"lost":[],"plan":"p2"}"#;
+
+/// A host is put.
+const PUT: &str = r#"ada PUT /hosts/db1 {"ports":[],"tenant":"blue"} -> 200 OK: {"revision":2}"#;
+
+/// What a desk is asked before it is opened anew, and then, and whether it copies the configuration next.
+const CASES: &[(&[&str], &[&str], bool)] = &[
+    (&[STAGED, ACTIVATED], &[], true),
+    (&[STAGED, ACTIVATED], &[TRIED], false),
+    (&[STAGED, ACTIVATED], &[TRIED, PUT], false),
+    (&[STAGED], &[ACTIVATED], false),
+    (&[STAGED], &[TRIED, ACTIVATED], false),
+];
+
+/// The request that stages a plan of the zones.
+fn zones_staged(rt: &(impl Abort + AllocGlobal)) -> String {
+    let mut line = String::new(rt.alloc());
+    write!(line, "ada PUT /plans/p1 ").expect(rt, "memory");
+    for number in 0..ZONES {
+        write!(line, "zone.put A z{number} dp=1,1\n").expect(rt, "memory");
+    }
+    write!(line, " -> 200 OK: {{\"plan\":\"p1\",\"steps\":{ZONES}}}").expect(rt, "memory");
+    line
+}
+
+/// Whether the desk, asked these, makes more requests for memory than there are zones to try the small plan.
+fn is_copied<A: Allocator + Copy, S, D: Asked<A, S>>(
+    rt: &(impl Abort + AllocGlobal),
+    refusing: &Refusing<Global>,
+    desk: &mut D,
+    lines: &[&str],
+) -> bool {
+    ask_each(rt, desk, lines);
+    refusing.refuse_after(ZONES);
+    let _came = ask_line(rt, desk, TRIED);
+    let is_copied = refusing.has_refused();
+    refusing.refuse_none();
+    is_copied
+}
+
+/// Whether a desk that has the plan of the zones does.
+#[derive(Clone, Copy)]
+struct Copied<'t> {
+    refusing: &'t Refusing<Global>,
+    before: &'t [&'t str],
+    behind: &'t [&'t str],
+}
+
+impl<A: Allocator + Copy> Story<A> for Copied<'_> {
+    type Told = bool;
+
+    fn tell<R: Abort + AllocGlobal, S: Store<A>>(self, rt: &R, heap: A, store: S) -> bool {
+        let mut new: Trial<A, S> = opened(rt, heap, RefusingStore::new(store, u64::MAX));
+        ask_each(rt, &mut new, &[zones_staged(rt).as_str()]);
+        let mut desk: Trial<A, S> = opened(rt, heap, store_after(rt, new, self.before));
+        is_copied(rt, self.refusing, &mut desk, self.behind)
+    }
+}
+
+#[test]
+fn a_spare_configuration_is_left(rt: HostRuntime) {
+    let refusing = Refusing::new(rt.alloc());
+    for (before, behind, is_copied) in CASES {
+        let copied = Copied {
+            refusing: &refusing,
+            before: *before,
+            behind: *behind,
+        };
+        assert!(rt; tell_in_memory(&rt, &refusing, copied) == *is_copied);
+    }
 }

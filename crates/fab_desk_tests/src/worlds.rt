@@ -51,7 +51,7 @@ struct Answered<'t> {
 }
 
 /// The store of the desk, which has answered these.
-fn store_after<A: Allocator + Copy, S, D: Asked<A, S>>(
+pub fn store_after<A: Allocator + Copy, S, D: Asked<A, S>>(
     rt: &(impl Abort + AllocGlobal),
     desk: D,
     lines: &[&str],

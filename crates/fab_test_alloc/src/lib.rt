@@ -1,4 +1,4 @@
-//! An allocator for tests, which refuses one chosen request for memory.
+//! An allocator for tests, which refuses one chosen request for memory, or each from a chosen one on.
 //!
 //! A test hands `&Refusing<Global>` to what it tests in the place of a `Global`: a `&` to an
 //! allocator is an allocator, and it may be copied. The test has the first request of a call
@@ -17,6 +17,9 @@
 //!     // the answer for want of memory, and what stands after it
 //! }
 //! ```
+//!
+//! With `refuse_all_after` in the place of `refuse_after` each request from the chosen one on is
+//! refused: a call that has begun to change something then finds no memory for the rest.
 #![tactic(auto)]
 
 ghost use Rattle.std.specs.Prelude.{◌≡◌};
@@ -28,7 +31,8 @@ use std::alloc::{AllocError, Allocator};
 use std::cell::Cell;
 use std::marker::Model;
 
-/// Passes requests for memory on to another allocator, except for one that it is told to refuse.
+/// Passes requests for memory on to another allocator, except for one that it is told to refuse, or
+/// for all from that one on.
 ///
 /// A request is a call of `allocate`, as a collection makes for its first block, and for a block
 /// that is to grow or to shrink. A refused request answers `AllocError`, and the other allocator
@@ -69,6 +73,13 @@ impl<B> Refusing<B> {
         self.plan.set(Plan::RefuseAfter(requests));
     }
 
+    /// From now on passes `requests` requests on, and refuses all further ones.
+    ///
+    /// This takes the place of what it was told before, and an earlier refusal is forgotten.
+    pub fn refuse_all_after(&self, requests: u64) {
+        self.plan.set(Plan::RefuseAllAfter(requests));
+    }
+
     /// From now on passes every request on.
     ///
     /// This takes the place of what it was told before, and an earlier refusal is forgotten.
@@ -78,7 +89,7 @@ impl<B> Refusing<B> {
 
     /// Whether it has refused a request since it was made or last told what to refuse.
     pub fn has_refused(&self) -> bool {
-        matches!(self.plan.get(), Plan::Refused)
+        self.plan.get().has_refused()
     }
 }
 

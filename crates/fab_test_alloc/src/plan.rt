@@ -1,7 +1,7 @@
-//! Which of the coming requests is refused.
+//! Which of the coming requests are refused.
 
-ghost use Rattle.std.specs.Prelude.{◌≡◌, ℕ, ◌+◌, ◌↔◌, ◌⊎◌, IsTrue};
-ghost use Rattle.fab_test_alloc.specs.Plans.{RefusesAfter};
+ghost use Rattle.std.specs.Prelude.{ℕ, ◌+◌, ◌↔◌, ◌⊎◌, IsTrue};
+ghost use Rattle.fab_test_alloc.specs.Plans.{HasRefused, RefusesAfter};
 
 use std::cell::Cell;
 
@@ -14,6 +14,10 @@ pub enum Plan {
     RefuseAfter(u64),
     /// A request was refused; every further one is passed on.
     Refused,
+    /// Each request that comes after this many others is refused.
+    RefuseAllAfter(u64),
+    /// A request was refused; every further one is refused too.
+    RefusesAll,
 }
 
 impl Plan {
@@ -21,18 +25,30 @@ impl Plan {
     fn is_due(self) -> bool
         ensures { IsTrue result ↔ RefusesAfter self 0 }
     {
-        matches!(self, Plan::RefuseAfter(0))
+        matches!(
+            self,
+            Plan::RefuseAfter(0) | Plan::RefuseAllAfter(0) | Plan::RefusesAll
+        )
+    }
+
+    /// Whether a request was refused.
+    pub fn has_refused(self) -> bool
+        ensures { IsTrue result ↔ HasRefused self }
+    {
+        matches!(self, Plan::Refused | Plan::RefusesAll)
     }
 
     /// What is still to be refused once the next request was passed on or refused.
     fn behind_next(self) -> Plan
         ensures rest { (n : ℕ) → (RefusesAfter result n ↔ RefusesAfter self (n + 1)) }
-        ensures refused { (result ≡ Plan.Refused) ↔ ((self ≡ Plan.Refused) ⊎ RefusesAfter self 0) }
+        ensures refused { HasRefused result ↔ (HasRefused self ⊎ RefusesAfter self 0) }
     {
         match self {
             Plan::PassAll => Plan::PassAll,
             Plan::RefuseAfter(0) | Plan::Refused => Plan::Refused,
             Plan::RefuseAfter(requests) => Plan::RefuseAfter(requests - 1),
+            Plan::RefuseAllAfter(0) | Plan::RefusesAll => Plan::RefusesAll,
+            Plan::RefuseAllAfter(requests) => Plan::RefuseAllAfter(requests - 1),
         }
     }
 }

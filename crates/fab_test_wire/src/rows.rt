@@ -55,6 +55,10 @@ pub const FIRST_PLAN: &[&str] = &[
     FIRST_JOINED,
 ];
 
+/// The import of a header alone after the first plan.
+pub const NO_PORTS: &str = r#"ada POST /imports/A port_name,node_name,domain,port
+ -> 200 OK: {"revision":8}"#;
+
 /// An alias put anew moves no path before the set is activated again.
 pub const ALIAS_PUT_ANEW: &[&str] = &[
     r#"ada PUT /plans/p2 alias.put A disk wwpn=50:00:00:00:00:00:00:02
@@ -63,6 +67,31 @@ pub const ALIAS_PUT_ANEW: &[&str] = &[
     r#"ada PUT /plans/p3 activate A s1
  -> 200 OK: {"plan":"p3","steps":1}"#,
     r#"ada POST /plans/p3/activate -> 200 OK: {"gained":[],"lost":[{"fabric":"A","initiator":"10:00:00:00:00:00:00:01","lun":0,"target":"50:00:00:00:00:00:00:01","volume":"v1"}],"plan":"p3","revision":9}"#,
+];
+
+/// A second zone of the path's ports beside the first, and then alone: a path stays while one is active.
+pub const ANOTHER_CAUSE: &[&str] = &[
+    r#"ada PUT /plans/p2 zone.put A z2 wwpn=10:00:00:00:00:00:00:01 wwpn=50:00:00:00:00:00:00:01
+set.put A s1 z1 z2
+activate A s1
+ -> 200 OK: {"plan":"p2","steps":3}"#,
+    r#"ada POST /plans/p2/activate -> 200 OK: {"gained":[],"lost":[],"plan":"p2","revision":8}"#,
+    r#"ada PUT /plans/p3 set.put A s2 z2
+activate A s2
+ -> 200 OK: {"plan":"p3","steps":2}"#,
+    r#"ada POST /plans/p3/activate -> 200 OK: {"gained":[],"lost":[],"plan":"p3","revision":9}"#,
+];
+
+/// The default zone permits, and the group has the other target; then the initiator is in no zone.
+pub const DEFAULT_ZONE: &[&str] = &[
+    r#"ada PUT /plans/p2 default A permit
+sg.target g1 50:00:00:00:00:00:00:02
+ -> 200 OK: {"plan":"p2","steps":2}"#,
+    r#"ada POST /plans/p2/activate -> 200 OK: {"gained":[],"lost":[],"plan":"p2","revision":8}"#,
+    r#"ada PUT /plans/p3 zone.put A z1 alias=disk
+activate A s1
+ -> 200 OK: {"plan":"p3","steps":2}"#,
+    r#"ada POST /plans/p3/activate -> 200 OK: {"gained":[{"fabric":"A","initiator":"10:00:00:00:00:00:00:01","lun":0,"target":"50:00:00:00:00:00:00:02","volume":"v1"}],"lost":[{"fabric":"A","initiator":"10:00:00:00:00:00:00:01","lun":0,"target":"50:00:00:00:00:00:00:01","volume":"v1"}],"plan":"p3","revision":9}"#,
 ];
 
 /// The second worked plan after the first: the second host gets the second volume, by a zone of a
@@ -80,6 +109,15 @@ sg.expose g2
  -> 200 OK: {"plan":"p2","steps":9}"#,
     r#"ada POST /plans/p2/activate -> 200 OK: {"gained":[{"fabric":"A","initiator":"10:00:00:00:00:00:00:02","lun":0,"target":"50:00:00:00:00:00:00:01","volume":"v2"},{"fabric":"A","initiator":"10:00:00:00:00:00:00:03","lun":0,"target":"50:00:00:00:00:00:00:01","volume":"v2"}],"lost":[],"plan":"p2","revision":8}"#,
 ];
+
+/// The world's import again after the second plan.
+pub const PORTS_AGAIN: &str = r#"ada POST /imports/A port_name,node_name,domain,port
+10:00:00:00:00:00:00:01,20:00:00:00:00:00:00:01,1,1
+10:00:00:00:00:00:00:02,20:00:00:00:00:00:00:02,12,5
+10:00:00:00:00:00:00:03,20:00:00:00:00:00:00:03,12,5
+50:00:00:00:00:00:00:01,50:00:00:00:00:00:00:00,1,2
+50:00:00:00:00:00:00:02,50:00:00:00:00:00:00:00,1,3
+ -> 200 OK: {"revision":9}"#;
 
 /// A zone of a node after the second plan, by which both its ports communicate.
 pub const NODE_ZONED: &[&str] = &[
@@ -158,4 +196,49 @@ pub const FIRST_UNDONE: &[&str] = &[
     r#"ada GET /joined/10:00:00:00:00:00:00:01/50:00:00:00:00:00:00:01 -> 200 OK: {"joined":false}"#,
     r#"ada GET /groups/g1 -> 404 Not Found: {"code":9,"error":"not-found"}"#,
     r#"ada DELETE /hosts/db1 -> 200 OK: {"revision":11}"#,
+];
+
+/// The address of the first initiator after the first plan: it is told, and told in another way, and a zone
+/// has it in place of the port.
+pub const ADDRESS_TOLD: &[&str] = &[
+    r#"ada POST /imports/A port_name,node_name,domain,port,address
+10:00:00:00:00:00:00:01,20:00:00:00:00:00:00:01,1,1,010100
+10:00:00:00:00:00:00:02,20:00:00:00:00:00:00:02,12,5,
+10:00:00:00:00:00:00:03,20:00:00:00:00:00:00:03,12,5,
+50:00:00:00:00:00:00:01,50:00:00:00:00:00:00:00,1,2,
+50:00:00:00:00:00:00:02,50:00:00:00:00:00:00:00,1,3,
+ -> 200 OK: {"revision":8}"#,
+    r#"ada POST /imports/A port_name,node_name,domain,port,address
+10:00:00:00:00:00:00:01,20:00:00:00:00:00:00:01,1,1,0x010100
+10:00:00:00:00:00:00:02,20:00:00:00:00:00:00:02,12,5,
+10:00:00:00:00:00:00:03,20:00:00:00:00:00:00:03,12,5,
+50:00:00:00:00:00:00:01,50:00:00:00:00:00:00:00,1,2,
+50:00:00:00:00:00:00:02,50:00:00:00:00:00:00:00,1,3,
+ -> 200 OK: {"revision":9}"#,
+    r#"ada PUT /plans/p2 zone.put A z1 id=010100 alias=disk
+activate A s1
+ -> 200 OK: {"plan":"p2","steps":2}"#,
+    r#"ada POST /plans/p2/activate -> 200 OK: {"gained":[],"lost":[],"plan":"p2","revision":10}"#,
+];
+
+/// After that it changes, and is left out; then the zone has the port again.
+pub const ADDRESS_CHANGED: &[&str] = &[
+    r#"ada POST /imports/A port_name,node_name,domain,port,address
+10:00:00:00:00:00:00:01,20:00:00:00:00:00:00:01,1,1,010101
+10:00:00:00:00:00:00:02,20:00:00:00:00:00:00:02,12,5,
+10:00:00:00:00:00:00:03,20:00:00:00:00:00:00:03,12,5,
+50:00:00:00:00:00:00:01,50:00:00:00:00:00:00:00,1,2,
+50:00:00:00:00:00:00:02,50:00:00:00:00:00:00:00,1,3,
+ -> 200 OK: {"revision":11}"#,
+    r#"ada POST /imports/A port_name,node_name,domain,port
+10:00:00:00:00:00:00:01,20:00:00:00:00:00:00:01,1,1
+10:00:00:00:00:00:00:02,20:00:00:00:00:00:00:02,12,5
+10:00:00:00:00:00:00:03,20:00:00:00:00:00:00:03,12,5
+50:00:00:00:00:00:00:01,50:00:00:00:00:00:00:00,1,2
+50:00:00:00:00:00:00:02,50:00:00:00:00:00:00:00,1,3
+ -> 200 OK: {"revision":12}"#,
+    r#"ada PUT /plans/p3 zone.put A z1 wwpn=10:00:00:00:00:00:00:01 alias=disk
+activate A s1
+ -> 200 OK: {"plan":"p3","steps":2}"#,
+    r#"ada POST /plans/p3/activate -> 200 OK: {"gained":[{"fabric":"A","initiator":"10:00:00:00:00:00:00:01","lun":0,"target":"50:00:00:00:00:00:00:01","volume":"v1"}],"lost":[],"plan":"p3","revision":13}"#,
 ];
