@@ -58,19 +58,21 @@ fn count_each<A: Allocator + Copy, S, D: Asked<A, S>>(
     }
 }
 
-/// The same of each part of a story.
-fn count_all<A: Allocator + Copy, S, D: Asked<A, S>>(
+/// The same of each part of a story, in the worked world.
+fn count_all<A: Allocator + Copy, S: Store<A>, D: Asked<A, S>>(
     rt: &(impl Abort + AllocGlobal),
-    desk: &mut D,
+    desk: D,
     parts: &[Part],
 ) {
+    let mut desk = desk;
+    ask_each(rt, &mut desk, WORLD);
     for part in parts {
         assert_eq!(rt; part.0.len(), part.1.len());
-        count_each(rt, desk, *part);
+        count_each(rt, &mut desk, *part);
     }
 }
 
-/// A story, told to a new desk of the worked world.
+/// A story, told to a new desk.
 #[derive(Clone, Copy)]
 struct Counted {
     parts: &'static [Part],
@@ -80,9 +82,8 @@ impl<A: Allocator + Copy> Story<A> for Counted {
     type Told = ();
 
     fn tell<R: Abort + AllocGlobal, S: Store<A>>(self, rt: &R, heap: A, store: S) {
-        let mut desk: Trial<A, S> = opened(rt, heap, RefusingStore::new(store, u64::MAX));
-        ask_each(rt, &mut desk, WORLD);
-        count_all(rt, &mut desk, self.parts);
+        let desk: Trial<A, S> = opened(rt, heap, RefusingStore::new(store, u64::MAX));
+        count_all(rt, desk, self.parts);
     }
 }
 

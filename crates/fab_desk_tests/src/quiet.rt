@@ -1,8 +1,7 @@
 //! Calls of a desk that take no memory: with the next request refused each tells what it does, and makes
-//! none. And the spare configuration, which a dry run, an activation and a put leave, and on which the steps of
-//! the next plan are done: a desk that was just opened has none, and copies the configuration.
+//! none. And the spare configuration, which is left for the steps of the next plan: they copy none.
 
-use crate::answers::{ask_each, ask_line};
+use crate::answers::{Came, ask_each, ask_line};
 use crate::desks::{Asked, Trial, opened};
 use crate::tables::{Story, tell_in_memory};
 use crate::worlds::store_after;
@@ -43,16 +42,6 @@ fn no_memory_calls(rt: HostRuntime) {
     assert!(rt; tell_in_memory(&rt, &refusing, quiet));
 }
 
-#[test]
-fn all_requests_are_refused_after_as_many_as_told(rt: HostRuntime) {
-    let refusing = Refusing::new(rt.alloc());
-    refusing.refuse_all_after(3);
-    for request in 0..8u64 {
-        let is_given = Box::new(&refusing, 7u64).is_ok();
-        assert!(rt; is_given == (request < 3) && refusing.has_refused() == (request >= 3));
-    }
-}
-
 /// How many zones the configuration has. A copy makes a request for memory for each, for its members.
 const ZONES: u64 = 64;
 
@@ -69,7 +58,7 @@ const TRIED: &str = r#"ada GET /plans/p2/dryrun -> 200 OK: {"gained":[],"lost":[
 /// A host is put.
 const PUT: &str = r#"ada PUT /hosts/db1 {"ports":[],"tenant":"blue"} -> 200 OK: {"revision":2}"#;
 
-/// What a desk is asked before it is opened anew, and then, and whether it copies the configuration next.
+/// What a desk is asked behind the plan of the zones, and once it is opened anew, and whether it has no spare then.
 const CASES: &[(&[&str], &[&str], bool)] = &[
     (&[STAGED, ACTIVATED], &[], true),
     (&[STAGED, ACTIVATED], &[TRIED], false),
@@ -80,8 +69,7 @@ const CASES: &[(&[&str], &[&str], bool)] = &[
 
 /// The request that stages a plan of the zones.
 fn zones_staged(rt: &(impl Abort + AllocGlobal)) -> String {
-    let mut line = String::new(rt.alloc());
-    write!(line, "ada PUT /plans/p1 ").expect(rt, "memory");
+    let mut line = String::from_str(rt.alloc(), "ada PUT /plans/p1 ").expect(rt, "memory");
     for number in 0..ZONES {
         write!(line, "zone.put A z{number} dp=1,1\n").expect(rt, "memory");
     }
@@ -89,22 +77,34 @@ fn zones_staged(rt: &(impl Abort + AllocGlobal)) -> String {
     line
 }
 
+/// The desk, to which the plan of the zones is staged.
+fn with_zones<A: Allocator + Copy, S: Store<A>, D: Asked<A, S>>(
+    rt: &(impl Abort + AllocGlobal),
+    desk: D,
+) -> D {
+    let mut desk = desk;
+    let came = ask_line(rt, &mut desk, zones_staged(rt).as_str());
+    assert!(rt; matches!(came, Came::Told));
+    desk
+}
+
 /// Whether the desk, asked these, makes more requests for memory than there are zones to try the small plan.
-fn is_copied<A: Allocator + Copy, S, D: Asked<A, S>>(
+fn is_copied<A: Allocator + Copy, S: Store<A>, D: Asked<A, S>>(
     rt: &(impl Abort + AllocGlobal),
     refusing: &Refusing<Global>,
-    desk: &mut D,
+    desk: D,
     lines: &[&str],
 ) -> bool {
-    ask_each(rt, desk, lines);
+    let mut desk = desk;
+    ask_each(rt, &mut desk, lines);
     refusing.refuse_after(ZONES);
-    let _came = ask_line(rt, desk, TRIED);
+    let _came = ask_line(rt, &mut desk, TRIED);
     let is_copied = refusing.has_refused();
     refusing.refuse_none();
     is_copied
 }
 
-/// Whether a desk that has the plan of the zones does.
+/// Whether a desk does that was asked these before it was opened anew.
 #[derive(Clone, Copy)]
 struct Copied<'t> {
     refusing: &'t Refusing<Global>,
@@ -116,10 +116,10 @@ impl<A: Allocator + Copy> Story<A> for Copied<'_> {
     type Told = bool;
 
     fn tell<R: Abort + AllocGlobal, S: Store<A>>(self, rt: &R, heap: A, store: S) -> bool {
-        let mut new: Trial<A, S> = opened(rt, heap, RefusingStore::new(store, u64::MAX));
-        ask_each(rt, &mut new, &[zones_staged(rt).as_str()]);
-        let mut desk: Trial<A, S> = opened(rt, heap, store_after(rt, new, self.before));
-        is_copied(rt, self.refusing, &mut desk, self.behind)
+        let new: Trial<A, S> = opened(rt, heap, RefusingStore::new(store, u64::MAX));
+        let store = store_after(rt, with_zones(rt, new), self.before);
+        let desk: Trial<A, S> = opened(rt, heap, store);
+        is_copied(rt, self.refusing, desk, self.behind)
     }
 }
 

@@ -6,10 +6,10 @@ ghost use Rattle.fab_program_desks.specs.Tables.{AreNewTables};
 ghost use Rattle.fab_program_outside.specs.Coming.{After, Then};
 ghost use Rattle.fab_program_desks.specs.Once.{ComesOnce, IsServedAt, IsServedOver, ServesIt, ended};
 
-use fab_files::End;
-use fab_policy_base::{Policy, TRIAL_POLICY};
 use crate::database::{Databases, ProgramDesk, desk_over};
 use crate::machine::new_tables;
+use fab_files::End;
+use fab_policy_base::{Policy, TRIAL_POLICY};
 use fab_program_outside::{Fault, Files, policy_from, policy_of};
 use fab_program_words::{Once, Over};
 use fab_store::{SqlStore, Store};

@@ -6,11 +6,11 @@ ghost use Rattle.fab_wire_serving.specs.Turns.{Gives};
 ghost use Rattle.fab_program_desks.specs.Databases.{IsAgain};
 ghost use Rattle.fab_program_desks.specs.Servings.{AreServed, ComesServing, IsServedAt, IsServedBy, IsServedOver, served};
 
+use crate::addresses::Addresses;
+use crate::database::{Databases, ProgramDesk, desk_over, tables_again};
 use crate::front::Front;
 use fab_files::End;
 use fab_policy_base::Policy;
-use crate::addresses::Addresses;
-use crate::database::{Databases, ProgramDesk, desk_over, tables_again};
 use fab_program_outside::{Fault, Files, policy_of};
 use fab_program_words::Serve;
 use fab_store::{OpenFault, Store};

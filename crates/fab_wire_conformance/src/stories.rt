@@ -86,21 +86,13 @@ fn opened<T: Tables>(
 }
 
 /// The tables behind statements of somebody else, of which nothing comes.
-fn changed_by<T: Tables>(
-    alloc: Global,
-    tables: T,
-    step: &Step,
-) -> Result<(String, T), Fault> {
+fn changed_by<T: Tables>(alloc: Global, tables: T, step: &Step) -> Result<(String, T), Fault> {
     let tables = tables.changed(alloc, asked(step)?);
     Ok((String::new(alloc), tables.ok_or(Fault::Undone(step.line))?))
 }
 
 /// The rows that a query shows, and the tables.
-fn shown_by<T: Tables>(
-    alloc: Global,
-    tables: T,
-    step: &Step,
-) -> Result<(String, T), Fault> {
+fn shown_by<T: Tables>(alloc: Global, tables: T, step: &Step) -> Result<(String, T), Fault> {
     let mut rows = String::new(alloc);
     let tables = tables.shown(alloc, asked(step)?, &mut rows);
     Ok((rows, tables.ok_or(Fault::Undone(step.line))?))
