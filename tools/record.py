@@ -33,7 +33,7 @@ A list has a line for each of these:
     ? QUERY                               it shows these rows:
     - ROW
 
-The words of `^`, `&` and `*` are those of `crates/fab_wire_conformance/src/texts.rt`.
+The words of `^`, `&` and `*` are those of `crates/fab_worlds_players/src/texts.rt`.
 
 A `|`, `>`, `;`, `?` or `-` line stands for its text and a line feed; `\\r` is CR, `\\\\` a backslash, `\\xHH` any byte,
 and a `\\` at the end means that no line feed follows. For instance

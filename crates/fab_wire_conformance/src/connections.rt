@@ -2,13 +2,13 @@
 //! of them fails, and how the connection has to end then.
 
 use crate::desks::Tables;
-use crate::scenarios::Exchange;
 use fab_reach::PathBook;
 use fab_test_wire::streams::{Breaking, Slow};
 use fab_wire::laws::{Connection, Served};
 use fab_wire::{Desk, Outcome, serve_one};
 use fab_wire_base::routes::Routes;
 use fab_wire_streams::counted::Counted;
+use fab_worlds_players::Exchange;
 use std::alloc::Global;
 
 /// A connection that waits.

@@ -1,11 +1,10 @@
 //! Desks over tables in memory, and the tables behind them.
 
-use crate::faults::Fault;
-use crate::scenarios::Scenario;
 use fab_policy_base::Policy;
 use fab_reach::PathBook;
 use fab_store::{OpenFault, RefusingStore, SqlStore, Store};
 use fab_wire::Desk;
+use fab_worlds_players::{Fault, Scenario};
 use sqlite::{Alter, Connection, Error};
 use std::alloc::Global;
 use std::str;

@@ -24,8 +24,8 @@
 //! book asks about every pair of ports, which has to answer as the other; and each by a desk that is opened
 //! anew over the tables, which have to have what was answered before. A story of tables is played in the first
 //! way alone. For each file a line says how many answers are as recorded. The form of a file of exchanges is told in
-//! `texts`; a line that is not of its form ends the player, which tells the file and the line on standard
-//! error, with status 3. So does a policy that is none.
+//! `texts` of that crate; a line that is not of its form ends the player, which tells the file and the line on
+//! standard error, with status 3. So does a policy that is none.
 //!
 //! An answer that differs is told on standard output, beside the one that is recorded, with its line, and the
 //! status is 1: `CONTRIBUTING.md` shows how it is read.
@@ -37,20 +37,15 @@
 
 mod connections;
 mod desks;
-mod faults;
 mod playing;
 mod rounds;
-mod scenarios;
 mod stories;
 mod telling;
-mod texts;
 mod ways;
 
 use fab_wire_base::routes::Routes;
-use fab_worlds_players::{Tally, Undone, histories, looks};
-use faults::Fault;
+use fab_worlds_players::{Fault, Tally, histories, looks, scenarios_of};
 use rounds::play_in_each_way;
-use scenarios::scenarios_of;
 use std::process::ExitCode;
 use std::{env, fs};
 
@@ -65,19 +60,11 @@ fn play_exchanges(
     play_in_each_way(rt, routes, path, scenarios.as_slice())
 }
 
-/// Why worlds or histories are not played to their end.
-fn undone(why: Undone) -> Fault {
-    match why {
-        Undone::Memory => Fault::Memory,
-        Undone::Line(line) => Fault::Undone(line),
-    }
-}
-
 /// Plays the text of a file: worlds and histories by their names, and else exchanges.
 fn play_text(rt: &HostRuntime, routes: &Routes, path: &str, text: &str) -> Result<Tally, Fault> {
     match path {
-        "worlds.txt" => looks::play(rt, path, text).map_err(undone),
-        "histories.txt" => histories::play(rt, path, text).map_err(undone),
+        "worlds.txt" => looks::play(rt, path, text),
+        "histories.txt" => histories::play(rt, path, text),
         _ => play_exchanges(rt, routes, path, text),
     }
 }

@@ -2,8 +2,6 @@
 
 use crate::connections::{End, Ending, Waiting, connection_of, serve};
 use crate::desks::{Tables, open};
-use crate::faults::Fault;
-use crate::scenarios::{Exchange, Scenario};
 use crate::telling::{Place, tell};
 use crate::ways::Way;
 use fab_reach::{IndexBook, PathBook};
@@ -12,7 +10,7 @@ use fab_store::OpenFault;
 use fab_wire::Desk;
 use fab_wire::laws::serve_all;
 use fab_wire_base::routes::Routes;
-use fab_worlds_players::Tally;
+use fab_worlds_players::{Exchange, Fault, Scenario, Tally};
 use std::alloc::Global;
 
 /// In how many parts a request comes: a read fails before each of them, and behind the last.

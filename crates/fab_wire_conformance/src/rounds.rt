@@ -1,13 +1,11 @@
 //! The scenarios of a file, each played in each way.
 
 use crate::desks::{Tables, new_tables};
-use crate::faults::Fault;
 use crate::playing::{Part, play_scenario};
-use crate::scenarios::Scenario;
 use crate::stories::play_story;
 use crate::ways::{WAYS, Way};
 use fab_wire_base::routes::Routes;
-use fab_worlds_players::Tally;
+use fab_worlds_players::{Fault, Scenario, Tally};
 use sqlite::{Alter, Connection};
 
 /// How many bytes a request of a scenario has at most that is played over the plain book.

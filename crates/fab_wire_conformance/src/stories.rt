@@ -1,13 +1,11 @@
 //! Stories of tables: what comes of each step is compared with what is recorded.
 
 use crate::desks::{Came, Tables, migrate};
-use crate::faults::Fault;
 use crate::playing::{Part, serve_by, visit};
-use crate::scenarios::{Act, Step};
 use crate::telling::tell_step;
 use fab_store::OpenFault;
 use fab_wire_base::routes::Routes;
-use fab_worlds_players::Tally;
+use fab_worlds_players::{Act, Fault, Step, Tally};
 use std::alloc::Global;
 use std::fmt::Write;
 use std::str;

@@ -1,44 +1,7 @@
 //! How an answer that differs is told: in the form of the files.
 
 use crate::connections::Ending;
-use crate::faults::Fault;
-use crate::scenarios::Step;
-use std::alloc::Global;
-use std::fmt::Write;
-
-/// Adds what stands for a byte.
-fn push_byte(text: &mut String, byte: u8) -> Result<(), Fault> {
-    match byte {
-        b'\n' => text.push('\n')?,
-        b'\r' => text.push_str("\\r")?,
-        b'\\' => text.push_str("\\\\")?,
-        b' '..=b'~' => text.push(char::from(byte))?,
-        _ => {
-            if write!(text, "\\x{byte:02x}").is_err() {
-                return Err(Fault::Memory);
-            }
-        }
-    }
-    Ok(())
-}
-
-/// The lines that stand for the bytes of an answer, each behind its mark.
-fn lines_of(alloc: Global, mark: char, bytes: &[u8]) -> Result<String, Fault> {
-    let mut text = String::new(alloc);
-    let mut is_begun = false;
-    for &byte in bytes {
-        if !is_begun {
-            text.push(mark)?;
-            text.push(' ')?;
-        }
-        push_byte(&mut text, byte)?;
-        is_begun = byte != b'\n';
-    }
-    if is_begun {
-        text.push_str("\\\n")?;
-    }
-    Ok(text)
-}
+use fab_worlds_players::{Fault, Step, lines_of};
 
 /// Where an answer differs: the file and the line at which its exchange begins, the scenario, the
 /// request's number in it from 1 on, and the words of the way in which it was played.

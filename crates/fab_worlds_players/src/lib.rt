@@ -1,15 +1,19 @@
-//! Players of worlds of which it is known what callers have to be told, and of histories of which it is known
-//! whether a desk opens with them. Both texts are made by scripts from the definitions alone, and never by what is
-//! played here. Nothing here is part of the product.
+//! What recorded texts tell: the scenarios of recorded exchanges; and players of worlds of which it is known what
+//! callers have to be told, and of histories of which it is known whether a desk opens with them. No text is made by
+//! what is played. Nothing here is part of the product.
 //!
 //! What differs is told on standard output with its file and the number of its line; a line that is not of the
-//! form that `looks` and `histories` tell, or that can not be done, ends a player.
+//! form that `texts`, `looks` and `histories` tell, or that can not be done, ends a player.
 #![tactic(auto)]
 
+mod faults;
 pub mod histories;
 pub mod looks;
+mod scenarios;
 mod tally;
-mod undone;
+mod texts;
 
+pub use faults::Fault;
+pub use scenarios::{Act, Exchange, Scenario, Step, scenarios_of};
 pub use tally::Tally;
-pub use undone::Undone;
+pub use texts::lines_of;

@@ -2,7 +2,7 @@
 
 use super::answers::{Answer, first_scarce, loading, word_of};
 use super::making::{begin, hold, no_rows, put_config, put_plan, put_volume, row_of};
-use crate::{Tally, Undone};
+use crate::{Fault, Tally};
 use fab_inventory::HolderKind;
 use fab_store_rows::{ConfigRow, TableRows};
 use fab_test_alloc::Refusing;
@@ -106,10 +106,10 @@ fn play_lines(
     heap: &Refusing<Global>,
     file: &str,
     text: &str,
-) -> Result<Tally, Undone> {
+) -> Result<Tally, Fault> {
     let mut known = Vec::new(rt.alloc());
     let Some(mut tables) = no_rows(heap) else {
-        return Err(Undone::Memory);
+        return Err(Fault::Memory);
     };
     let mut tally = Tally::new();
     for (place, line) in text.lines().enumerate() {
@@ -117,7 +117,7 @@ fn play_lines(
         match play_line(rt, heap, &mut known, &mut tables, (file, number), line) {
             Some(Some(is_right)) => tally.count(is_right),
             Some(None) => {}
-            None => return Err(Undone::Line(number)),
+            None => return Err(Fault::Undone(number)),
         }
     }
     Ok(tally)
@@ -126,8 +126,8 @@ fn play_lines(
 /// Plays the lines of a file's text, and counts the histories.
 ///
 /// # Errors
-/// `Undone` says where it ends, and why. What differed before that was printed.
-pub fn play(rt: &HostRuntime, file: &str, text: &str) -> Result<Tally, Undone> {
+/// `Memory` and `Undone` say where it ends, and why. What differed before that was printed.
+pub fn play(rt: &HostRuntime, file: &str, text: &str) -> Result<Tally, Fault> {
     let heap = Refusing::new(rt.alloc());
     play_lines(rt, &heap, file, text)
 }

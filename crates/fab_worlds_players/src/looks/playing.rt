@@ -2,7 +2,7 @@
 
 use super::asking::answer;
 use super::making::Making;
-use crate::{Tally, Undone};
+use crate::{Fault, Tally};
 use fab_policy::Policy;
 use std::alloc::Global;
 
@@ -74,10 +74,10 @@ fn policy(alloc: Global) -> Option<Policy> {
 /// Plays the lines of a file's text, and counts the looks.
 ///
 /// # Errors
-/// `Undone` says where it ends, and why. What differed before that was printed.
-pub fn play(rt: &HostRuntime, file: &str, text: &str) -> Result<Tally, Undone> {
+/// `Memory` and `Undone` say where it ends, and why. What differed before that was printed.
+pub fn play(rt: &HostRuntime, file: &str, text: &str) -> Result<Tally, Fault> {
     let Some(policy) = policy(rt.alloc()) else {
-        return Err(Undone::Memory);
+        return Err(Fault::Memory);
     };
     let mut making = Making::new(rt.alloc());
     let mut tally = Tally::new();
@@ -86,7 +86,7 @@ pub fn play(rt: &HostRuntime, file: &str, text: &str) -> Result<Tally, Undone> {
         match play_line(rt, &policy, &mut making, (file, number), line) {
             Some(Some(is_right)) => tally.count(is_right),
             Some(None) => {}
-            None => return Err(Undone::Line(number)),
+            None => return Err(Fault::Undone(number)),
         }
     }
     Ok(tally)

@@ -1,6 +1,6 @@
 //! The scenarios of a text, their exchanges, and what is done with their tables.
 
-use crate::faults::Fault;
+use crate::Fault;
 use crate::texts::{Line, push_line};
 use std::alloc::Global;
 

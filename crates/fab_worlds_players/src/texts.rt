@@ -24,7 +24,9 @@
 //! The text of any but `#`, `=`, `%` and `@` stands for itself and a line feed, where `\r` is CR, `\\` a backslash,
 //! `\xHH` any byte, and a `\` at the end means that no line feed follows.
 
-use crate::faults::Fault;
+use crate::Fault;
+use std::alloc::Global;
+use std::fmt::Write;
 
 /// A line's text, or what is left of it, and its number from 1 on.
 #[derive(Clone, Copy)]
@@ -118,4 +120,38 @@ pub fn push_line(bytes: &mut Vec<u8>, line: Line<'_>) -> Result<(), Fault> {
         bytes.push(b'\n')?;
     }
     Ok(())
+}
+
+/// Adds what stands for a byte.
+fn push_byte(text: &mut String, byte: u8) -> Result<(), Fault> {
+    match byte {
+        b'\n' => text.push('\n')?,
+        b'\r' => text.push_str("\\r")?,
+        b'\\' => text.push_str("\\\\")?,
+        b' '..=b'~' => text.push(char::from(byte))?,
+        _ => {
+            if write!(text, "\\x{byte:02x}").is_err() {
+                return Err(Fault::Memory);
+            }
+        }
+    }
+    Ok(())
+}
+
+/// The lines that stand for the bytes of an answer, each behind its mark.
+pub fn lines_of(alloc: Global, mark: char, bytes: &[u8]) -> Result<String, Fault> {
+    let mut text = String::new(alloc);
+    let mut is_begun = false;
+    for &byte in bytes {
+        if !is_begun {
+            text.push(mark)?;
+            text.push(' ')?;
+        }
+        push_byte(&mut text, byte)?;
+        is_begun = byte != b'\n';
+    }
+    if is_begun {
+        text.push_str("\\\n")?;
+    }
+    Ok(text)
 }
