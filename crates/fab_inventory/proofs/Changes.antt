@@ -1,7 +1,8 @@
 -- What the steps of a change of the code's maps make of an inventory.
-use Rattle.std.proofs.Common.{ℕ, ◌≡◌, ◌≤◌, List, [], length, Option, None, Some, cond, refl, sym, ap, ◌∙◌, subst}
+use Rattle.std.proofs.Common.{ℕ, ◌≡◌, ◌≤◌, List, [], length, Option, None, Some, Result, Ok, Err, cond, refl, sym, ap, ◌∙◌, subst}
 use Rattle.std.specs.Cmp.{nat_cmp_total}
 use Rattle.std.specs.Option.{option_map}
+use Rattle.std.specs.Result.{OnErr}
 use Rattle.std.specs.Ordering.{nat_cmp}
 use Rattle.std.specs.BTreeMap as tree
 use Rattle.std.specs.BTreeMap.{BTreeMap, is_at}
@@ -22,6 +23,16 @@ use Rattle.fab_inventory.proofs.Soundness.{sound_put_holder, sound_drop_holder, 
 -- the code's maps, as contracts see them
 abbrev pub seen : BTreeMap ℕ Known → BTreeMap (List ℕ) Holder → BTreeMap (List ℕ) Volume → InventoryRows
 seen ports holders volumes = record { ports = map.from_entries ports.entries; holders = map.from_entries holders.entries; volumes = map.from_entries volumes.entries }
+
+-- equal entries make equal inventories
+pub copied : (ports : BTreeMap ℕ Known) (holders : BTreeMap (List ℕ) Holder) (volumes : BTreeMap (List ℕ) Volume) (ports2 : BTreeMap ℕ Known) (holders2 : BTreeMap (List ℕ) Holder) (volumes2 : BTreeMap (List ℕ) Volume)
+    → ports2.entries ≡ ports.entries → holders2.entries ≡ holders.entries → volumes2.entries ≡ volumes.entries → seen ports2 holders2 volumes2 ≡ seen ports holders volumes
+copied ports holders volumes ports2 holders2 volumes2 p h v = λ i. record { ports = map.from_entries (p i); holders = map.from_entries (h i); volumes = map.from_entries (v i) }
+
+-- what holds, holds where a call fails
+pub on_err : {T E P : Type 0} (r : Result T E) → P → OnErr r P
+on_err (Ok x) p = tt
+on_err (Err e) p = p
 
 -- what the code finds of the kind of a holder
 abbrev pub tree_kind : BTreeMap (List ℕ) Holder → List ℕ → Option HolderKind

@@ -12,6 +12,6 @@ pub returns : goal.returns
 returns g c q =
     let kept : c.retain.new.self.entries ≡ map (λ (e : ℕ × Known). (e.0, logged_out c.args.fabric e.1)) c.in_ok-next.next.entries =
     map_same_pairs _ (logged_out c.args.fabric) _ (λ k v b w f' t. search rules) _ _ c.retain.ensures.filtered in
-    let cloned : c.in_ok-next.next.entries ≡ c.args.ports.now.entries = entries_from_clone _ _ (λ x y h. search rules) (λ x y h. search rules) _ _ c.in_ok-next.ensures.cases in
+    let cloned : c.in_ok-next.next.entries ≡ c.args.ports.now.entries = entries_from_clone _ _ (λ x y h. h) (λ x y h. h) _ _ c.in_ok-next.ensures.cases in
     ap (lookup (is_at (nat_cmp q))) (kept ∙ ap (map (λ (e : ℕ × Known). (e.0, logged_out c.args.fabric e.1))) cloned)
     ∙ lookup-map_values (logged_out c.args.fabric) (is_at (nat_cmp q)) c.args.ports.now.entries

@@ -15,8 +15,8 @@ pub invariant_of-result : goal.invariant_of-result
 invariant_of-result g c =
     let old = seen c.self.inside.ports c.self.inside.holders c.self.inside.volumes in
     let ports = map.from_entries {R = nat_cmp} c.in_ok-imported_ports.field-0.entries in
-    let holders = entries_from_clone _ _ (λ x y h. search rules) (λ x y h. search rules) _ _ c.in_ok-clone.ensures.cases in
-    let volumes = entries_from_clone _ _ (λ x y h. search rules) (λ x y h. search rules) _ _ c.in_ok-clone-2.ensures.cases in
+    let holders = entries_from_clone _ _ (λ x y h. h) (λ x y h. h) _ _ c.in_ok-clone.ensures.cases in
+    let volumes = entries_from_clone _ _ (λ x y h. h) (λ x y h. h) _ _ c.in_ok-clone-2.ensures.cases in
     subst (λ hs. IsSound (record old { ports = ports; holders = map.from_entries hs; volumes = map.from_entries c.in_ok-clone-2.field-0.entries })) (sym holders) (
     subst (λ vs. IsSound (record old { ports = ports; volumes = map.from_entries vs })) (sym volumes)
     (sound_import c.args.fabric c.args.rows.now old ports c.self.invariant c.in_ok-imported_ports.ensures.ok c.in_ok-imported_ports.ensures.few)
@@ -26,8 +26,8 @@ pub returns-clause-rest : goal.returns-clause-rest
 returns-clause-rest g c =
     let ports = map.from_entries {R = nat_cmp} c.in_ok-imported_ports.field-0.entries in
     let old = seen c.self.inside.ports c.self.inside.holders c.self.inside.volumes in
-    let holders = entries_from_clone _ _ (λ x y h. search rules) (λ x y h. search rules) _ _ c.in_ok-clone.ensures.cases in
-    let volumes = entries_from_clone _ _ (λ x y h. search rules) (λ x y h. search rules) _ _ c.in_ok-clone-2.ensures.cases in
+    let holders = entries_from_clone _ _ (λ x y h. h) (λ x y h. h) _ _ c.in_ok-clone.ensures.cases in
+    let volumes = entries_from_clone _ _ (λ x y h. h) (λ x y h. h) _ _ c.in_ok-clone-2.ensures.cases in
     ap (λ hs. record old { ports = ports; holders = map.from_entries hs; volumes = map.from_entries c.in_ok-clone-2.field-0.entries }) holders
     ∙ ap (λ vs. record old { ports = ports; volumes = map.from_entries vs }) volumes
     ∙ ap (λ (v : InventoryRows). record v { ports = ports }) c.self.view_is

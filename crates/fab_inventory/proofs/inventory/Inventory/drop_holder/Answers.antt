@@ -3,7 +3,7 @@ use Rattle.std.specs.FinMap as map
 use Rattle.fab_inventory.specs.declared.holder.Holder.{Holder}
 use Rattle.fab_inventory.specs.declared.fault.InventoryFault.TheVariants.{Unknown, InUse}
 use Rattle.fab_inventory.specs.Holders.{HasNoVolume, IsLeastVolume}
-use Rattle.fab_inventory.specs.Inventories.{InventoryRows, IsHolderDropped, DropHolderFails}
+use Rattle.fab_inventory.specs.Inventories.{InventoryRows, IsSound, IsHolderDropped, DropHolderFails}
 use Rattle.fab_inventory.proofs.Changes.{seen, drop_made, holder_look_ups, volume_look_ups}
 use Rattle.fab_inventory.proofs.inventory.Inventory.drop_holder.Goals as goal
 
@@ -38,3 +38,9 @@ invariant_of-self g c = (drop_made c.self.inside.ports c.self.inside.holders c.s
 
 pub returns-clause-sound : goal.returns-clause-sound
 returns-clause-sound g c = (drop_made c.self.inside.ports c.self.inside.holders c.self.inside.volumes c.args.name.now c.hand_over_all.new.ports c.remove.new.self c.self.invariant c.in_default.ensures c.remove.ensures.updates.0 c.hand_over_all.ensures.ports c.hand_over_all.ensures.few).1
+
+pub returns-then-not-contains_key-clause-sound : goal.returns-then-not-contains_key-clause-sound
+returns-then-not-contains_key-clause-sound g c = subst IsSound c.self.view_is c.self.invariant
+
+pub returns-in-Some-clause-sound : goal.returns-in-Some-clause-sound
+returns-in-Some-clause-sound g c = subst IsSound c.self.view_is c.self.invariant
