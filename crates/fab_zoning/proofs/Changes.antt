@@ -1,5 +1,5 @@
 -- One collection of a zoning changed, from what the code holds to what contracts see.
-use Rattle.std.proofs.Common.{ℕ, ◌≡◌, List, ap, ◌∙◌, cond, Some, None, is_some}
+use Rattle.std.proofs.Common.{ℕ, ◌≡◌, List, Result, Ok, Err, OnErr, ap, ◌∙◌, cond, Some, None, is_some}
 use Rattle.std.specs.declared.cmp.Ordering.{Ordering}
 use Rattle.std.specs.BTreeMap as tree
 use Rattle.std.specs.BTreeMap.{BTreeMap, is_at}
@@ -16,6 +16,11 @@ use Rattle.fab_zoning_rows.specs.fab_lemmas.MapsOfSets.{seen_sets}
 use Rattle.fab_zoning.specs.Zonings.{FabricZoning, NamedSets}
 use Rattle.fab_zoning_rows.proofs.fab_lemmas.MapsOfSets.{knows_seen, seen_insert, seen_remove}
 use Rattle.fab_zoning_rows.proofs.fab_lemmas.SeenSets.{set_of_list}
+
+-- what holds, holds where a call fails
+pub on_err : {T E P : Type 0} (r : Result T E) → P → OnErr r P
+on_err (Ok x) p = tt
+on_err (Err e) p = p
 
 -- whether a name is there
 pub known : {K : Type 0} (R : K → K → Ordering) (t : BTreeMap (List ℕ) (BTreeSet K)) (k : List ℕ) → map.contains_key (seen_sets name_cmp R t.entries) k ≡ is_some (tree.get name_cmp t k)
@@ -37,6 +42,17 @@ listed_names = set_of_list name_total name_exact
 pub taken_out : {K : Type 0} (R : K → K → Ordering) (t u : BTreeMap (List ℕ) (BTreeSet K)) (k : List ℕ) → ((q : List ℕ) → tree.get name_cmp u q ≡ cond (is_at (name_cmp k) q) None (tree.get name_cmp t q))
     → seen_sets name_cmp R u.entries ≡ map.remove (seen_sets name_cmp R t.entries) k
 taken_out R = seen_remove R name_total name_exact
+
+module _ (v w : FabricZoning) (same : v ≡ w) where
+  -- equal sets in place of those that were there
+  pub with_aliases_same : (a : NamedSets member_cmp) → a ≡ v.aliases → ◌≡◌ {A = FabricZoning} (record v { aliases = a }) w
+  with_aliases_same a e = ap (λ (x : NamedSets member_cmp). record v { aliases = x }) e ∙ same
+
+  pub with_zones_same : (a : NamedSets member_cmp) → a ≡ v.zones → ◌≡◌ {A = FabricZoning} (record v { zones = a }) w
+  with_zones_same a e = ap (λ (x : NamedSets member_cmp). record v { zones = x }) e ∙ same
+
+  pub with_sets_same : (a : NamedSets name_cmp) → a ≡ v.sets → ◌≡◌ {A = FabricZoning} (record v { sets = a }) w
+  with_sets_same a e = ap (λ (x : NamedSets name_cmp). record v { sets = x }) e ∙ same
 
 module _ (v w : FabricZoning) (same : v ≡ w) (k : List ℕ) where
   pub with_aliases_put : (a : NamedSets member_cmp) (s : set.FinSet member_cmp) → a ≡ map.insert v.aliases k s → ◌≡◌ {A = FabricZoning} (record v { aliases = a }) (record w { aliases = map.insert w.aliases k s })

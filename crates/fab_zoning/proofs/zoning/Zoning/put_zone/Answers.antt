@@ -1,13 +1,19 @@
-use Rattle.std.proofs.Common.{sym, ap, ◌∙◌, subst, rules}
+use Rattle.std.proofs.Common.{All, sym, ap, ◌∙◌, subst}
 use Rattle.std.specs.FinMap as map
+use Rattle.fab_names.specs.Orders.{name_cmp, member_cmp}
+use Rattle.fab_zoning_rows.specs.fab_lemmas.MapsOfSets.{seen_sets}
+use Rattle.fab_zoning_rows.specs.fab_lemmas.Room.{IsFull, HasRoom}
+use Rattle.fab_zoning.specs.Limits.{most_zones}
 use Rattle.fab_names.specs.declared.member.Member.TheVariants.{Alias}
 use Rattle.fab_zoning_rows.specs.fab_lemmas.Firsts.{IsFirstWithout}
 use Rattle.fab_zoning.specs.Zonings.{FabricZoning}
 use Rattle.fab_zoning.specs.Steps.{HasAlias, CanPutZone}
 use Rattle.fab_zoning.specs.Soundness.{IsSound}
-use Rattle.fab_zoning.proofs.Changes.{with_zones_put}
+use Rattle.fab_zoning.proofs.Changes.{on_err, with_zones_put, with_zones_same}
 use Rattle.fab_zoning.proofs.Keeping.{put_zone_keeps}
 use Rattle.fab_zoning.proofs.zoning.Zoning.put_zone.Goals as goal
+use Rattle.fab_zoning.proofs.zoning.Zoning.put_zone.Given.{Over}
+use Rattle.fab_zoning.proofs.zoning.Zoning.put_zone.Goals.{In_ok-put}
 
 pub returns-in-Some-first_unknown_alias-clause-refused : goal.returns-in-Some-first_unknown_alias-clause-refused
 returns-in-Some-first_unknown_alias-clause-refused g c = (
@@ -15,7 +21,29 @@ returns-in-Some-first_unknown_alias-clause-refused g c = (
   subst (λ (v : FabricZoning). IsFirstWithout (HasAlias v) c.args.members.now (Alias c.in-Some-first_unknown_alias.alias)) c.self.view_is c.in-Some-first_unknown_alias.ensures,
 )
 
+can_put : (g : Over) (c : In_ok-put g) → CanPutZone c.args.self.now c.args.name c.args.members.now
+can_put g c = record {
+  listing = c.in_default.ensures;
+  known = subst (λ (v : FabricZoning). All (HasAlias v) c.args.members.now) c.self.view_is c.in_default-first_unknown_alias.ensures;
+  room = subst (λ (v : FabricZoning). HasRoom v.zones c.args.name most_zones) c.self.view_is c.if-is_full.ensures.room;
+}
+
+pub returns-clause-accepted : goal.returns-clause-accepted
+returns-clause-accepted g c = can_put g c
+
+pub returns-clause-ok : goal.returns-clause-ok
+returns-clause-ok g c = with_zones_put _ _ c.self.view_is c.args.name _ _ (c.in_ok-put.ensures.ok ∙ ap (map.insert _ c.args.name) c.in_ok-members.ensures)
+
 pub returns-clause-sound : goal.returns-clause-sound
 returns-clause-sound g c sound =
-    let can : CanPutZone c.args.self.now c.args.name c.args.members.now = record { listing = search rules; known = search rules; room = search rules } in
-    subst IsSound (sym (with_zones_put _ _ c.self.view_is c.args.name _ _ (c.in_ok-put.ensures.ok ∙ ap (map.insert _ c.args.name) c.in_ok-members.ensures))) (put_zone_keeps c.args.self.now sound c.args.name c.args.members.now can)
+    subst IsSound (sym (with_zones_put _ _ c.self.view_is c.args.name _ _ (c.in_ok-put.ensures.ok ∙ ap (map.insert _ c.args.name) c.in_ok-members.ensures))) (put_zone_keeps c.args.self.now sound c.args.name c.args.members.now (can_put g c))
+
+pub returns-then-is_full-clause-refused : goal.returns-then-is_full-clause-refused
+returns-then-is_full-clause-refused g c = (
+  c.in_default.ensures,
+  subst (λ (v : FabricZoning). All (HasAlias v) c.args.members.now) c.self.view_is c.in_default-first_unknown_alias.ensures,
+  subst (λ (v : FabricZoning). IsFull v.zones c.args.name most_zones) c.self.view_is c.if-is_full.ensures.full,
+)
+
+pub returns-in_err-put-clause-err : goal.returns-in_err-put-clause-err
+returns-in_err-put-clause-err g c = on_err c.from_residual-in_err-put.result (with_zones_same _ _ c.self.view_is _ (ap (seen_sets name_cmp member_cmp) c.in_err-put.ensures.err))
