@@ -26,3 +26,6 @@ pub returns : goal.returns
 returns g c =
     let i = c.loop-name.invariant in
     nowhere name_total (IsOfArray c.args.array.now) c.args.groups.now.entries i.0 (walk_end c.args.groups.now.entries i.0 c.loop-name.name-iterator i.1 (rest_all deref_pair c.loop-name.name-iterator c.next.new.self c.next.result c.in-None.is c.next.ensures.steps)) i.2
+
+pub loop-name-init : goal.loop-name-init
+loop-name-init g c = ([], cc, tt)

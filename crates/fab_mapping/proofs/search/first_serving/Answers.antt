@@ -27,3 +27,6 @@ pub returns : goal.returns
 returns g c n on = no_hit name_total (λ (x : StorageGroupRows). set.contains x.host_groups c.args.hosts.now ≡ true) c.args.groups.now.entries c.loop-name.invariant.0 n on.0
     (walk_end c.args.groups.now.entries c.loop-name.invariant.0 c.loop-name.name-iterator c.loop-name.invariant.1 (rest_all deref_pair c.loop-name.name-iterator c.next.new.self c.next.result c.in-None.is c.next.ensures.steps))
     c.loop-name.invariant.2 on.1 on.2
+
+pub loop-name-init : goal.loop-name-init
+loop-name-init g c = ([], cc, tt)
