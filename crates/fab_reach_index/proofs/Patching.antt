@@ -16,6 +16,18 @@ use Rattle.fab_reach_books.specs.Renewed.{set_or, patched}
 tied : {Q : Type 0} {O : Q → Q → Ordering} → set.IsAntisymmetric O → (x y : Q) → is_at (O x) y ≡ true → x ≡ y
 tied {O} exact x y e = exact x y ((Equal-is (O x y)).0 e)
 
+module _ {Q K : Type 0} {O : Q → Q → Ordering} (R : K → K → Ordering) (exact : set.IsAntisymmetric O) where
+  -- the set at a key was taken out, and it was empty
+  pub cleared : (key : Q) (old new : BTreeMap Q (BTreeSet K)) → ((q : Q) → get O new q ≡ cond (is_at (O key) q) None (get O old q)) → ((k : K) → tree_has O R old key k ≡ false) → (q : Q) (k : K) → tree_has O R new q k ≡ tree_has O R old q k
+  cleared key old new updates none q k = case (is_at (O key) q) refl
+    where
+      taken : (b : Bool) → is_at (O key) q ≡ b → tree_has O R new q k ≡ in_tree R (cond b None (get O old q)) k
+      taken b is = ap (λ (t : Option (BTreeSet K)). in_tree R t k) (updates q) ∙ ap (λ (x : Bool). in_tree R (cond x None (get O old q)) k) is
+
+      case : (b : Bool) → is_at (O key) q ≡ b → tree_has O R new q k ≡ tree_has O R old q k
+      case true is = taken true is ∙ sym (none k) ∙ ap (λ (p : Q). tree_has O R old p k) (tied exact key q is)
+      case false is = taken false is
+
 module _ {Q : Type 0} {O : Q → Q → Ordering} (o : IsTotalOrder O) (exact : set.IsAntisymmetric O) {S L : Type 0} where
   -- the keys of these entries have places
   abbrev pub HavePlaces : List (Q × S) → BTreeMap Q L → Type 0

@@ -1,10 +1,13 @@
-use Rattle.std.proofs.Common.{[], ◌∷◌, ◌++◌}
+use Rattle.std.proofs.Common.{[], ◌∷◌, ◌++◌, sym, arith}
 use Rattle.std.specs.Map.Iter.{deref_pair}
 use Rattle.std.proofs.lemmas.Map.Iter.{rest_more, rest_all}
 use Rattle.fab_lemmas.proofs.Walks.{walked, walk_end}
 use Rattle.fab_reach_index.proofs.Patching.{places_more, places_all, placed_here}
 use Rattle.fab_reach_index.proofs.Regathering.{left_more, left_stays}
 use Rattle.fab_reach_index.proofs.regather.put_sets.Goals as goal
+
+pub loop-key-init : goal.loop-key-init
+loop-key-init g c = ([], sym c.into_iter-key-iterator.ensures.into_iter_gives.0, (λ are. are), (λ q h. h), (λ e h. absurd (omega (arith, h.1))))
 
 pub loop-key-preserved-in_ok-insert : goal.loop-key-preserved-in_ok-insert
 loop-key-preserved-in_ok-insert g c =
@@ -35,3 +38,9 @@ returns-clause-there g c =
     let i = c.loop-key.invariant in
     places_all g.met.Q.Ord.total g.met.Q.Key.exact c.args.keys.now i.0 c.loop-key.sets c.into_iter-key-iterator.ensures.into_iter_gives.5
     (walk_end c.args.keys.now.entries i.0 c.loop-key.key-iterator i.1 (rest_all deref_pair c.loop-key.key-iterator c.next.new.self c.next.result c.in-None.is c.next.ensures.steps)) i.4
+
+pub returns-clause-left : goal.returns-clause-left
+returns-clause-left g c = c.loop-key.invariant.2
+
+pub returns-clause-kept : goal.returns-clause-kept
+returns-clause-kept g c = c.loop-key.invariant.3

@@ -1,14 +1,17 @@
-use Rattle.std.proofs.Common.{[], ◌∷◌, ◌++◌}
+use Rattle.std.proofs.Common.{[], ◌∷◌, ◌++◌, sym}
 use Rattle.std.specs.Map.Iter.{deref_pair}
 use Rattle.std.proofs.lemmas.Map.Iter.{rest_more, rest_all}
 use Rattle.fab_lemmas.proofs.Walks.{walked, walk_end}
 use Rattle.fab_zoning.specs.Edits.{IsIn}
-use Rattle.fab_reach_base.proofs.Adding.{before_more}
+use Rattle.fab_reach_base.proofs.Adding.{before_none, before_more}
 use Rattle.std.specs.Ordering.{nat_cmp}
 use Rattle.fab_reach_index.specs.Indexes.{zone_cmp}
 use Rattle.fab_reach_index.specs.Inner.Placing.{ByPortZones}
 use Rattle.fab_reach_index.proofs.ZonesPlaced.{ports_placed}
 use Rattle.fab_reach_index.proofs.zone_ports.add_ports.Goals as goal
+
+pub loop-port-init : goal.loop-port-init
+loop-port-init g c = ([], sym c.into_iter-port-iterator.ensures.into_iter_gives.0, before_none ByPortZones (IsIn zone_cmp nat_cmp c.args.ports.now))
 
 pub loop-port-preserved : goal.loop-port-preserved
 loop-port-preserved g c =
