@@ -37,6 +37,13 @@ module _ {R E : Type 0} (said : R → Option E) (row_of : E → R) (says : (e : 
     complete = λ d q. ⊎_elim (λ p. Contains-append_left xs (r ∷ []) (row_of d) (h.complete d p)) (λ same. subst (Contains (xs ++ r ∷ [])) (is ∙ sym (ap row_of same)) (Contains-push xs r)) ((puts d).0 q);
   }
 
+  -- a row of another kind
+  pub rows_still : (xs : List R) (r : R) (P : E → Type 0) → AreRows row_of xs P → said r ≡ None → AreRows row_of (xs ++ r ∷ []) P
+  rows_still xs r P h none = record {
+    sound = λ d there. ⊎_elim (h.sound d) (λ same. let other : ◌≡◌ {A = Option E} None (Some d) = sym none ∙ ap said same ∙ says d in cc) (Contains-push_cases xs r (row_of d) there);
+    complete = λ d p. Contains-append_left xs (r ∷ []) (row_of d) (h.complete d p);
+  }
+
 module _ {R K X : Type 0} (row_of : K × X → R) where
   -- another value than that of a row stands at its key already
   pub repeated : (rows : List R) (i : ℕ) (r : R) (k : K) (v : X) (f : K → Option X) → AreRows row_of (take i rows) (StandsIn f) → i < length rows → r ≡ get_or rows i r → r ≡ row_of (k, v) → HasOther f k v → HasRepeat row_of rows

@@ -1,12 +1,15 @@
-use Rattle.std.proofs.Common.{◌∷◌, [], ◌++◌}
+use Rattle.std.proofs.Common.{◌∷◌, [], ◌++◌, sym}
 use Rattle.std.specs.Map.Iter.{deref_pair}
 use Rattle.std.specs.Option.{option_copied}
 use Rattle.std.proofs.lemmas.Map.Iter.{rest_more, rest_all}
 use Rattle.fab_reach_base.proofs.fab_lemmas.Walks.{walked, walk_end}
-use Rattle.fab_reach_base.proofs.Adding.{before_more}
+use Rattle.fab_reach_base.proofs.Adding.{before_none, before_more}
 use Rattle.fab_store_rows.specs.Gathering.{Has, Lacking, RowOfSome}
 use Rattle.fab_store_rows.proofs.RowsGathered.{lacking_all}
 use Rattle.fab_store_rows.proofs.gathering.add_sets.Goals as goal
+
+pub loop-key-init : goal.loop-key-init
+loop-key-init g c = ([], sym c.into_iter-key-iterator.ensures.into_iter_gives, before_none (λ e. Lacking (option_copied c.args.without) (RowOfSome (g.M.Maker.row_of c.args.maker.now e.0) e.1.keys)) (Has c.args.rows.now))
 
 pub loop-key-preserved : goal.loop-key-preserved
 loop-key-preserved g c =
