@@ -1,5 +1,5 @@
 -- A text that is kept, and its steps.
-use Rattle.std.proofs.Common.{◌≡◌, ◌↔◌, ℕ, List, [], Bool, IsTrue, refl, sym, ap, ◌∙◌, subst, inl, inr, nat_eq}
+use Rattle.std.proofs.Common.{◌≡◌, ◌↔◌, ℕ, List, [], ◌∷◌, length, Bool, IsTrue, refl, sym, ap, ◌∙◌, subst, inl, inr, nat_eq, arith}
 use Rattle.std.specs.Bool.{Decides}
 use Rattle.std.specs.Cmp.Lexicographic.{pointwise}
 use Rattle.std.proofs.lemmas.Slice.Eq.{bytes_eq-Decides}
@@ -18,6 +18,11 @@ kept_for text h steps k = subst (IsKeptFor text) (sym (spelled_is text h steps k
 -- no text is kept for no steps
 pub blank_kept : (text : List ℕ) → text ≡ [] → IsKeptFor text []
 blank_kept text e = inl (e, refl)
+
+-- and so is a text of no length
+pub nothing_kept : (text : List ℕ) (steps : List PlanStep) → IsKeptFor text steps → length text ≡ 0 → steps ≡ []
+nothing_kept [] steps h e = kept_once [] steps [] h (blank_kept [] refl)
+nothing_kept (b ∷ bytes) steps h e = absurd (omega arith)
 
 -- a text that is kept is the printed form
 pub kept_printed : (text : List ℕ) (steps : List PlanStep) → IsKeptFor text steps → text ≡ plan_text steps

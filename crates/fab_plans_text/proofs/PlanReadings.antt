@@ -1,13 +1,14 @@
 -- What is read of a text, line by line.
 use Rattle.std.specs.List.{onto_first}
-use Rattle.std.proofs.Common.{ℕ, ◌≡◌, ◌≢◌, ◌≤◌, ◌+◌, suc, Bool, true, false, cond, eqb, List, [], ◌∷◌, ◌++◌, length, length-append, append_assoc, append-nil, refl, sym, ap, ◌∙◌, subst, ◌⊎◌, inl, inr, arith}
+use Rattle.std.proofs.Common.{ℕ, ◌≡◌, ◌≢◌, ◌<◌, ◌≤◌, ◌+◌, ◌↔◌, suc, Bool, true, false, IsTrue, cond, eqb, List, [], ◌∷◌, ◌++◌, length, length-append, append_assoc, append-nil, refl, sym, ap, ◌∙◌, subst, ◌⊎◌, inl, inr, arith}
 use Rattle.std.specs.Str.{IsUtf8}
 use Rattle.std.proofs.lemmas.Bool.{false≢true, ne_eqb}
+use mathlib.Core.Bool.{true≢false}
 use Rattle.fab_plans_base.specs.Limits.{most_bytes, most_steps}
 use Rattle.fab_plans_base.specs.Texts.{lines_of, words_of}
 use Rattle.fab_plans_base.specs.Steps.{PlanStep}
-use Rattle.fab_plans_base.specs.Plans.{SpellsStep, SpellsLines}
-use Rattle.fab_plans_text.specs.Faults.{IsFaultAt, HasTooManyLines, HasFaultyLine}
+use Rattle.fab_plans_base.specs.Plans.{SpellsStep, SpellsLines, Spells, plan_text}
+use Rattle.fab_plans_text.specs.Faults.{IsFaultAt, HasTooManyLines, HasFaultyLine, IsPlanFault}
 use Rattle.fab_plans_text.specs.declared.fault.PlanFault.{PlanFault}
 use Rattle.fab_plans_text.specs.declared.fault.PlanFaultKind.TheVariants as kind
 
@@ -100,3 +101,21 @@ some_step (c ∷ cs) (s ∷ steps) some h = omega arith
 pub ended : (text : List ℕ) (empty : Bool) → empty ≡ eqb (length text) 0 → empty ≡ true → text ≡ []
 ended [] empty says h = refl
 ended (c ∷ cs) empty says h = absurd (false≢true (sym (says ∙ ne_eqb (length (c ∷ cs)) 0 (λ e. omega arith)) ∙ h))
+
+-- an empty text spells no steps
+pub spells_some : (text : List ℕ) (steps : List PlanStep) → text ≡ [] → ¬ (Spells text steps)
+spells_some text [] e h = omega (arith, h.some)
+spells_some text (s ∷ steps) e h = subst (λ t. SpellsLines (lines_of t) (s ∷ steps)) e h.lines
+
+-- what refuses the lines of a text refuses it as a plan
+pub plan_fault : (text : List ℕ) (fault : PlanFault) → (fault.kind ≡ kind.Memory) ⊎ (HasTooManyLines text fault ⊎ HasFaultyLine text fault) → (fault.kind ≡ kind.Memory) ⊎ IsPlanFault text fault
+plan_fault text fault (inl memory) = inl memory
+plan_fault text fault (inr (inl many)) = inr (inr (inr (inl many)))
+plan_fault text fault (inr (inr line)) = inr (inr (inr (inr (inl line))))
+
+-- steps that are not told short are printed too long
+pub long_printed : (steps told : List PlanStep) (short : Bool) → told ≡ steps → IsTrue short ↔ (length (plan_text told) ≤ most_bytes) → short ≡ false → most_bytes < length (plan_text steps)
+long_printed steps told short same says refused =
+    let long : ¬ (length (plan_text told) ≤ most_bytes) = λ fits. true≢false (sym (says.1 fits) ∙ refused) in
+    let as_long = ap (λ x. length (plan_text x)) same in
+    omega arith

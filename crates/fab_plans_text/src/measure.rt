@@ -190,7 +190,6 @@ fn step_len<A: Allocator + Copy>(step: &Step<A>) -> usize
 }
 
 /// Whether the printed form of steps is short enough. It stops at the step that passes the limit.
-#[tactic(auto, using(crate::proofs::Measures::part_is_shorter))]
 pub(crate) fn is_short<A: Allocator + Copy>(steps: &[Step<A>]) -> bool
     ensures { IsTrue result ↔ (length (plan_text steps.now) ≤ most_bytes) }
 {
