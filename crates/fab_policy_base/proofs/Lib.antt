@@ -1,5 +1,6 @@
 pub mod Excluded
 pub mod Found
+pub mod Handed
 pub mod Items
 pub mod OtherKeys
 pub mod Refused
