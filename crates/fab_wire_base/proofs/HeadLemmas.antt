@@ -1,13 +1,19 @@
 -- Reading an input in parts, and when it has no head.
-use Rattle.std.proofs.Common.{◌≡◌, ℕ, ◌+◌, ◌*◌, ◌<◌, ◌≤◌, List, [], ◌∷◌, ◌++◌, length, take, drop, refl, ap, sym, ◌∙◌, subst, append_assoc, arith, Option, Some, None, All, length-append, IfSome}
+use Rattle.std.proofs.Common.{◌≡◌, ℕ, ◌+◌, ◌*◌, ◌<◌, ◌≤◌, List, [], ◌∷◌, ◌++◌, length, take, drop, refl, ap, sym, ◌∙◌, subst, append_assoc, arith, Option, Some, None, All, length-append, length-take, append-nil, IfSome, Bool, true, false, suc, zero}
 use Rattle.std.proofs.Math.Seq.{take-add}
+use Rattle.std.proofs.lemmas.Bool.Decides.{nat_tests}
 use Rattle.std.proofs.lemmas.List.Elements.{All-head, All-tail}
-use Rattle.std.specs.Io.KnownBytes.{Consumes}
+use Rattle.std.specs.Prelude.{if◌then◌else◌, ◌==◌}
+use Rattle.std.specs.Io.KnownBytes.{Consumes, IsAtEnd}
 use Rattle.std.specs.List.{flat_map}
 use Rattle.httparse.specs.Grammar.{LineEnd, print_end, crlf, lf, Field, IsField, print_field, RequestHead, IsRequestHead, print_request, HasNoRequest}
 use Rattle.httparse.specs.Spans.{RequestOverflows}
+use Rattle.httparse.specs.declared.spans.HeaderSpan.{HeaderSpan}
 use Rattle.fab_wire_base.specs.Limits.{most_head, most_lines}
 use Rattle.fab_wire_base.specs.Heads.{HasNoHead}
+use Rattle.fab_wire_base.specs.Reading.{ReadsHead, failures_after_head}
+use Rattle.fab_wire_base.specs.declared.head.HeadRead.{HeadRead}
+use Rattle.fab_wire_base.specs.declared.head.HeadRead.TheVariants.{Empty, BadHead}
 
 -- what is consumed in two turns is consumed as one
 pub Consumes-append : (a b c : Option (List ℕ)) (x y : List ℕ) → Consumes a b x → Consumes b c y → Consumes a c (x ++ y)
@@ -51,6 +57,11 @@ pub record ReadTo (old new : Option (List ℕ)) (before after : ℕ) (got : List
   pub consumes : Consumes old new got
   pub count : after ≡ before
   pub none : 0 < length got → HasNoRequest got
+
+-- nothing has been read yet
+pub read-none : (a : Option (List ℕ)) (n : ℕ) → ReadTo a a n n []
+read-none None n = record { consumes = tt; count = refl; none = λ h. absurd (omega (arith, h)) }
+read-none (Some xs) n = record { consumes = refl; count = refl; none = λ h. absurd (omega (arith, h)) }
 
 full-none : (got more : List ℕ) → length got ≡ most_head → HasNoRequest got → HasNoHead (got ++ more)
 full-none got more e n h rest k =
@@ -96,3 +107,39 @@ full-refused a b n m got s e = known-none a b got s.consumes (omega arith) (λ m
 pub head-refused : (a b : Option (List ℕ)) (got : List ℕ) → Consumes a b got → 0 < length got → RequestOverflows most_lines got
     → IfSome a (λ input. (0 < length input) × HasNoHead input)
 head-refused a b got h n o = known-none a b got h n (λ more. over-none got more o)
+
+-- the input is at its end, so it is what has been read of it
+at-end : (a b c : Option (List ℕ)) (n m : ℕ) (got : List ℕ) → ReadTo a b n m got → Consumes b c [] → IsAtEnd c → IfSome a (λ input. input ≡ got)
+at-end None b c n m got s k z = tt
+at-end (Some xs) None c n m got s k z = absurd s.consumes
+at-end (Some xs) (Some ys) None n m got s k z = absurd k
+at-end (Some xs) (Some ys) (Some zs) n m got s k z =
+    let none : ys ≡ [] = k ∙ z in
+    s.consumes ∙ ap (λ t. got ++ t) none ∙ append-nil got
+
+-- the input is at its end, and no head has come
+at-refused : (a : Option (List ℕ)) (got : List ℕ) → 0 < length got → HasNoRequest got → IfSome a (λ input. input ≡ got)
+    → IfSome a (λ input. (0 < length input) × HasNoHead input)
+at-refused None got some none h = tt
+at-refused (Some xs) got some none h =
+    let P : List ℕ → Type 0 = λ input. (0 < length input) × HasNoHead input in
+    subst P (sym h) (some, λ head rest k. none head rest k.0)
+
+-- a read of no byte ends the input
+pub ended : (a b c : Option (List ℕ)) (n m i k : ℕ) (old room buf : List ℕ) (headers : List HeaderSpan) (r : HeadRead) → i ≤ length old → ReadTo a b n m (take i old)
+    → k ≡ 0 → Consumes b c (take k room) → IsAtEnd c → r ≡ (if i == 0 then Empty else BadHead) → ReadsHead a c buf headers r
+ended a b c n m zero k old room buf headers r within s z h end e =
+    let none : Consumes b c [] = subst (λ (j : ℕ). Consumes b c (take j room)) z h in
+    subst (λ (x : HeadRead). ReadsHead a c buf headers x) (sym e) (at-end a b c n m [] s none end)
+ended a b c n m (suc i) k old room buf headers r within s z h end e =
+    let none : Consumes b c [] = subst (λ (j : ℕ). Consumes b c (take j room)) z h in
+    let some : 0 < length (take (suc i) old) = omega (arith, length-take (suc i) old) in
+    let other : (suc i == 0) ≡ false = grind (arith, nat_tests) in
+    let bad : r ≡ BadHead = subst (λ (t : Bool). r ≡ (if t then Empty else BadHead)) other e in
+    subst (λ (x : HeadRead). ReadsHead a c buf headers x) (sym bad)
+    (at-refused a (take (suc i) old) some (s.none some) (at-end a b c n m (take (suc i) old) s none end))
+
+-- and counts no failure
+pub ended-count : (t : Bool) (n m p : ℕ) (r : HeadRead) → r ≡ (if t then Empty else BadHead) → p ≡ m → m ≡ n → p ≡ failures_after_head r n
+ended-count true n m p r e q s = subst (λ (x : HeadRead). p ≡ failures_after_head x n) (sym e) (q ∙ s)
+ended-count false n m p r e q s = subst (λ (x : HeadRead). p ≡ failures_after_head x n) (sym e) (q ∙ s)

@@ -1,22 +1,27 @@
 -- What an input spells, from its head and the bytes behind it.
-use Rattle.std.proofs.Common.{◌≡◌, ℕ, ◌<◌, ◌≤◌, inr, List, [], ◌++◌, length, take, drop, Option, Some, None, IfSome, refl, sym, subst, Bool, true, false, arith, map, length-append}
-use Rattle.std.specs.Prelude.{nat_le}
+use Rattle.std.proofs.Common.{◌≡◌, ℕ, ◌<◌, ◌≤◌, inr, List, [], ◌++◌, length, take, drop, Option, Some, None, IfSome, refl, sym, subst, Bool, true, false, arith, map, get_or, ◌∙◌, length-append}
+use Rattle.std.specs.Prelude.{nat_le, IsUtf8}
 use Rattle.std.proofs.lemmas.Bool.Decides.{nat_tests}
+use Rattle.std.specs.Io.KnownBytes.{Consumes}
 use Rattle.httparse.specs.Grammar.{print_request}
-use Rattle.httparse.specs.Spans.{IsRequestOf, span_bytes, name_and_value}
+use Rattle.httparse.specs.Spans.{IsRequestOf, IsRequestWithin, IsHeaderWithin, span_bytes, name_and_value}
 use Rattle.httparse.proofs.GrammarLemmas.{ReadsRequest-append}
 use Rattle.httparse.specs.declared.spans.HeaderSpan.{HeaderSpan}
 use Rattle.httparse.specs.declared.spans.RequestSpans.{RequestSpans}
 use Rattle.fab_wire_base.specs.Limits.{most_head}
-use Rattle.fab_wire_base.specs.Lines.{Line, lines_of}
+use Rattle.fab_wire_base.specs.Lines.{Line, lines_of, AreWithin}
 use Rattle.fab_wire_base.specs.Asking.{Asking, asks, HeadAsks}
 use Rattle.fab_wire_base.specs.Spelling.{Spelling, Request, request, refused, asked, SpellsBehind, Spells}
-use Rattle.fab_wire_base.specs.Hearing.{IsHeard, IsHeardOf, IsHeardOfKnown, IsKept}
+use Rattle.fab_wire_base.specs.Hearing.{IsHeard, IsHeardOf, IsHeardOfKnown, IsKept, failures_after_heard}
 use Rattle.fab_wire_base.specs.declared.kinds.Kind.{Kind}
 use Rattle.fab_wire_base.specs.declared.requests.Refusal.TheVariants as no
 use Rattle.fab_wire_base.specs.declared.hear.Heard.{Heard}
 use Rattle.fab_wire_base.specs.declared.hear.Heard.TheVariants as heard
 use Rattle.fab_wire_base.proofs.SpellingLemmas.{head-some}
+
+-- what a head asks for, where its method, its target and what it asks for are given otherwise
+pub asked-same : (knows : List ℕ → Bool) (m n t u : List ℕ) (lines : List Line) (a b : Asking) → m ≡ n → t ≡ u → a ≡ b → HeadAsks knows m t lines a → HeadAsks knows n u lines b
+asked-same knows m n t u lines a b p q r h = rw (← p, ← q, ← r) h
 
 -- a head that has been read, and what it asks for, spell for the whole input
 pub spells-read : (knows : List ℕ → Bool) (got more : List ℕ) (headers : List HeaderSpan) (spans : RequestSpans) (asking : Asking) (s : Spelling)
@@ -29,6 +34,17 @@ spells-read knows got more headers spans asking s (h, at) small within asks_it b
     let named : HeadAsks knows h.method h.target (map name_and_value h.fields) asking = subst (λ (ls : List Line). HeadAsks knows h.method h.target ls asking) at.fields same in
     inr (inr (h, drop spans.len got ++ more, (ReadsRequest-append got h (drop spans.len got) more at.reads, short), (asking, named, rw at.path at behind)))
 
+-- the target of a head is text
+pub target-text : (got : List ℕ) (headers : List HeaderSpan) (spans : RequestSpans) (target : List ℕ) → IsRequestOf got headers spans → target ≡ span_bytes got spans.path → IsUtf8 target
+target-text got headers spans target (h, at) e = subst IsUtf8 (sym (e ∙ at.path)) at.reads.0.target_text
+
+-- the header lines of a head lie within the bytes that begin with it
+pub lines-within : (got : List ℕ) (headers : List HeaderSpan) (spans : RequestSpans) → IsRequestWithin got headers spans → AreWithin got (take spans.headers headers)
+lines-within got headers spans w k d h =
+    let at : IsHeaderWithin spans.len (get_or (take spans.headers headers) k d) = w.section.headers_fit k d h in
+    let fits : spans.len ≤ length got = w.section.len_fits in
+    ((at.0.0, omega (arith, at, fits)), (at.1.0, omega (arith, at, fits)))
+
 -- what holds of every value holds of the value that is there
 pub IfSome-all : {X : Type 0} (o : Option X) (P : X → Type 0) → ((x : X) → P x) → IfSome o P
 IfSome-all None P f = tt
@@ -38,6 +54,19 @@ IfSome-all (Some x) P f = f x
 pub IfSome-map : {X : Type 0} (o : Option X) (P Q : X → Type 0) → ((x : X) → P x → Q x) → IfSome o P → IfSome o Q
 IfSome-map None P Q f h = tt
 IfSome-map (Some x) P Q f h = f x h
+
+-- what is heard of an input of which some bytes have been read is heard of all of it
+pub heard-behind : {A : Type 0} (old new : Option (List ℕ)) (knows : List ℕ → Bool) (got : List ℕ) (answer : Heard A) → Consumes old new got
+    → IfSome new (λ more. IsHeardOf knows got more answer) → IfSome old (λ input. IsHeard knows input answer)
+heard-behind None new knows got answer h k = tt
+heard-behind (Some xs) None knows got answer h k = absurd h
+heard-behind (Some xs) (Some ys) knows got answer h k = subst (λ (input : List ℕ). IsHeard knows input answer) (sym h) k
+
+-- a request that is kept is no failed read
+pub kept-count : {A : Type 0} (answer : Heard A) (q : Request) (n m : ℕ) → IsKept q answer → n ≡ m → n ≡ failures_after_heard answer m
+kept-count (heard.Asked kept) q n m is e = e
+kept-count heard.Memory q n m is e = e
+kept-count other q n m is e = absurd is
 
 -- bytes that begin with a head are some
 pub some-read : (got more : List ℕ) (headers : List HeaderSpan) (spans : RequestSpans) → IsRequestOf got headers spans → 0 < length (got ++ more)

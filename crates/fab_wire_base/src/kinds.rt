@@ -181,24 +181,24 @@ impl Route {
         ensures { result ≡ kind_at self method.now }
     {
         match self {
-            Route::Imports => only(method, &Method::POST, Kind::Import),
-            Route::Ports => only(method, &Method::GET, Kind::ShowPort),
+            Route::Imports => posts(method, Kind::Import),
+            Route::Ports => gets(method, Kind::ShowPort),
             Route::Hosts => one_of(method, Kind::DropHost, Kind::ShowHost, Kind::PutHost),
             Route::Arrays => one_of(method, Kind::DropArray, Kind::ShowArray, Kind::PutArray),
             Route::Volumes => one_of(method, Kind::DropVolume, Kind::ShowVolume, Kind::PutVolume),
             Route::Plans => one_of(method, Kind::Withdraw, Kind::ShowPlan, Kind::Stage),
-            Route::Approve => only(method, &Method::POST, Kind::Approve),
-            Route::DryRun => only(method, &Method::GET, Kind::DryRun),
-            Route::Activate => only(method, &Method::POST, Kind::Activate),
-            Route::Rollback => only(method, &Method::POST, Kind::Rollback),
-            Route::Paths => only(method, &Method::GET, Kind::Paths),
-            Route::Joined => only(method, &Method::GET, Kind::Joined),
-            Route::Active => only(method, &Method::GET, Kind::ShowActive),
-            Route::Aliases => only(method, &Method::GET, Kind::ShowAlias),
-            Route::Zones => only(method, &Method::GET, Kind::ShowZone),
-            Route::Sets => only(method, &Method::GET, Kind::ShowSet),
-            Route::HostGroups => only(method, &Method::GET, Kind::ShowHostGroup),
-            Route::Groups => only(method, &Method::GET, Kind::ShowGroup),
+            Route::Approve => posts(method, Kind::Approve),
+            Route::DryRun => gets(method, Kind::DryRun),
+            Route::Activate => posts(method, Kind::Activate),
+            Route::Rollback => posts(method, Kind::Rollback),
+            Route::Paths => gets(method, Kind::Paths),
+            Route::Joined => gets(method, Kind::Joined),
+            Route::Active => gets(method, Kind::ShowActive),
+            Route::Aliases => gets(method, Kind::ShowAlias),
+            Route::Zones => gets(method, Kind::ShowZone),
+            Route::Sets => gets(method, Kind::ShowSet),
+            Route::HostGroups => gets(method, Kind::ShowHostGroup),
+            Route::Groups => gets(method, Kind::ShowGroup),
         }
     }
 
@@ -261,6 +261,20 @@ fn only(method: &[u8], wanted: &Method, kind: Kind) -> Option<Kind>
     } else {
         None
     }
+}
+
+/// The kind, if the method is `GET`.
+fn gets(method: &[u8], kind: Kind) -> Option<Kind>
+    ensures { result ≡ kind_in ((codes "GET", kind) ∷ []) method.now }
+{
+    only(method, &Method::GET, kind)
+}
+
+/// The kind, if the method is `POST`.
+fn posts(method: &[u8], kind: Kind) -> Option<Kind>
+    ensures { result ≡ kind_in ((codes "POST", kind) ∷ []) method.now }
+{
+    only(method, &Method::POST, kind)
 }
 
 /// The kind of a method of three.
