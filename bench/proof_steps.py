@@ -2,14 +2,15 @@
 """Tells which steps of proofs take most: of each crate that a command has proved, the dearest steps, and what
 each kind of step takes, in seconds of a processor.
 
-    python3 bench/proof_steps.py rt check fab_zoning
+    cd crates/fab_lemmas && python3 ../../bench/proof_steps.py rt verdict --jobs 1
     python3 bench/proof_steps.py rt ci
 
-The prover writes a file behind each step into a folder of its own, which goes when it ends; this script looks at
+The command has to prove from nothing: of `rt check`, which goes on with what it has kept, nothing is told. The
+prover writes a file behind each step into a folder of its own, which goes when it ends; this script looks at
 those folders while the command runs. `NAME.Lts` is a function's code as a machine of states, `NAME.Proof` the
 goals that no file answers, `NAME.Answers` those that one does, `NAME.Tie` what ties the machine to what clauses
-speak of. A step's time is right where the prover has one job, and within half a second: a step that is counted
-with the one before it is a short one. It needs a Linux machine, and nothing but Python.
+speak of. A step's time is right where the prover has one job, as `.ci/run` gives it, and within a quarter of a
+second. It needs a Linux machine, and nothing but Python.
 """
 import collections
 import os

@@ -25,9 +25,9 @@ abbrev pub seen : BTreeMap ℕ Known → BTreeMap (List ℕ) Holder → BTreeMap
 seen ports holders volumes = record { ports = map.from_entries ports.entries; holders = map.from_entries holders.entries; volumes = map.from_entries volumes.entries }
 
 -- equal entries make equal inventories
-pub copied : (ports : BTreeMap ℕ Known) (holders : BTreeMap (List ℕ) Holder) (volumes : BTreeMap (List ℕ) Volume) (ports2 : BTreeMap ℕ Known) (holders2 : BTreeMap (List ℕ) Holder) (volumes2 : BTreeMap (List ℕ) Volume)
+pub seen_same : (ports : BTreeMap ℕ Known) (holders : BTreeMap (List ℕ) Holder) (volumes : BTreeMap (List ℕ) Volume) (ports2 : BTreeMap ℕ Known) (holders2 : BTreeMap (List ℕ) Holder) (volumes2 : BTreeMap (List ℕ) Volume)
     → ports2.entries ≡ ports.entries → holders2.entries ≡ holders.entries → volumes2.entries ≡ volumes.entries → seen ports2 holders2 volumes2 ≡ seen ports holders volumes
-copied ports holders volumes ports2 holders2 volumes2 p h v = λ i. record { ports = map.from_entries (p i); holders = map.from_entries (h i); volumes = map.from_entries (v i) }
+seen_same ports holders volumes ports2 holders2 volumes2 p h v = λ i. record { ports = map.from_entries (p i); holders = map.from_entries (h i); volumes = map.from_entries (v i) }
 
 -- what holds, holds where a call fails
 pub on_err : {T E P : Type 0} (r : Result T E) → P → OnErr r P

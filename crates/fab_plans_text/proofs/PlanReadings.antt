@@ -103,9 +103,9 @@ ended [] empty says h = refl
 ended (c ∷ cs) empty says h = absurd (false≢true (sym (says ∙ ne_eqb (length (c ∷ cs)) 0 (λ e. omega arith)) ∙ h))
 
 -- an empty text spells no steps
-pub spells_some : (text : List ℕ) (steps : List PlanStep) → text ≡ [] → ¬ (Spells text steps)
-spells_some text [] e h = omega (arith, h.some)
-spells_some text (s ∷ steps) e h = subst (λ t. SpellsLines (lines_of t) (s ∷ steps)) e h.lines
+pub spells_none : (text : List ℕ) (steps : List PlanStep) → text ≡ [] → ¬ (Spells text steps)
+spells_none text [] e h = omega (arith, h.some)
+spells_none text (s ∷ steps) e h = subst (λ t. SpellsLines (lines_of t) (s ∷ steps)) e h.lines
 
 -- what refuses the lines of a text refuses it as a plan
 pub plan_fault : (text : List ℕ) (fault : PlanFault) → (fault.kind ≡ kind.Memory) ⊎ (HasTooManyLines text fault ⊎ HasFaultyLine text fault) → (fault.kind ≡ kind.Memory) ⊎ IsPlanFault text fault

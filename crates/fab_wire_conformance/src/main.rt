@@ -24,8 +24,8 @@
 //! book asks about every pair of ports, which has to answer as the other; and each by a desk that is opened
 //! anew over the tables, which have to have what was answered before. A story of tables is played in the first
 //! way alone. For each file a line says how many answers are as recorded. The form of a file of exchanges is told in
-//! `texts` of that crate; a line that is not of its form ends the player, which tells the file and the line on
-//! standard error, with status 3. So does a policy that is none.
+//! `texts` of `fab_worlds_players`; a line that is not of its form ends the player, which tells the file and the
+//! line on standard error, with status 3. So does a policy that is none.
 //!
 //! An answer that differs is told on standard output, beside the one that is recorded, with its line, and the
 //! status is 1: `CONTRIBUTING.md` shows how it is read.

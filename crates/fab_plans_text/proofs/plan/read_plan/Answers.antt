@@ -1,6 +1,6 @@
 use Rattle.std.proofs.Common.{refl, ap, length, arith, inl, inr}
 use Rattle.fab_plans_base.specs.Plans.{plan_text}
-use Rattle.fab_plans_text.proofs.PlanReadings.{ended, spells_some, plan_fault, long_printed}
+use Rattle.fab_plans_text.proofs.PlanReadings.{ended, spells_none, plan_fault, long_printed}
 use Rattle.fab_plans_text.proofs.plan.read_plan.Goals as goal
 
 pub returns-then-text-gt-MOST_BYTES-clause-fault : goal.returns-then-text-gt-MOST_BYTES-clause-fault
@@ -13,7 +13,7 @@ pub returns-then-is_empty-clause-fault : goal.returns-then-is_empty-clause-fault
 returns-then-is_empty-clause-fault g c = inr (inr (inl (record { empty = ended c.args.text.now c.is_empty.result c.is_empty.ensures c.if-is_empty.true; which = refl })))
 
 pub returns-then-is_empty-clause-only : goal.returns-then-is_empty-clause-only
-returns-then-is_empty-clause-only g c steps h = absurd (spells_some c.args.text.now steps (ended c.args.text.now c.is_empty.result c.is_empty.ensures c.if-is_empty.true) h)
+returns-then-is_empty-clause-only g c steps h = absurd (spells_none c.args.text.now steps (ended c.args.text.now c.is_empty.result c.is_empty.ensures c.if-is_empty.true) h)
 
 pub returns-in-Err-clause-fault : goal.returns-in-Err-clause-fault
 returns-in-Err-clause-fault g c = plan_fault c.args.text.now c.in-Err.fault c.in-Err.ensures.fault

@@ -7,7 +7,7 @@ use Rattle.fab_inventory.specs.declared.fault.InventoryFault.TheVariants.{WrongK
 use Rattle.fab_inventory.specs.declared.fault.InventoryLimit.TheVariants.{Holders}
 use Rattle.fab_inventory.specs.Holders.{IsPortFault}
 use Rattle.fab_inventory.specs.Inventories.{InventoryRows, IsSound, CanPutHolder, IsHolderPut, PutHolderFails}
-use Rattle.fab_inventory.proofs.Changes.{seen, copied, on_err, put_made, known_seen, free_seen, kind_seen, port_look_ups, holder_look_ups, port_fails}
+use Rattle.fab_inventory.proofs.Changes.{seen, seen_same, on_err, put_made, known_seen, free_seen, kind_seen, port_look_ups, holder_look_ups, port_fails}
 use Rattle.fab_lemmas.proofs.SeenMaps.{len_entries}
 use Rattle.fab_inventory.proofs.inventory.Inventory.put_holder.Goals as goal
 use Rattle.fab_inventory.proofs.inventory.Inventory.put_holder.Given.{Over}
@@ -83,12 +83,12 @@ returns-then-not-contains_key-clause-sound g c = subst IsSound c.self.view_is c.
 
 pub invariant_of-self : goal.invariant_of-self
 invariant_of-self g c =
-    subst IsSound (sym (copied c.self.inside.ports c.self.inside.holders c.self.inside.volumes c.self.inside.ports c.insert.new.self c.self.inside.volumes refl c.in_err-insert.ensures.err refl)) c.self.invariant
+    subst IsSound (sym (seen_same c.self.inside.ports c.self.inside.holders c.self.inside.volumes c.self.inside.ports c.insert.new.self c.self.inside.volumes refl c.in_err-insert.ensures.err refl)) c.self.invariant
 
 pub returns-in_err-insert-clause-sound : goal.returns-in_err-insert-clause-sound
 returns-in_err-insert-clause-sound g c =
-    subst IsSound (sym (copied c.self.inside.ports c.self.inside.holders c.self.inside.volumes c.self.inside.ports c.insert.new.self c.self.inside.volumes refl c.in_err-insert.ensures.err refl)) c.self.invariant
+    subst IsSound (sym (seen_same c.self.inside.ports c.self.inside.holders c.self.inside.volumes c.self.inside.ports c.insert.new.self c.self.inside.volumes refl c.in_err-insert.ensures.err refl)) c.self.invariant
 
 pub returns-in_err-insert-clause-unchanged : goal.returns-in_err-insert-clause-unchanged
 returns-in_err-insert-clause-unchanged g c =
-    on_err c.from_residual.result (copied c.self.inside.ports c.self.inside.holders c.self.inside.volumes c.self.inside.ports c.insert.new.self c.self.inside.volumes refl c.in_err-insert.ensures.err refl ∙ c.self.view_is)
+    on_err c.from_residual.result (seen_same c.self.inside.ports c.self.inside.holders c.self.inside.volumes c.self.inside.ports c.insert.new.self c.self.inside.volumes refl c.in_err-insert.ensures.err refl ∙ c.self.view_is)

@@ -8,7 +8,7 @@ use Rattle.fab_inventory.specs.declared.holder.HolderKind.TheVariants.{Array}
 use Rattle.fab_inventory.specs.declared.fault.InventoryFault.TheVariants.{Limit, Unknown}
 use Rattle.fab_inventory.specs.declared.fault.InventoryLimit.TheVariants.{Volumes}
 use Rattle.fab_inventory.specs.Inventories.{InventoryRows, IsSound, CanPutVolume, PutVolumeFails}
-use Rattle.fab_inventory.proofs.Changes.{seen, copied, on_err, volume_put_made, kind_seen, volume_look_ups}
+use Rattle.fab_inventory.proofs.Changes.{seen, seen_same, on_err, volume_put_made, kind_seen, volume_look_ups}
 use Rattle.fab_lemmas.proofs.SeenMaps.{len_entries}
 use Rattle.fab_inventory.proofs.inventory.Inventory.put_volume.Goals as goal
 use Rattle.fab_inventory.proofs.inventory.Inventory.put_volume.Given.{Over}
@@ -70,12 +70,12 @@ returns-then-not-contains_key-clause-sound g c = subst IsSound c.self.view_is c.
 
 pub invariant_of-self : goal.invariant_of-self
 invariant_of-self g c =
-    subst IsSound (sym (copied c.self.inside.ports c.self.inside.holders c.self.inside.volumes c.self.inside.ports c.self.inside.holders c.insert.new.self refl refl c.in_err-insert.ensures.err)) c.self.invariant
+    subst IsSound (sym (seen_same c.self.inside.ports c.self.inside.holders c.self.inside.volumes c.self.inside.ports c.self.inside.holders c.insert.new.self refl refl c.in_err-insert.ensures.err)) c.self.invariant
 
 pub returns-in_err-insert-clause-sound : goal.returns-in_err-insert-clause-sound
 returns-in_err-insert-clause-sound g c =
-    subst IsSound (sym (copied c.self.inside.ports c.self.inside.holders c.self.inside.volumes c.self.inside.ports c.self.inside.holders c.insert.new.self refl refl c.in_err-insert.ensures.err)) c.self.invariant
+    subst IsSound (sym (seen_same c.self.inside.ports c.self.inside.holders c.self.inside.volumes c.self.inside.ports c.self.inside.holders c.insert.new.self refl refl c.in_err-insert.ensures.err)) c.self.invariant
 
 pub returns-in_err-insert-clause-unchanged : goal.returns-in_err-insert-clause-unchanged
 returns-in_err-insert-clause-unchanged g c =
-    on_err c.from_residual.result (copied c.self.inside.ports c.self.inside.holders c.self.inside.volumes c.self.inside.ports c.self.inside.holders c.insert.new.self refl refl c.in_err-insert.ensures.err ∙ c.self.view_is)
+    on_err c.from_residual.result (seen_same c.self.inside.ports c.self.inside.holders c.self.inside.volumes c.self.inside.ports c.self.inside.holders c.insert.new.self refl refl c.in_err-insert.ensures.err ∙ c.self.view_is)
