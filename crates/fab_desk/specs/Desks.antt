@@ -10,7 +10,7 @@ use Rattle.fab_policy_base.specs.Callers.{HasToken}
 use Rattle.fab_policy_base.specs.Policies.{PolicyRows}
 use Rattle.fab_store_base.specs.Calls.{IsCounted, OpensNot, Rises}
 use Rattle.fab_store_base.specs.Worlds.{HoldsWorld, IsWritten}
-use Rattle.fab_store_base.specs.declared.faults.OpenFault.{OpenFault}
+use Rattle.fab_store_load.specs.declared.fault.OpenFault.{OpenFault}
 use Rattle.fab_store_base.specs.declared.store.Store as store
 use Rattle.fab_store_tables.specs.Tables.{Tables}
 use Rattle.fab_world.specs.Worlds.{WorldRows}

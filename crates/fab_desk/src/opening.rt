@@ -1,6 +1,6 @@
 //! A world with a book of its paths, from a store.
 ghost use Rattle.std.specs.Prelude.{◌≡◌, IfOk, IfErr, OnOk};
-ghost use Rattle.fab_store_base.specs.declared.faults.OpenFault.TheVariants as faults;
+ghost use Rattle.fab_store_load.specs.declared.fault.OpenFault.TheVariants as faults;
 ghost use Rattle.fab_store_base.specs.Calls.{IsCounted, OpensNot};
 ghost use Rattle.fab_store_tables.specs.Tables.{Tables};
 ghost use Rattle.fab_world.specs.Soundness.{IsSound};

@@ -127,7 +127,7 @@ impl<A: Allocator + Copy> Command<A> {
 }
 
 /// What a read asks for. A read meets no rule of the policy and changes nothing.
-#[derive(Clone, Copy, Debug, PartialEq, Eq, Drop)]
+#[derive(Clone, Copy, Drop)]
 pub enum Query {
     /// The paths whose initiator the host holds.
     Paths { host: Name },

@@ -52,7 +52,7 @@ pub enum DeskFault {
 }
 
 /// What there would be too many of.
-#[derive(Clone, Copy, Debug, PartialEq, Eq, Drop)]
+#[derive(Clone, Copy, Debug, Drop)]
 pub enum DeskLimit {
     /// More than 4096 known ports.
     Ports,

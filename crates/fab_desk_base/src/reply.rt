@@ -84,7 +84,7 @@ impl<A: Allocator + Copy> Drop for Reply<A> {
 }
 
 /// Why two ports may communicate.
-#[derive(Clone, Copy, Debug, PartialEq, Eq, Drop)]
+#[derive(Clone, Copy, Drop)]
 pub enum Joint {
     /// The first zone by name of the active set that has both.
     Zone(Name),

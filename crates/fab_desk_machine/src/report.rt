@@ -13,7 +13,7 @@ use fab_world::{KeptPlan, World};
 use std::alloc::Allocator;
 
 /// What is answered once a change is taken over, but for the lists of paths.
-#[derive(Clone, Copy, PartialEq, Eq, Drop)]
+#[derive(Clone, Copy, Drop)]
 pub enum Report {
     /// An import, a put or a drop was done: the revision after it.
     Changed {

@@ -2,6 +2,7 @@
 //! makes it: so each such call stands in one function here, and callers see a type parameter.
 
 use fab_policy_base::{Policy, TRIAL_POLICY};
+use fab_policy_text::ReadPolicy;
 use fab_reach::IndexBook;
 use fab_store::{OpenFault, RefusingStore, Store};
 use fab_wire::{Desk, serve_one};

@@ -8,7 +8,7 @@ use Rattle.fab_reach_base.specs.fab_names.declared.member.Member.{Member}
 use Rattle.fab_reach_base.specs.fab_zoning.Zonings.{flag_text}
 use Rattle.fab_reach_base.specs.fab_zoning.declared.flag.DefaultFlag.{DefaultFlag}
 use Rattle.fab_desk_base.specs.declared.reply.ZoneMembers.{ZoneMembers}
-use Rattle.fab_files.specs.Lines.{line_of}
+use Rattle.fab_files_base.specs.Lines.{line_of}
 
 -- a word, a space and a text
 abbrev pub words_line : List ℕ → List ℕ → List ℕ

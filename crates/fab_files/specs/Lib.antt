@@ -1,4 +1,3 @@
-pub mod Lines
 pub mod PathLists
 pub mod Reports
 pub mod ActiveSets

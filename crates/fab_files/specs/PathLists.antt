@@ -4,7 +4,7 @@ use Rattle.std.specs.List.{flat_map}
 use Rattle.fab_reach_base.specs.fab_names.Fabrics.{fabric_text}
 use Rattle.fab_reach_base.specs.fab_names.WorldWideNames.{wwn_text}
 use Rattle.fab_reach_base.specs.declared.path.Path.{Path}
-use Rattle.fab_files.specs.Lines.{line_of}
+use Rattle.fab_files_base.specs.Lines.{line_of}
 
 -- fields, and commas between them
 abbrev pub csv_line : List ℕ → List (List ℕ) → List ℕ

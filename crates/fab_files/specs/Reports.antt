@@ -1,5 +1,5 @@
 -- The report on the volumes to which a host has paths.
-use Rattle.std.specs.Prelude.{ℕ, ◌≡◌, ◌-◌, ◌&&◌, Bool, if◌then◌else◌, nat_lt, List, [], ◌∷◌, ◌++◌, map, length, replicate, codes, decimal, Contains, Result, Ok, Err}
+use Rattle.std.specs.Prelude.{ℕ, ◌≡◌, ◌&&◌, Bool, if◌then◌else◌, nat_lt, List, [], ◌∷◌, ◌++◌, map, codes, decimal, Contains, Result, Ok, Err}
 use Rattle.std.specs.List.{flat_map, count_by}
 use Rattle.std.specs.Str.{bytes_eq}
 use Rattle.fab_reach_base.specs.fab_names.Orders.{name_cmp}
@@ -8,34 +8,9 @@ use Rattle.fab_reach_base.specs.fab_names.declared.fabric.Fabric.TheVariants.{A,
 use Rattle.fab_reach_base.specs.fab_inventory.Imports.{same_fabric}
 use Rattle.fab_reach_base.specs.fab_lemmas.Lists.{IsListOf}
 use Rattle.fab_reach_base.specs.declared.path.Path.{Path}
-use Rattle.fab_files.specs.Lines.{line_of}
+use Rattle.fab_files_base.specs.Columns.{row_line}
 use Rattle.fab_files.specs.declared.reports.ReportFault.{ReportFault}
 use Rattle.fab_files.specs.declared.reports.ReportFault.TheVariants.{Memory, Unsent}
-
--- ---- columns
-
--- how wide the columns of names and of counts are
-abbrev pub name_width : ℕ
-name_width = 24
-
-abbrev pub count_width : ℕ
-count_width = 6
-
--- a text at the left or at the right of a column, with spaces beside it; a longer text is not cut
-abbrev pub left : ℕ → List ℕ → List ℕ
-left width text = text ++ replicate (width - length text) 32
-
-abbrev pub right : ℕ → List ℕ → List ℕ
-right width text = replicate (width - length text) 32 ++ text
-
--- a host, a volume, two counts and a state, with one space between columns
-unfoldable pub row_line : List ℕ → List ℕ → List ℕ → List ℕ → List ℕ → List ℕ
-row_line host volume over_a over_b state =
-    line_of 32 (left name_width host) (left name_width volume ∷ right count_width over_a ∷ right count_width over_b ∷ state ∷ [])
-
--- texts at the left of their columns, one space behind each, and a last text
-unfoldable pub columns_line : List (List ℕ) → List ℕ → List ℕ
-columns_line cells last = flat_map (λ cell. left name_width cell ++ 32 ∷ []) cells ++ (last ++ 10 ∷ [])
 
 -- the names of the columns
 unfoldable pub report_header : List ℕ

@@ -4,9 +4,9 @@ ghost use Rattle.fab_wire_streams.specs.Taking.{Takes};
 ghost use Rattle.fab_files.specs.Printed as printed;
 ghost use Rattle.fab_files.specs.Printed.{Prints};
 
-use crate::printing::PrintFault;
 use crate::{ReportFault, active_text, paths_csv, report};
 use fab_desk_base::{Reply, Shown, ZoneMembers};
+use fab_files_base::PrintFault;
 use fab_reach_base::Path;
 use fab_reach_base::names::{Fabric, Name};
 use fab_reach_base::zoning::DefaultFlag;
@@ -16,7 +16,7 @@ use fab_wire_streams::streams::WriteFailed;
 use std::alloc::Global;
 
 /// In which form an answer is printed. What does not fit the form is printed as `Json`.
-#[derive(Clone, Copy, PartialEq, Eq)]
+#[derive(Clone, Copy)]
 pub enum Form {
     /// Its JSON and a line feed.
     Json,

@@ -6,7 +6,6 @@
 #![tactic(auto)]
 
 mod active;
-mod columns;
 mod counts;
 mod forms;
 mod paths;
@@ -14,9 +13,8 @@ mod printing;
 mod reports;
 
 pub use active::active_text;
-pub use columns::{COUNT_WIDTH, NAME_WIDTH, put_four, put_three, spaces_beside};
 pub use fab_wire_requests::port_list::{FileFault, read_ports};
 pub use forms::Form;
 pub use paths::paths_csv;
-pub use printing::{End, PrintFault, Printable, print, print_text};
+pub use printing::print;
 pub use reports::{ReportFault, report};

@@ -4,8 +4,8 @@ ghost use Rattle.fab_wire_streams.specs.Taking.{Takes};
 ghost use Rattle.fab_files.specs.Reports.{Reports, report_header, counts_line, state_text};
 ghost use Rattle.fab_files.specs.Counting.{entry_lines};
 
-use crate::columns::put_row;
 use crate::counts::{Counts, counts_of};
+use fab_files_base::put_row;
 use fab_reach_base::Path;
 use fab_reach_base::names::Name;
 use fab_wire_streams::sink::Sink;
@@ -15,7 +15,7 @@ use std::alloc::Allocator;
 use std::collections::BTreeMap;
 
 /// Why a report was not put.
-#[derive(Clone, Copy, Debug, PartialEq, Eq, Drop)]
+#[derive(Clone, Copy, Debug, Drop)]
 pub enum ReportFault {
     /// There was no memory. Nothing was put.
     Memory,

@@ -13,7 +13,7 @@ use Rattle.fab_desk_base.specs.declared.reply.Shown.{Shown}
 use Rattle.fab_desk_base.specs.declared.reply.Shown.TheVariants as shown
 use Rattle.fab_desk_base.specs.declared.reply.ShownGroup.{ShownGroup}
 use Rattle.fab_desk_base.specs.declared.reply.ShownPlan.{ShownPlan}
-use Rattle.fab_files.specs.Reports.{columns_line}
+use Rattle.fab_files_base.specs.Columns.{columns_line}
 
 -- a thing of a tenant, and how many parts it has
 abbrev pub count_line : List ℕ → List ℕ → ℕ → List ℕ

@@ -2,7 +2,7 @@
 use Rattle.std.specs.Prelude.{ℕ, List, [], ◌∷◌, ◌++◌, codes}
 use Rattle.std.specs.List.{flat_map}
 use Rattle.fab_desk_base.specs.declared.reply.Shown.{Shown}
-use Rattle.fab_files.specs.Reports.{columns_line}
+use Rattle.fab_files_base.specs.Columns.{columns_line}
 use Rattle.fab_files_looks.specs.Lines.{listed_lines}
 use Rattle.fab_files_looks.specs.declared.lists.Table.{Table}
 use Rattle.fab_files_looks.specs.declared.lists.Table.TheVariants as table

@@ -4,7 +4,7 @@ use Rattle.std.specs.List.{flat_map}
 use Rattle.serde_json.specs.Data.{Data}
 use Rattle.fab_looks.specs.declared.reaching.Counts.{Counts}
 use Rattle.fab_looks_ways.specs.declared.reachers.Reacher.{Reacher}
-use Rattle.fab_files.specs.Reports.{left, name_width}
+use Rattle.fab_files_base.specs.Columns.{left, name_width}
 use Rattle.fab_wire_answers.specs.Parts.{word}
 use Rattle.fab_wire_streams.specs.JsonText.{json_text}
 use Rattle.fab_wire_streams.specs.Values.{record_of, list_data, whole}

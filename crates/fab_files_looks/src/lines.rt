@@ -5,7 +5,7 @@ ghost use Rattle.fab_files_looks.specs.Lines.{approval_text, approvals_text, cou
 ghost use Rattle.fab_wire_streams.specs.Taking.{Takes};
 
 use fab_desk_base::{Shown, ShownGroup, ShownPlan};
-use fab_files::{put_four, put_three};
+use fab_files_base::{put_four, put_three};
 use fab_inventory::Volume;
 use fab_names::{Fabric, Name, Place, Wwn};
 use fab_policy::Approval;

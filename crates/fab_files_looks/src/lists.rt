@@ -4,7 +4,7 @@ ghost use Rattle.fab_wire_streams.specs.Taking.{Takes};
 
 use crate::lines::put_listed;
 use fab_desk_base::Shown;
-use fab_files::{Printable, put_four, put_three};
+use fab_files_base::{Printable, put_four, put_three};
 use fab_wire_answers::parts::Parts;
 use fab_wire_streams::sink::Sink;
 use fab_wire_streams::streams::WriteFailed;

@@ -3,7 +3,7 @@ ghost use Rattle.fab_files_looks.specs.Reachers.{both_text, cell, counts_header,
 ghost use Rattle.fab_wire_streams.specs.Taking.{Takes};
 
 use crate::pieces::{Piece, Pieces};
-use fab_files::{NAME_WIDTH, Printable, spaces_beside};
+use fab_files_base::{NAME_WIDTH, Printable, spaces_beside};
 use fab_looks::Counts;
 use fab_looks_ways::Reacher;
 use fab_names::Name;

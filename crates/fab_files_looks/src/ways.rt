@@ -11,7 +11,7 @@ use crate::pairs::put_pairs;
 use crate::pieces::Pieces;
 use crate::words::{link_word, missing_words};
 use fab_desk_base::Shown;
-use fab_files::Printable;
+use fab_files_base::Printable;
 use fab_inventory::HolderKind;
 use fab_looks::{Link, Why, count_at};
 use fab_looks_ways::Pair;

@@ -6,7 +6,7 @@ ghost use Rattle.fab_wire_streams.specs.JsonText.{json_text};
 ghost use Rattle.fab_wire_streams.specs.Taking.{Takes};
 
 use crate::names::{hosts_word, put_hosts};
-use fab_files::Printable;
+use fab_files_base::Printable;
 use fab_looks_tries::{PathsMoved, TriedImport};
 use fab_wire_streams::object;
 use fab_wire_streams::sink::{Sink, put_all};

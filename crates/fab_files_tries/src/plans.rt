@@ -11,7 +11,7 @@ ghost use Rattle.fab_wire_streams.specs.Values.{list_data};
 
 use crate::names::put_listed;
 use crate::rows::{TextForm, put_row};
-use fab_files::Printable;
+use fab_files_base::Printable;
 use fab_looks_tries::{PathsMoved, TriedPlan};
 use fab_store_rows::ConfigRow;
 use fab_wire_streams::object;

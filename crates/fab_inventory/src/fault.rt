@@ -6,7 +6,7 @@ use fab_names::{Name, Wwn};
 use std::alloc::{AllocError, AllocFailed};
 
 /// Why a change is refused. The inventory is then as it was.
-#[derive(Clone, Copy, Debug, PartialEq, Eq, Drop)]
+#[derive(Clone, Copy, Debug, Drop)]
 pub enum InventoryFault {
     /// Two records of this port name differ.
     PortClash(Wwn),
@@ -27,7 +27,7 @@ pub enum InventoryFault {
 }
 
 /// What there would be too many of.
-#[derive(Clone, Copy, Debug, PartialEq, Eq, Drop)]
+#[derive(Clone, Copy, Debug, Drop)]
 pub enum InventoryLimit {
     /// More than 4096 known ports.
     Ports,
@@ -42,7 +42,7 @@ pub enum InventoryLimit {
 }
 
 /// Why there is no inventory with given ports, holders and volumes.
-#[derive(Clone, Copy, Debug, PartialEq, Eq, Drop)]
+#[derive(Clone, Copy, Debug, Drop)]
 pub enum RestoreFault {
     /// There are too many ports, a port names a holder that is not there, or a holder holds too
     /// many ports.

@@ -5,7 +5,7 @@ ghost use Rattle.fab_inventory.specs.Words.{kind_text};
 use fab_names::Name;
 
 /// What a holder is. Hosts and arrays share one space of names.
-#[derive(Clone, Copy, Debug, PartialEq, Eq)]
+#[derive(Clone, Copy, PartialEq, Eq)]
 pub enum HolderKind {
     /// Its ports are initiators.
     Host,

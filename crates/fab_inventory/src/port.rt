@@ -5,7 +5,7 @@ ghost use Rattle.std.specs.Prelude.{◌≡◌, None};
 use fab_names::{Address, Fabric, Name, Place, Wwn};
 
 /// A port as the inventory knows it.
-#[derive(Clone, Copy, PartialEq, Eq)]
+#[derive(Clone, Copy)]
 pub struct Port {
     /// Its N_Port_Name.
     pub name: Wwn,

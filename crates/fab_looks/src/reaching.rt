@@ -17,7 +17,7 @@ use std::alloc::{AllocError, Allocator};
 use std::collections::{BTreeMap, BTreeSet};
 
 /// How many paths a host has to a volume, at each fabric.
-#[derive(Clone, Copy, PartialEq, Eq)]
+#[derive(Clone, Copy)]
 pub struct Counts {
     /// How many over fabric A.
     pub a: usize,

@@ -6,7 +6,7 @@ use fab_inventory::names::{Name, Wwn};
 use std::alloc::{AllocError, AllocFailed};
 
 /// Why a change is refused. The mapping is then as it was.
-#[derive(Clone, Copy, Debug, PartialEq, Eq, Drop)]
+#[derive(Clone, Copy, Debug, Drop)]
 pub enum MappingFault {
     /// There is no such host, array, volume, host group or storage group, or the storage group
     /// does not have the host group.
@@ -30,7 +30,7 @@ pub enum MappingFault {
 }
 
 /// What there would be too many of.
-#[derive(Clone, Copy, Debug, PartialEq, Eq, Drop)]
+#[derive(Clone, Copy, Debug, Drop)]
 pub enum MappingLimit {
     /// More than 2048 host groups.
     HostGroups,

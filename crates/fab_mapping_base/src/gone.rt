@@ -14,7 +14,7 @@ use fab_inventory::names::{Name, Wwn};
 use std::alloc::Allocator;
 
 /// What a mapping names and an inventory has not.
-#[derive(Clone, Copy, Debug, PartialEq, Eq)]
+#[derive(Clone, Copy, Debug)]
 pub enum Gone {
     /// A host of a host group: no host has this name.
     Host(Name),

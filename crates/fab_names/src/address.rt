@@ -22,7 +22,7 @@ pub const LAST_ADDRESS: u32 = 0xEFFFFF;
 /// 8 bits each (FC-FS, address identifiers; FC-GS, the zone member by N_Port_ID).
 ///
 /// Addresses are ordered as numbers. A contract sees an address as its number.
-#[derive(Clone, Copy, Debug, PartialEq, Eq, PartialOrd, Ord)]
+#[derive(Clone, Copy, PartialEq, Eq, PartialOrd, Ord)]
 pub struct Address {
     number: u32,
 }

@@ -10,7 +10,7 @@ use std::alloc::{AllocError, Allocator};
 use std::fmt;
 
 /// One of the two fabrics, `A` before `B`.
-#[derive(Clone, Copy, Debug, PartialEq, Eq, PartialOrd, Ord)]
+#[derive(Clone, Copy, PartialEq, Eq, PartialOrd, Ord)]
 pub enum Fabric {
     /// Fabric A.
     A,

@@ -27,7 +27,7 @@ pub use tokens::{MOST_TOKEN_BYTES, is_token};
 pub use wwn::{PlainWwn, Wwn};
 
 /// Why a text is not read. Where several faults stand in a text, any one of them is answered.
-#[derive(Clone, Copy, Debug, PartialEq, Eq, Drop)]
+#[derive(Clone, Copy, Debug, Drop)]
 pub enum NameFault {
     /// The text is empty.
     Empty,

@@ -14,7 +14,7 @@ use std::fmt;
 /// in a zone, an alias (FC-GS, zone member types).
 ///
 /// Members are ordered by kind, as listed, and then by number or by name.
-#[derive(Clone, Copy, Debug, PartialEq, Eq, PartialOrd, Ord)]
+#[derive(Clone, Copy, PartialEq, Eq, PartialOrd, Ord)]
 pub enum Member {
     /// The port of this N_Port_Name.
     Port(Wwn),

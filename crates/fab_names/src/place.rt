@@ -22,7 +22,7 @@ pub const LAST_SLOT: u16 = 4095;
 /// (FC-GS, the zone member by Domain_ID and physical port).
 ///
 /// Places are ordered by domain and then by port.
-#[derive(Clone, Copy, Debug, PartialEq, Eq, PartialOrd, Ord)]
+#[derive(Clone, Copy, PartialEq, Eq, PartialOrd, Ord)]
 pub struct Place {
     domain: u8,
     slot: u16,

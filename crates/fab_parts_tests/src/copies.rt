@@ -43,7 +43,7 @@ fn is_whole(rt: &impl Abort, zoning: &Zoning<Global>, wanted: bool) -> bool {
             return false;
         }
     }
-    zoning.fabric() == Fabric::B && (zoning.flag() == DefaultFlag::Permit) == wanted
+    zoning.fabric() == Fabric::B && matches!(zoning.flag(), DefaultFlag::Permit) == wanted
 }
 
 /// A zoning with an alias, a zone of it, and a set of the zone, which is active.

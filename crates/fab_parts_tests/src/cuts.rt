@@ -1,6 +1,7 @@
 //! The worked policy, which is also that of trials, and what it is where it is cut behind a byte.
 use fab_policy::base::TRIAL_POLICY;
 use fab_policy::{Policy, PolicyFault};
+use fab_policy_text::ReadPolicy;
 use std::process::Abort;
 
 /// The worked policy.

@@ -1,5 +1,6 @@
 //! The words for each fault of a policy's text.
 use fab_policy::Policy;
+use fab_policy_text::ReadPolicy;
 use std::process::Abort;
 
 /// Texts, and how the fault of each is told: three that are no TOML, and one for each other fault.

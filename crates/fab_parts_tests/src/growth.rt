@@ -61,40 +61,32 @@ fn begun<'a>(rt: &(impl Abort + AllocGlobal), heap: Heap<'a>, case: Case) -> Wor
     made(rt, heap, &[FIRST_PLAN, "sg.new g2 blue arr1\n"])
 }
 
-/// Whether a call was accepted. Ends the test at another refusal than want of memory.
-fn accepted<E: PartialEq + Copy>(rt: &impl Abort, answer: Result<(), E>, memory: E) -> bool {
-    match answer {
-        Ok(()) => true,
-        Err(fault) => {
-            assert!(rt; fault == memory);
-            false
-        }
-    }
-}
-
-/// Whether the first holder is put, or there was no memory.
+/// Whether the first holder is put, or there was no memory. Ends the test at another refusal.
 fn puts(rt: &impl Abort, world: &mut World<Heap<'_>>) -> bool {
     let (blue, host) = (named(rt, "blue"), named(rt, "db1"));
     let done = world
         .inventory
         .put_holder(host, HolderKind::Host, blue, &[]);
-    accepted(rt, done, InventoryFault::Memory)
+    assert!(rt; matches!(done, Ok(()) | Err(InventoryFault::Memory)));
+    done.is_ok()
 }
 
-/// Whether the set is activated again, or there was no memory.
+/// Whether the set is activated again, or there was no memory. Ends the test at another refusal.
 fn activates(rt: &impl Abort, world: &mut World<Heap<'_>>) -> bool {
     let done = world.config.a.activate(&named(rt, "s1"));
-    accepted(rt, done, ZoningFault::Memory)
+    assert!(rt; matches!(done, Ok(()) | Err(ZoningFault::Memory)));
+    done.is_ok()
 }
 
-/// Whether the volume is mapped, or there was no memory.
+/// Whether the volume is mapped, or there was no memory. Ends the test at another refusal.
 fn maps(rt: &impl Abort, world: &mut World<Heap<'_>>) -> bool {
     let (group, volume) = (named(rt, "g2"), named(rt, "v1"));
     let done = world
         .config
         .mapping
         .map(&group, 0, &volume, &world.inventory);
-    accepted(rt, done, MappingFault::Memory)
+    assert!(rt; matches!(done, Ok(()) | Err(MappingFault::Memory)));
+    done.is_ok()
 }
 
 /// Whether the zones of fabric A are listed, or there was no memory.

@@ -1,7 +1,8 @@
 //! A writer that fails while an answer is printed.
 
 use fab_desk_base::Reply;
-use fab_files::{Form, PrintFault, print};
+use fab_files::{Form, print};
+use fab_files_base::PrintFault;
 use fab_test_wire::streams::Breaking;
 use fab_wire_answers::answers::Answer;
 use std::alloc::Global;

@@ -4,6 +4,7 @@ use crate::cuts::WORKED;
 use crate::named::named;
 use fab_names::Fabric;
 use fab_policy::{Act, Action, Approval, Need, PlanApprovals, Policy, Verdict, decide};
+use fab_policy_text::ReadPolicy;
 use std::process::Abort;
 
 /// Who approved ada's plan, and at which revision.

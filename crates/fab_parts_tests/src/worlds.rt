@@ -6,6 +6,7 @@ use fab_names::{Fabric, Place, Wwn};
 use fab_plans::trial;
 use fab_plans_text::read_plan;
 use fab_policy::Policy;
+use fab_policy_text::ReadPolicy;
 use fab_reach::Config;
 use fab_test_alloc::Refusing;
 use fab_world::World;

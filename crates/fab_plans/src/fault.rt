@@ -6,7 +6,7 @@ use fab_reach_base::mapping::Nexus;
 use fab_reach_base::names::{Name, Wwn};
 
 /// What a refusal names.
-#[derive(Clone, Copy, Debug, PartialEq, Eq, Drop)]
+#[derive(Clone, Copy, Debug, Drop)]
 pub enum Item {
     /// An alias, a zone, a zone set, a host, an array, a volume, a host group or a storage group.
     Name(Name),
@@ -17,7 +17,7 @@ pub enum Item {
 }
 
 /// What there would be too many of.
-#[derive(Clone, Copy, Debug, PartialEq, Eq, Drop)]
+#[derive(Clone, Copy, Debug, Drop)]
 pub enum StepLimit {
     /// More than 2048 aliases of a fabric.
     Aliases,
@@ -53,7 +53,7 @@ impl StepLimit {
 }
 
 /// Why a plan is refused: what the records do not allow.
-#[derive(Clone, Copy, Debug, PartialEq, Eq, Drop)]
+#[derive(Clone, Copy, Debug, Drop)]
 pub enum Refusal {
     /// There is a storage group of this name already.
     Exists(Name),
@@ -73,7 +73,7 @@ pub enum Refusal {
 }
 
 /// Why a step is not done.
-#[derive(Clone, Copy, Debug, PartialEq, Eq, Drop)]
+#[derive(Clone, Copy, Debug, Drop)]
 pub(crate) enum StepFault {
     /// The records refuse it.
     Refused(Refusal),
@@ -82,7 +82,7 @@ pub(crate) enum StepFault {
 }
 
 /// Why a trial gives no configuration.
-#[derive(Clone, Copy, Debug, PartialEq, Eq, Drop)]
+#[derive(Clone, Copy, Debug, Drop)]
 pub enum TrialFault {
     /// The number of the first step that is refused, the first being 1, and why; or 0 and the
     /// least clash, where each step is done and a clash stands at the end.

@@ -9,7 +9,7 @@ use std::alloc::{AllocFailed, Allocator};
 use std::collections::BTreeMap;
 
 /// Why an approval is refused. The plan is then as it was.
-#[derive(Clone, Copy, Debug, PartialEq, Eq, Drop)]
+#[derive(Clone, Copy, Debug, Drop)]
 pub enum ApprovalFault {
     /// The caller is the author.
     OwnPlan,

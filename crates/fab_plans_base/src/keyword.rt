@@ -7,7 +7,7 @@ ghost use Rattle.fab_plans_base.specs.declared.keyword.Keyword.{Keyword};
 use crate::{MOST_ITEMS, MappingKeyword, ZoningKeyword};
 
 /// The first word of a line, which says what its step does.
-#[derive(Clone, Copy, PartialEq, Eq)]
+#[derive(Clone, Copy)]
 pub enum Keyword {
     /// A word of zoning.
     Zoning(ZoningKeyword),

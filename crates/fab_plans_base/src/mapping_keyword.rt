@@ -7,7 +7,7 @@ ghost use Rattle.fab_plans_base.specs.declared.keyword.Keyword.TheVariants.{Mapp
 use crate::keyword::fits_list;
 
 /// The first word of a line of mapping.
-#[derive(Clone, Copy, PartialEq, Eq)]
+#[derive(Clone, Copy)]
 pub enum MappingKeyword {
     /// `hg.put`
     HostGroupPut,

@@ -7,7 +7,7 @@ ghost use Rattle.fab_plans_base.specs.declared.keyword.Keyword.TheVariants.{Zoni
 use crate::keyword::fits_list;
 
 /// The first word of a line of zoning.
-#[derive(Clone, Copy, PartialEq, Eq)]
+#[derive(Clone, Copy)]
 pub enum ZoningKeyword {
     /// `alias.put`
     AliasPut,

@@ -5,7 +5,7 @@ ghost use Rattle.fab_plans_text.specs.declared.fault.PlanFaultKind.TheVariants.{
 use std::alloc::{AllocError, AllocFailed};
 
 /// The first fault of a plan text, and its line.
-#[derive(Clone, Copy, Debug, PartialEq, Eq, Drop)]
+#[derive(Clone, Copy, Debug, Drop)]
 pub struct PlanFault {
     /// The number of the line, the first being 1, and 0 where the fault is the whole text's. Where
     /// there was no memory, the line that was being read, or 0.

@@ -3,9 +3,6 @@ pub use Rattle.fab_policy_base.specs.Limits
 pub use Rattle.fab_policy_base.specs.Callers
 pub use Rattle.fab_policy_base.specs.Sound
 pub use Rattle.fab_policy_base.specs.Words
-pub use Rattle.fab_policy_base.specs.Shapes
-pub use Rattle.fab_policy_base.specs.Forms
-pub use Rattle.fab_policy_base.specs.Tables
 pub use Rattle.fab_policy_base.specs.Told
 pub mod Windows
 pub mod Verdicts

@@ -1,10 +1,9 @@
 //! What is asked of a policy, and what it answers.
-ghost use Rattle.std.specs.Prelude.{◌≡◌, Some};
+ghost use Rattle.std.specs.Prelude.{◌≡◌};
 ghost use Rattle.fab_policy.specs.Needs as needs;
 
 use fab_names::{Fabric, Name};
 use fab_policy_base::{Action, CallerId};
-use std::fmt;
 
 /// An approval of a plan.
 #[derive(Clone, Copy)]
@@ -44,7 +43,7 @@ pub struct Act<'a> {
 }
 
 /// What a rule asks for, in the order in which it is judged.
-#[derive(Clone, Copy, Debug, PartialEq, Eq)]
+#[derive(Clone, Copy, Debug)]
 pub enum Need {
     /// A rule at all.
     Rule,
@@ -73,16 +72,6 @@ impl Need {
             Need::Approvals => "approvals",
             Need::Tenants => "tenants",
         }
-    }
-}
-
-impl fmt::Display for Need {
-    ghost use Rattle.fab_policy.specs.Needs.{need_word};
-
-    ghost output = { λ n. Some (need_word n) };
-
-    fn fmt<W: fmt::Write>(&self, f: &mut fmt::Formatter<W>) -> fmt::Result {
-        f.pad(self.word())
     }
 }
 

@@ -5,7 +5,7 @@ ghost use Rattle.fab_policy.specs.declared.act.Verdict.{Verdict};
 
 use crate::act::Act;
 use fab_policy_base::Policy;
-pub use fab_policy_base::laws::{one_policy, policy_is_sound};
+pub use fab_policy_base::laws::policy_is_sound;
 
 /// A policy has one verdict on an act at most.
 pub fn one_verdict(policy: &Policy, act: &Act)

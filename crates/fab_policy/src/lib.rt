@@ -1,7 +1,7 @@
 //! What a policy says of a command: `decide` gives the verdict on an act. It takes no memory and
 //! cannot fail.
 //!
-//! The policy itself and its text stand in `fab_policy_base` and are handed on here.
+//! The policy itself stands in `fab_policy_base` and is handed on here; its text is read in `fab_policy_text`.
 #![tactic(auto)]
 
 mod act;

@@ -1,10 +1,1 @@
-pub mod Excluded
 pub mod Found
-pub mod Handed
-pub mod Items
-pub mod OtherKeys
-pub mod Refused
-pub mod Repeats
-pub mod Same
-pub mod Sound
-pub mod Unique

@@ -3,7 +3,4 @@ pub mod Limits
 pub mod Callers
 pub mod Sound
 pub mod Words
-pub mod Shapes
-pub mod Forms
-pub mod Tables
 pub mod Told

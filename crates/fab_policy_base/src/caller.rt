@@ -7,7 +7,7 @@ use fab_names::Name;
 use std::marker::Model;
 
 /// A caller of a policy, by the place among its callers. A contract sees that number.
-#[derive(Clone, Copy, PartialEq, Eq)]
+#[derive(Clone, Copy)]
 pub struct CallerId {
     place: usize,
 }
@@ -31,7 +31,7 @@ fn has_name(names: &[Name], name: &Name) -> bool
 
 impl Caller {
     /// Whether the caller has the token.
-    pub(crate) fn has_token(&self, token: &str) -> bool
+    pub fn has_token(&self, token: &str) -> bool
         ensures { result ≡ spec.is_same self.now.token token.now }
     {
         self.token.as_str() == token

@@ -1,13 +1,10 @@
 //! Why a policy's text is refused.
-ghost use Rattle.std.specs.Prelude.{◌≡◌, Some};
-ghost use Rattle.fab_policy_base.specs.Shapes.{IsMemory};
+ghost use Rattle.std.specs.Prelude.{Some};
 ghost use Rattle.fab_policy_base.specs.Told.{fault_text};
-ghost use Rattle.fab_policy_base.specs.declared.fault.PolicyFault.TheVariants as fault;
 
 use crate::key::Key;
 use crate::text::Text;
 use fab_names::Name;
-use std::alloc::Global;
 use std::error::Error;
 use std::fmt;
 
@@ -49,13 +46,3 @@ impl fmt::Display for PolicyFault {
 }
 
 impl Error for PolicyFault {}
-
-/// The fault of a name that stands for nothing.
-pub(crate) fn unknown(alloc: Global, name: &str) -> PolicyFault
-    ensures { ¬ IsMemory result → result ≡ fault.Unknown name.now }
-{
-    match Text::new(alloc, name) {
-        Ok(name) => PolicyFault::Unknown(name),
-        Err(_) => PolicyFault::Memory,
-    }
-}

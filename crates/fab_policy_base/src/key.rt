@@ -5,7 +5,7 @@ ghost use Rattle.fab_policy_base.specs.Words.{key_word, is_word_of};
 use std::fmt;
 
 /// A key of a policy's text.
-#[derive(Clone, Copy, Debug, PartialEq, Eq)]
+#[derive(Clone, Copy, Debug)]
 pub enum Key {
     /// The callers of a policy.
     Callers,
@@ -82,7 +82,7 @@ impl fmt::Display for Key {
 }
 
 /// Whether the text is the word of one of the keys.
-pub(crate) fn is_word_of(keys: &[Key], text: &str) -> bool
+pub fn is_word_of(keys: &[Key], text: &str) -> bool
     ensures { result ≡ is_word_of keys.now text.now }
 {
     keys.iter().any(|key| key.word() == text)

@@ -1,27 +1,22 @@
-//! The policy of a change desk as a value, and its text: callers, windows and rules.
+//! The policy of a change desk as a value: callers, windows and rules.
 //!
-//! `Policy::read` reads a policy from TOML, and `Policy::caller` finds the caller of a token. What
-//! the reader proves of a policy is an invariant of the type: `laws::policy_is_sound` says it.
-//! The verdicts are `fab_policy`'s, which hands on what stands here.
+//! `Policy::caller` finds the caller of a token. That names stand once, and more, is an invariant of the
+//! type: `laws::policy_is_sound` says it. Its text is read in `fab_policy_text`. The verdicts are
+//! `fab_policy`'s, which hands on what stands here.
 #![tactic(auto)]
 
 mod caller;
-mod distinct;
 mod fault;
-mod forms;
 mod key;
 pub mod laws;
 pub mod limits;
 mod policy;
-mod read;
-mod reading;
-mod tables;
 mod text;
 mod trial;
 
 pub use caller::CallerId;
 pub use fault::PolicyFault;
-pub use key::Key;
+pub use key::{Key, is_word_of};
 pub use policy::{
     Action, Caller, Freeze, Policy, Quorum, Rule, Scope, Tenants, WEEK_MINUTES, WeekSpan, Window,
 };

@@ -1,5 +1,6 @@
 //! A policy: its callers, its windows and its rules.
 ghost use Rattle.std.specs.Prelude.{◌≡◌};
+ghost use Rattle.fab_policy_base.specs.Sound.{IsSound};
 ghost use Rattle.fab_policy_base.specs.Words.{action_word};
 
 use crate::text::Text;
@@ -95,7 +96,7 @@ impl Model for Caller {
 pub const WEEK_MINUTES: u64 = 10080;
 
 /// A part of each week, in minutes from Monday 00:00 UTC: from the first on, before the second.
-#[derive(Clone, Copy, PartialEq, Eq)]
+#[derive(Clone, Copy)]
 pub struct WeekSpan {
     /// Its first minute.
     pub from: u64,
@@ -104,7 +105,7 @@ pub struct WeekSpan {
 }
 
 /// A time without changes, in Unix seconds: from the first on, before the second.
-#[derive(Clone, Copy, PartialEq, Eq)]
+#[derive(Clone, Copy)]
 pub struct Freeze {
     /// Its first second.
     pub from: u64,
@@ -142,7 +143,7 @@ impl Model for Window {
 }
 
 /// How far a rule lets a caller reach.
-#[derive(Clone, Copy, PartialEq, Eq)]
+#[derive(Clone, Copy)]
 pub enum Scope {
     /// To the caller's own tenants.
     Own,
@@ -240,4 +241,19 @@ impl Model for Policy {
     ghost view = { λ p. record { callers = p.callers.items; windows = p.windows.items; rules = p.rules.items } };
 
     ghost invariant = { λ p. IsSound (record { callers = p.callers.items; windows = p.windows.items; rules = p.rules.items }) };
+}
+
+impl Policy {
+    /// A policy of these callers, windows and rules, in which names and tokens stand once, each window that a
+    /// rule names is there, and no limit is passed.
+    pub fn new(callers: Vec<Caller>, windows: Vec<Window>, rules: Vec<Rule>) -> Policy
+        requires { IsSound (record { callers = callers.items; windows = windows.items; rules = rules.items }) }
+        ensures { result ≡ record { callers = callers.items; windows = windows.items; rules = rules.items } }
+    {
+        Policy {
+            callers,
+            windows,
+            rules,
+        }
+    }
 }

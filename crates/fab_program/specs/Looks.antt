@@ -1,7 +1,7 @@
 -- Looks of one caller at a database.
 use Rattle.std.specs.Prelude.{ℕ, List, Bool, Option, Result}
 use Rattle.std.specs.declared.alloc.Global.{Global}
-use Rattle.fab_files.specs.declared.printing.End.{End}
+use Rattle.fab_files_base.specs.declared.printing.End.{End}
 use Rattle.fab_program_looks.specs.Looks.{LooksOver}
 use Rattle.fab_program_looks.specs.declared.looks.Look.{Look}
 use Rattle.fab_program_looks.specs.declared.looks.Look.TheVariants as look

@@ -3,7 +3,7 @@ use Rattle.std.specs.Prelude.{ℕ, ◌≡◌, ◌⊎◌, List, Option, None, Res
 use Rattle.std.specs.declared.alloc.Global.{Global}
 use Rattle.fab_desk_base.specs.declared.command.Query.TheVariants as query
 use Rattle.fab_files.specs.declared.forms.Form.TheVariants as form
-use Rattle.fab_files.specs.declared.printing.End.{End}
+use Rattle.fab_files_base.specs.declared.printing.End.{End}
 use Rattle.fab_program_outside.specs.Faults.{line_of, words_line}
 use Rattle.fab_program_outside.specs.Moments.{IsMoment}
 use Rattle.fab_program_outside.specs.Telling.{IsTold}

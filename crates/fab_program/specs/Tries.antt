@@ -1,7 +1,7 @@
 -- What imports and plans that are tried come to at a database.
 use Rattle.std.specs.Prelude.{ℕ, List, Option, Result}
 use Rattle.std.specs.declared.alloc.Global.{Global}
-use Rattle.fab_files.specs.declared.printing.End.{End}
+use Rattle.fab_files_base.specs.declared.printing.End.{End}
 use Rattle.fab_policy_base.specs.Policies.{PolicyRows}
 use Rattle.fab_program_desks.specs.Commands.{IsReadAt}
 use Rattle.fab_program_desks.specs.declared.database.Databases as databases

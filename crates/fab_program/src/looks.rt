@@ -5,7 +5,7 @@ ghost use Rattle.fab_program.specs.Looks.{ComesLooking, WhyComes, WhoComes, Name
 ghost use Rattle.fab_program_looks.specs.Looks.{LooksOver};
 ghost use Rattle.fab_program_outside.specs.Coming.{Then};
 
-use fab_files::End;
+use fab_files_base::End;
 use fab_policy_base::Policy;
 use fab_program_desks::Databases;
 use fab_program_looks::looks::{Asked, Look, look_over};

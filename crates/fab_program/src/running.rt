@@ -13,7 +13,7 @@ ghost use Rattle.fab_program.specs.Runs.{Comes, EndsAt, IsToldOf, IsToldOfWords,
 
 use crate::looks::{names, who, why};
 use crate::tries::{diff, try_import};
-use fab_files::End;
+use fab_files_base::End;
 use fab_program_checks::{Modes, check, explain, now_in};
 use fab_program_desks::{
     Addresses, Databases, Front, dry_run, export, import, make, once, paths, report, serve,

@@ -4,7 +4,7 @@ ghost use Rattle.fab_program_outside.specs.Coming.{Then};
 ghost use Rattle.fab_program_looks.specs.Told.{TellsImport};
 ghost use Rattle.fab_program_looks.specs.Tries.{ComesTold};
 
-use fab_files::End;
+use fab_files_base::End;
 use fab_names::Fabric;
 use fab_policy_base::Policy;
 use fab_program_desks::Databases;

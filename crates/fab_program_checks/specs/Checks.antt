@@ -1,7 +1,7 @@
 -- What a check of a file comes to.
 use Rattle.std.specs.Prelude.{ℕ, ◌≡◌, ◌⊎◌, List, Option, None, Result, Err}
-use Rattle.fab_files.specs.declared.printing.End.{End}
-use Rattle.fab_files.specs.declared.printing.End.TheVariants.{Done, Refused}
+use Rattle.fab_files_base.specs.declared.printing.End.{End}
+use Rattle.fab_files_base.specs.declared.printing.End.TheVariants.{Done, Refused}
 use Rattle.fab_program_checks.specs.Findings.{IsPlanFinding, IsPolicyFinding, IsPortsFinding, IsTextFinding}
 use Rattle.fab_program_checks.specs.Lines.{finding_text}
 use Rattle.fab_program_checks.specs.declared.findings.Finding.{Finding}

@@ -1,7 +1,7 @@
 -- What explaining a policy comes to.
 use Rattle.std.specs.Prelude.{ℕ, ◌≡◌, ◌⊎◌, List, ◌++◌, Option, Some, None, Result, Err, codes}
-use Rattle.fab_files.specs.declared.printing.End.{End}
-use Rattle.fab_files.specs.declared.printing.End.TheVariants.{Done, Refused}
+use Rattle.fab_files_base.specs.declared.printing.End.{End}
+use Rattle.fab_files_base.specs.declared.printing.End.TheVariants.{Done, Refused}
 use Rattle.fab_files_policy.specs.Findings.{explained_text}
 use Rattle.fab_files_policy.specs.Shown.{policy_text}
 use Rattle.fab_policy_base.specs.Policies.{PolicyRows}

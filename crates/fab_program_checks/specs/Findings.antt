@@ -5,9 +5,9 @@ use Rattle.fab_plans_base.specs.Steps.{PlanStep}
 use Rattle.fab_plans_base.specs.Plans.{Spells}
 use Rattle.fab_plans_text.specs.Faults.{IsPlanFault}
 use Rattle.fab_policy_base.specs.Policies.{PolicyRows}
-use Rattle.fab_policy_base.specs.Shapes.{IsMemory}
+use Rattle.fab_policy_text.specs.Shapes.{IsMemory}
 use Rattle.fab_policy_base.specs.declared.fault.PolicyFault.{PolicyFault}
-use Rattle.fab_policy_base.specs.Tables.{SpellsPolicy, HasPolicyFault}
+use Rattle.fab_policy_text.specs.Tables.{SpellsPolicy, HasPolicyFault}
 use Rattle.fab_policy_looks.specs.Warnings.{warnings_of}
 use Rattle.fab_program_checks.specs.declared.findings.Finding.{Finding}
 use Rattle.fab_program_checks.specs.declared.findings.Finding.TheVariants as finding

@@ -8,7 +8,7 @@ ghost use Rattle.fab_program_outside.specs.Printing.{Prints};
 use crate::findings::{Finding, find_plan, find_policy, find_ports};
 use crate::lines::FindingText;
 use crate::modes::Modes;
-use fab_files::End;
+use fab_files_base::End;
 use fab_program_outside::{Fault, Files, bytes_of, print_as};
 use fab_program_words::Check;
 use std::alloc::Global;

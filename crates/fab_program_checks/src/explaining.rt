@@ -8,7 +8,7 @@ ghost use Rattle.fab_wire_streams.specs.Taking.{Takes};
 
 use crate::deeds::{act_of, caller_named};
 use crate::parts::{approvals_in, names_in};
-use fab_files::{End, Printable};
+use fab_files_base::{End, Printable};
 use fab_files_policy::{put_explained, put_policy};
 use fab_names::Name;
 use fab_policy::{Act, CallerId, Policy, Verdict, decide};

@@ -4,6 +4,7 @@ ghost use Rattle.fab_program_checks.specs.Findings.{IsFindingOf, IsListFinding, 
 use fab_plans_text::{PlanFault, PlanFaultKind, read_plan};
 use fab_policy_base::{Policy, PolicyFault};
 use fab_policy_looks::{Warning, warnings_of};
+use fab_policy_text::ReadPolicy;
 use fab_program_outside::{Fault, is_too_large};
 use fab_wire_requests::port_list::{FileFault, read_ports};
 use std::alloc::Global;

@@ -7,7 +7,7 @@ ghost use Rattle.fab_wire_streams.specs.Taking.{Takes};
 use crate::findings::Finding;
 use crate::notes::{put_mode, put_warnings, warnings_in};
 use crate::words::plan_words;
-use fab_files::Printable;
+use fab_files_base::Printable;
 use fab_plans_text::PlanFault;
 use fab_policy_base::PolicyFault;
 use fab_wire_streams::sink::{Sink, put_all};

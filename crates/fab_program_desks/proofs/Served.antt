@@ -2,7 +2,7 @@
 use Rattle.std.proofs.Common.{ℕ, List, [], ◌∷◌, Option, Some, None, Result, Ok, Err, inl, inr}
 use Rattle.std.specs.Bool.{⊤}
 use Rattle.std.specs.declared.net.TcpListener.{TcpListener}
-use Rattle.fab_files.specs.declared.printing.End.{End}
+use Rattle.fab_files_base.specs.declared.printing.End.{End}
 use Rattle.fab_program_outside.specs.Coming.{After}
 use Rattle.fab_program_outside.specs.declared.faults.Fault.{Fault}
 use Rattle.fab_wire_streams.specs.declared.counted.Counted.{Counted}

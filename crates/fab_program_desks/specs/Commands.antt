@@ -7,7 +7,7 @@ use Rattle.fab_desk_base.specs.declared.command.Query.{Query}
 use Rattle.fab_policy_base.specs.Policies.{PolicyRows}
 use Rattle.fab_files.specs.declared.forms.Form.{Form}
 use Rattle.fab_files.specs.declared.forms.Form.TheVariants.{Json}
-use Rattle.fab_files.specs.declared.printing.End.{End}
+use Rattle.fab_files_base.specs.declared.printing.End.{End}
 use Rattle.fab_program_outside.specs.Coming.{Then}
 use Rattle.fab_program_outside.specs.Contents.{HasContent, IsPolicyAt, IsUnread}
 use Rattle.fab_program_outside.specs.declared.faults.Fault.{Fault}

@@ -2,7 +2,7 @@
 use Rattle.std.specs.Prelude.{◌≡◌, ◌⊎◌, Result, Ok, Err}
 use Rattle.std.specs.declared.alloc.Global.{Global}
 use Rattle.fab_policy_base.specs.Policies.{PolicyRows}
-use Rattle.fab_program_loading.specs.Loading.{fault_of_opening}
+use Rattle.fab_program_outside.specs.Faults.{fault_of_opening}
 use Rattle.fab_program_outside.specs.Coming.{Then}
 use Rattle.fab_program_outside.specs.Contents.{IsFree, IsUsed}
 use Rattle.fab_program_outside.specs.declared.faults.Fault.{Fault}

@@ -3,8 +3,8 @@ use Rattle.std.specs.Prelude.{ℕ, ◌≡◌, ◌⊎◌, List, Option, Result, O
 use Rattle.std.specs.declared.alloc.Global.{Global}
 use Rattle.fab_policy_base.specs.Policies.{PolicyRows}
 use Rattle.fab_policy_base.specs.declared.trial.TheConstants.{TRIAL_POLICY}
-use Rattle.fab_files.specs.declared.printing.End.{End}
-use Rattle.fab_files.specs.declared.printing.End.TheVariants.{Done}
+use Rattle.fab_files_base.specs.declared.printing.End.{End}
+use Rattle.fab_files_base.specs.declared.printing.End.TheVariants.{Done}
 use Rattle.fab_program_outside.specs.Coming.{After, Then}
 use Rattle.fab_program_outside.specs.Contents.{IsPolicyAt, IsPolicyFrom}
 use Rattle.fab_program_outside.specs.declared.faults.Fault.{Fault}

@@ -5,8 +5,8 @@ use Rattle.fab_wire_answers.specs.declared.answers.Answer.{Answer}
 use Rattle.fab_files.specs.Ends.{end_of}
 use Rattle.fab_files.specs.Printed.{IsPrinted}
 use Rattle.fab_files.specs.declared.forms.Form.{Form}
-use Rattle.fab_files.specs.declared.printing.End.{End}
-use Rattle.fab_files.specs.declared.printing.PrintFault.{PrintFault}
+use Rattle.fab_files_base.specs.declared.printing.End.{End}
+use Rattle.fab_files_base.specs.declared.printing.PrintFault.{PrintFault}
 use Rattle.fab_program_outside.specs.Printing.{fault_of_printing}
 use Rattle.fab_program_outside.specs.declared.faults.Fault.{Fault}
 

@@ -16,7 +16,7 @@ use Rattle.fab_store_sql.specs.Trees.{tables_of}
 use Rattle.fab_store_sql.specs.NewDesk.{IsNewDesk}
 use Rattle.fab_store_tables.specs.Tables.{Tables}
 use Rattle.fab_store_tables.specs.Versions.{IsMigrated}
-use Rattle.fab_program_loading.specs.Loading.{fault_of_opening}
+use Rattle.fab_program_outside.specs.Faults.{fault_of_opening}
 use Rattle.fab_program_outside.specs.declared.faults.Fault.{Fault}
 use Rattle.fab_program_outside.specs.declared.faults.Fault.TheVariants as fault
 

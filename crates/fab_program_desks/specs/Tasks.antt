@@ -4,7 +4,7 @@ use Rattle.std.specs.declared.alloc.Global.{Global}
 use Rattle.fab_wire_answers.specs.declared.answers.Answer.{Answer}
 use Rattle.fab_policy_base.specs.Policies.{PolicyRows}
 use Rattle.fab_files.specs.declared.forms.Form.{Form}
-use Rattle.fab_files.specs.declared.printing.End.{End}
+use Rattle.fab_files_base.specs.declared.printing.End.{End}
 use Rattle.fab_program_outside.specs.Coming.{After, Then}
 use Rattle.fab_program_outside.specs.declared.faults.Fault.{Fault}
 use Rattle.fab_store.specs.declared.Store as store

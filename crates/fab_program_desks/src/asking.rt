@@ -8,7 +8,7 @@ ghost use Rattle.fab_program_desks.specs.Once.{ComesOnce, IsServedAt, IsServedOv
 
 use crate::database::{Databases, ProgramDesk, desk_over};
 use crate::machine::new_tables;
-use fab_files::End;
+use fab_files_base::End;
 use fab_policy_base::{Policy, TRIAL_POLICY};
 use fab_program_outside::{Fault, Files, policy_from, policy_of};
 use fab_program_words::{Once, Over};

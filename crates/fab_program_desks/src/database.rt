@@ -4,8 +4,7 @@ ghost use Rattle.fab_program_outside.specs.declared.faults.Fault.{Fault};
 ghost use Rattle.fab_program_desks.specs.Databases.{IsAgain, IsDeskOver, IsMade};
 
 use fab_policy_base::Policy;
-use fab_program_loading::of_opening;
-use fab_program_outside::{Fault, Files, is_free};
+use fab_program_outside::{Fault, Files, is_free, of_opening};
 use fab_reach::IndexBook;
 use fab_store::{OpenFault, Store};
 use fab_wire::Desk;

@@ -88,7 +88,7 @@ impl<S: Store<Global>> Server for Front<S> {
         ensures { shown_text result ≡ outcome_text outcome.now }
     {
         match outcome {
-            Outcome::Answered(status) => Shown::Status(status.as_u16()),
+            Outcome::Answered(status) => Shown::Status(*status),
             Outcome::Unsent => Shown::Word("unsent"),
             Outcome::ReadFailed => Shown::Word("read-failed"),
             Outcome::Empty => Shown::Word("empty"),

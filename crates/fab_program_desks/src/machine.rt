@@ -8,8 +8,7 @@ ghost use Rattle.fab_program_desks.specs.Tables.{AreBroughtFrom, AreFound, AreMa
 use crate::addresses::Addresses;
 use crate::connections::Connections;
 use crate::database::Databases;
-use fab_program_loading::of_opening;
-use fab_program_outside::{Fault, Machine};
+use fab_program_outside::{Fault, Machine, of_opening};
 use fab_store::{SqlStore, Store};
 use fab_wire_serving::listen_at;
 use sqlite::{Alter, Connection, Error, ErrorCode, File as DatabaseFile, FileStore, MemStore};

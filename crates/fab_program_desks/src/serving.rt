@@ -9,7 +9,7 @@ ghost use Rattle.fab_program_desks.specs.Servings.{AreServed, ComesServing, IsSe
 use crate::addresses::Addresses;
 use crate::database::{Databases, ProgramDesk, desk_over, tables_again};
 use crate::front::Front;
-use fab_files::End;
+use fab_files_base::End;
 use fab_policy_base::Policy;
 use fab_program_outside::{Fault, Files, policy_of};
 use fab_program_words::Serve;

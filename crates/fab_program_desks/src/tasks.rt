@@ -5,7 +5,8 @@ ghost use Rattle.fab_program_desks.specs.Tasks.{ComesOver, IsDone};
 ghost use Rattle.fab_wire.specs.Tasks.{AnswersTask};
 
 use crate::database::{ProgramDesk, desk_over};
-use fab_files::{End, Form, print};
+use fab_files::{Form, print};
+use fab_files_base::End;
 use fab_policy_base::Policy;
 use fab_program_outside::{Fault, of_printing};
 use fab_store::Store;

@@ -3,8 +3,8 @@ use Rattle.std.specs.Prelude.{ℕ, ◌≡◌, ◌⊎◌, ◌++◌, List, Bool, t
 use Rattle.std.specs.declared.alloc.Global.{Global}
 use Rattle.fab_desk_base.specs.declared.reply.Shown.{Shown}
 use Rattle.fab_desk_base.specs.declared.reply.Shown.TheVariants as shown
-use Rattle.fab_files.specs.declared.printing.End.{End}
-use Rattle.fab_files.specs.declared.printing.End.TheVariants.{Done}
+use Rattle.fab_files_base.specs.declared.printing.End.{End}
+use Rattle.fab_files_base.specs.declared.printing.End.TheVariants.{Done}
 use Rattle.fab_files_looks.specs.Lists.{rows_json, rows_text}
 use Rattle.fab_files_looks.specs.declared.lists.Table.{Table}
 use Rattle.fab_files_looks.specs.declared.lists.Table.TheVariants as table

@@ -2,18 +2,18 @@
 use Rattle.std.specs.Prelude.{ℕ, ◌⊎◌, List, Bool, Option, Result}
 use Rattle.std.specs.declared.alloc.Global.{Global}
 use Rattle.fab_desk_base.specs.Answers.{IsNobodys}
-use Rattle.fab_files.specs.declared.printing.End.{End}
+use Rattle.fab_files_base.specs.declared.printing.End.{End}
 use Rattle.fab_policy_base.specs.Callers.{IsOnlyWith}
 use Rattle.fab_policy_base.specs.Policies.{PolicyRows}
 use Rattle.fab_program_looks.specs.Lists.{TellsList}
-use Rattle.fab_program_loading.specs.Loading.{IsLoaded}
+use Rattle.fab_program_looks.specs.Loading.{IsLoaded}
 use Rattle.fab_program_looks.specs.Telling.{IsTurnedAway, TellsPort, TellsWay, TellsWho}
 use Rattle.fab_program_looks.specs.declared.looks.Asked.{Asked}
 use Rattle.fab_program_looks.specs.declared.looks.Look.{Look}
 use Rattle.fab_program_looks.specs.declared.looks.Look.TheVariants as look
 use Rattle.fab_program_outside.specs.Coming.{Then}
 use Rattle.fab_program_outside.specs.declared.faults.Fault.{Fault}
-use Rattle.fab_store.specs.declared.Store as store
+use Rattle.fab_store_base.specs.declared.store.Store as store
 use Rattle.fab_world.specs.Worlds.{WorldRows}
 
 module _ {W : Type 0} (contents : W → Option (List ℕ)) where

@@ -5,8 +5,8 @@ use Rattle.fab_desk_base.specs.declared.fault.DeskFault.TheVariants as refusal
 use Rattle.fab_desk_base.specs.declared.reply.Reply.TheVariants as reply
 use Rattle.fab_desk_base.specs.declared.reply.Shown.{Shown}
 use Rattle.fab_files.specs.Printed.{json_line}
-use Rattle.fab_files.specs.declared.printing.End.{End}
-use Rattle.fab_files.specs.declared.printing.End.TheVariants.{Done, Refused}
+use Rattle.fab_files_base.specs.declared.printing.End.{End}
+use Rattle.fab_files_base.specs.declared.printing.End.TheVariants.{Done, Refused}
 use Rattle.fab_files_looks.specs.Reachers.{reachers_json, reachers_text}
 use Rattle.fab_files_looks.specs.Lists.{rows_json}
 use Rattle.fab_files_looks.specs.Ways.{found_lines, way_json, way_text}

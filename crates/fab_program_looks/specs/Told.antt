@@ -10,8 +10,8 @@ use Rattle.fab_desk_base.specs.declared.reply.Reply.TheVariants as reply
 use Rattle.fab_desk_machine.specs.Foreseen.{IsTurnedDown}
 use Rattle.fab_desk_machine.specs.Proposals.{request_of}
 use Rattle.fab_files.specs.Printed.{json_line}
-use Rattle.fab_files.specs.declared.printing.End.{End}
-use Rattle.fab_files.specs.declared.printing.End.TheVariants.{Done, Refused}
+use Rattle.fab_files_base.specs.declared.printing.End.{End}
+use Rattle.fab_files_base.specs.declared.printing.End.TheVariants.{Done, Refused}
 use Rattle.fab_files_tries.specs.Imports.{import_json, import_text, is_over}
 use Rattle.fab_files_tries.specs.Plans.{plan_json, plan_text}
 use Rattle.fab_inventory.specs.declared.port.PortRow.{PortRow}

@@ -1,9 +1,9 @@
 -- What an import or a plan would do, over a store.
 use Rattle.std.specs.Prelude.{ℕ, ◌≡◌, ◌⊎◌, List, Bool, Option, Result, Err}
 use Rattle.std.specs.declared.alloc.Global.{Global}
-use Rattle.fab_files.specs.declared.printing.End.{End}
+use Rattle.fab_files_base.specs.declared.printing.End.{End}
 use Rattle.fab_policy_base.specs.Policies.{PolicyRows}
-use Rattle.fab_program_loading.specs.Loading.{IsLoaded}
+use Rattle.fab_program_looks.specs.Loading.{IsLoaded}
 use Rattle.fab_program_outside.specs.Coming.{After, Then}
 use Rattle.fab_program_outside.specs.declared.faults.Fault.{Fault}
 use Rattle.fab_program_outside.specs.declared.faults.Fault.TheVariants as fault
@@ -11,7 +11,7 @@ use Rattle.fab_program_looks.specs.Told.{TellsImport, TellsPlan}
 use Rattle.fab_program_looks.specs.declared.tries.Asked.{Asked}
 use Rattle.fab_program_looks.specs.declared.tries.Trial.{Trial}
 use Rattle.fab_program_looks.specs.declared.tries.Trial.TheVariants as trial
-use Rattle.fab_store.specs.declared.Store as store
+use Rattle.fab_store_base.specs.declared.store.Store as store
 use Rattle.fab_world.specs.Worlds.{WorldRows}
 
 module _ {W : Type 0} (contents : W → Option (List ℕ)) where

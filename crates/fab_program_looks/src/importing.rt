@@ -6,7 +6,8 @@ ghost use Rattle.fab_world.specs.Worlds.{records_of};
 
 use crate::told::{print_import, print_refusal, print_unread};
 use fab_desk_base::DeskFault;
-use fab_files::{End, FileFault, read_ports};
+use fab_files::{FileFault, read_ports};
+use fab_files_base::End;
 use fab_files_tries::looks_tries::try_import;
 use fab_inventory::PortRow;
 use fab_names::Fabric;

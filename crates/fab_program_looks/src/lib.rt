@@ -8,6 +8,7 @@
 mod books;
 mod importing;
 mod lists;
+mod loading;
 pub mod looks;
 mod planning;
 mod printing;

@@ -6,7 +6,7 @@ ghost use Rattle.fab_program_outside.specs.Printing.{Prints};
 ghost use Rattle.fab_world.specs.Soundness.{IsSound};
 
 use fab_desk_base::Shown;
-use fab_files::End;
+use fab_files_base::End;
 use fab_files_looks::{RowsJson, RowsText, Table};
 use fab_looks::{Kind, list_rows, port_rows};
 use fab_names::Fabric;

@@ -5,14 +5,14 @@ ghost use Rattle.fab_program_outside.specs.Coming.{After};
 ghost use Rattle.fab_world.specs.Soundness.{IsSound};
 
 use crate::lists::list_at;
+use crate::loading::world_of;
 use crate::printing::{port_at, turn_away, who_at, why_at};
-use fab_files::End;
+use fab_files_base::End;
 use fab_names::{Name, Wwn};
 use fab_policy::{CallerId, Policy};
-use fab_program_loading::world_of;
 use fab_program_outside::Fault;
 use fab_program_words::{ListKind, ListState};
-use fab_store::Store;
+use fab_store_base::Store;
 use fab_world::World;
 use std::alloc::Global;
 use std::io::Write;

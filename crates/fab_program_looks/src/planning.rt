@@ -4,7 +4,7 @@ ghost use Rattle.fab_world.specs.Soundness.{IsSound};
 ghost use Rattle.fab_world.specs.Worlds.{records_of};
 
 use crate::told::{print_plan, print_refusal};
-use fab_files::End;
+use fab_files_base::End;
 use fab_files_tries::looks_tries::try_plan;
 use fab_names::Name;
 use fab_policy::Policy;

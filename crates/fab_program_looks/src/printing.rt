@@ -5,7 +5,8 @@ ghost use Rattle.fab_program_outside.specs.Printing.{Prints};
 ghost use Rattle.fab_world.specs.Soundness.{IsSound};
 
 use fab_desk_base::{DeskFault, Reply, Shown};
-use fab_files::{End, Form, print};
+use fab_files::{Form, print};
+use fab_files_base::End;
 use fab_files_looks::{FoundText, ReachersJson, ReachersText, RowsJson, WayJson, WayText};
 use fab_looks::{Why, port_way, told, way_rows};
 use fab_looks_ways::{Pair, Reacher, pairs_told, reachers_told};

@@ -1,13 +1,14 @@
 //! What a caller is told, printed.
 ghost use Rattle.std.specs.Prelude.{◌≡◌};
 ghost use Rattle.fab_files.specs.Printed.{json_line};
-ghost use Rattle.fab_files.specs.declared.printing.End.TheVariants.{Done, Refused};
+ghost use Rattle.fab_files_base.specs.declared.printing.End.TheVariants.{Done, Refused};
 ghost use Rattle.fab_program_outside.specs.Printing.{Prints};
 ghost use Rattle.fab_program_looks.specs.Told as telling;
 ghost use Rattle.fab_program_looks.specs.Told.{import_output, plan_output, refused_with};
 
 use fab_desk_base::{DeskFault, Reply};
-use fab_files::{End, Form, print};
+use fab_files::{Form, print};
+use fab_files_base::End;
 use fab_files_tries::looks_tries::{TriedImport, TriedPlan};
 use fab_files_tries::{ImportJson, ImportText, PlanJson, PlanText, is_over};
 use fab_program_outside::{Fault, of_printing, print_as};

@@ -7,15 +7,15 @@ ghost use Rattle.fab_world.specs.Worlds.{records_of};
 
 use crate::books::book_of;
 use crate::importing::{ImportAsked, import_at};
+use crate::loading::world_of;
 use crate::planning::plan_at;
-use fab_files::End;
+use fab_files_base::End;
 use fab_names::{Fabric, Name};
 use fab_policy::Policy;
-use fab_program_loading::world_of;
 use fab_program_outside::Fault;
 use fab_reach::IndexBook;
 use fab_reach_books::PathBook;
-use fab_store::Store;
+use fab_store_base::Store;
 use fab_world::World;
 use std::alloc::Global;
 use std::io::Write;

@@ -45,7 +45,7 @@ const DIFF: &str =
     "Example: sandesk diff --db desk.db --policy policy.toml --token t-ada --plan p1";
 
 /// What the program does.
-#[derive(Clone, Copy, PartialEq, Eq)]
+#[derive(Clone, Copy)]
 pub enum Subcommand {
     /// Makes a database.
     Init,

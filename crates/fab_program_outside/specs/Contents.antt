@@ -1,8 +1,8 @@
 -- What files contain, and what stands at paths.
 use Rattle.std.specs.Prelude.{ℕ, ◌≡◌, ◌<◌, ◌+◌, ◌^◌, ◌⊎◌, List, length, take, Option, Some, None, IfSome, Result, Ok, Err, IsUtf8}
 use Rattle.fab_policy_base.specs.Policies.{PolicyRows}
-use Rattle.fab_policy_base.specs.Shapes.{IsMemory}
-use Rattle.fab_policy_base.specs.Tables.{SpellsPolicy}
+use Rattle.fab_policy_text.specs.Shapes.{IsMemory}
+use Rattle.fab_policy_text.specs.Tables.{SpellsPolicy}
 use Rattle.fab_policy_base.specs.declared.PolicyFault.{PolicyFault}
 use Rattle.fab_policy_base.specs.declared.PolicyFault.TheVariants as why
 use Rattle.fab_wire_streams.specs.Counting.{failures_of}

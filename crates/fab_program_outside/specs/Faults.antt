@@ -2,6 +2,8 @@
 use Rattle.std.specs.Prelude.{ℕ, List, [], ◌∷◌, codes, decimal}
 use Rattle.std.specs.List.{flat_map}
 use Rattle.fab_store_load.specs.TableNames.{table_name}
+use Rattle.fab_store_load.specs.declared.fault.OpenFault.{OpenFault}
+use Rattle.fab_store_load.specs.declared.fault.OpenFault.TheVariants as opening
 use Rattle.fab_program_outside.specs.declared.faults.Fault.{Fault}
 use Rattle.fab_program_outside.specs.declared.faults.Fault.TheVariants.{File, Policy, Store, Memory, Listen, Stream, Clock, Damaged, NewerSchema}
 
@@ -34,3 +36,11 @@ line_of other = word_line (word_of other)
 -- the line of words that have not their text form
 abbrev pub words_line : List ℕ
 words_line = word_line (codes "words")
+
+-- the fault of tables that are not those of a desk, or could not be read
+abbrev pub fault_of_opening : OpenFault → Fault
+fault_of_opening (opening.Damaged table) = Damaged table
+fault_of_opening (opening.NewerSchema schema) = NewerSchema schema
+fault_of_opening (opening.OldSchema schema) = Store
+fault_of_opening opening.Store = Store
+fault_of_opening opening.Memory = Memory

@@ -1,9 +1,9 @@
 -- What is printed to standard output.
 use Rattle.std.specs.Prelude.{ℕ, ◌≡◌, List, Option, Result, Ok, Err}
 use Rattle.std.specs.Io.KnownBytes.{Appends}
-use Rattle.fab_files.specs.declared.printing.End.{End}
-use Rattle.fab_files.specs.declared.printing.PrintFault.{PrintFault}
-use Rattle.fab_files.specs.declared.printing.PrintFault.TheVariants as print
+use Rattle.fab_files_base.specs.declared.printing.End.{End}
+use Rattle.fab_files_base.specs.declared.printing.PrintFault.{PrintFault}
+use Rattle.fab_files_base.specs.declared.printing.PrintFault.TheVariants as print
 use Rattle.fab_program_outside.specs.declared.faults.Fault.{Fault}
 use Rattle.fab_program_outside.specs.declared.faults.Fault.TheVariants as fault
 

@@ -6,7 +6,7 @@ use std::env::Env;
 use std::io::ErrorKind;
 
 /// Why there are no words.
-#[derive(Clone, Copy, Debug, PartialEq, Eq)]
+#[derive(Clone, Copy, Debug)]
 pub enum ArgsFault {
     /// A word is not UTF-8.
     NotText,

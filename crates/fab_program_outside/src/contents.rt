@@ -6,6 +6,7 @@ ghost use Rattle.fab_program_outside.specs.Contents.{HasContent, HasFirst, IsRea
 use crate::faults::Fault;
 use crate::files::Files;
 use fab_policy_base::{Policy, PolicyFault};
+use fab_policy_text::ReadPolicy;
 use fab_wire_streams::counted::Counted;
 use std::alloc::Global;
 use std::io::{ErrorKind, Read};

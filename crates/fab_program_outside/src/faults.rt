@@ -2,10 +2,10 @@
 ghost use Rattle.std.specs.Prelude.{◌≡◌};
 ghost use Rattle.fab_program_outside.specs.Faults as faults;
 
-use fab_store_load::Table;
+use fab_store_load::{OpenFault, Table};
 
 /// Why the program ends with status 3.
-#[derive(Clone, Copy, Debug, PartialEq, Eq, Drop)]
+#[derive(Clone, Copy, Debug, Drop)]
 pub enum Fault {
     /// A file is not there, or it cannot be opened or read.
     File,
@@ -43,5 +43,18 @@ impl Fault {
             Fault::Damaged(_) => "damaged",
             Fault::NewerSchema(_) => "newer-schema",
         }
+    }
+}
+
+/// The fault of a store that has no world of a desk.
+pub fn of_opening(fault: OpenFault) -> Fault
+    ensures { result ≡ faults.fault_of_opening fault }
+{
+    match fault {
+        OpenFault::Damaged(table) => Fault::Damaged(table),
+        OpenFault::NewerSchema(schema) => Fault::NewerSchema(schema),
+        OpenFault::OldSchema(_) => Fault::Store,
+        OpenFault::Store => Fault::Store,
+        OpenFault::Memory => Fault::Memory,
     }
 }

@@ -18,7 +18,7 @@ mod telling;
 pub use args::{ArgsFault, words_of};
 pub use contents::{bytes_of, is_too_large, policy_from, policy_of};
 pub use descriptors::open_standard;
-pub use faults::Fault;
+pub use faults::{Fault, of_opening};
 pub use files::{Files, Machine, Size, is_free};
 pub use moments::{moment_of, seconds};
 pub use printing::{of_printing, print_as};

@@ -3,7 +3,7 @@ ghost use Rattle.std.specs.Prelude.{◌≡◌};
 ghost use Rattle.fab_program_outside.specs.Printing.{Prints, fault_of_printing};
 
 use crate::faults::Fault;
-use fab_files::{End, PrintFault, Printable, print_text};
+use fab_files_base::{End, PrintFault, Printable, print_text};
 use std::alloc::Global;
 use std::io::Write;
 

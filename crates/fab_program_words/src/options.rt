@@ -3,7 +3,7 @@ ghost use Rattle.std.specs.Prelude.{◌≡◌};
 ghost use Rattle.fab_program_words.specs.Options.{option_name, shape_of};
 
 /// How an option stands in the words.
-#[derive(Clone, Copy, PartialEq, Eq)]
+#[derive(Clone, Copy)]
 pub enum OptionShape {
     /// Its name behind `--`, and a value.
     Value,
@@ -14,7 +14,7 @@ pub enum OptionShape {
 }
 
 /// An option of a subcommand.
-#[derive(Clone, Copy, PartialEq, Eq)]
+#[derive(Clone, Copy)]
 pub enum OptionKind {
     /// The file of the database.
     Db,

@@ -26,7 +26,7 @@ use std::collections::{BTreeMap, BTreeSet};
 pub const MOST_PATHS: usize = 65536;
 
 /// Why the paths of a world are not listed.
-#[derive(Clone, Copy, Debug, PartialEq, Eq, Drop)]
+#[derive(Clone, Copy, Debug, Drop)]
 pub enum PathsFault {
     /// There are more than `MOST_PATHS`.
     TooMany,

@@ -6,7 +6,7 @@ use fab_store_rows::{ActiveRow, GroupRow, HolderRow, PartRow};
 use std::alloc::Allocator;
 
 /// A row of a world that paths follow from.
-#[derive(Clone, Copy, PartialEq, Eq)]
+#[derive(Clone, Copy)]
 pub enum Row {
     /// What is known of a port.
     Port(Port),

@@ -15,8 +15,8 @@ use Rattle.fab_store_sql.specs.Trees.{tree_of, show_of}
 use Rattle.fab_store_sql.specs.Trees as sql
 use Rattle.fab_store_base.specs.Calls.{OpensNot}
 use Rattle.fab_store_base.specs.Worlds.{HoldsWorld}
-use Rattle.fab_store_base.specs.declared.faults.OpenFault.{OpenFault}
-use Rattle.fab_store_base.specs.declared.faults.OpenFault.TheVariants.{Damaged, NewerSchema, OldSchema, Store, Memory}
+use Rattle.fab_store_load.specs.declared.fault.OpenFault.{OpenFault}
+use Rattle.fab_store_load.specs.declared.fault.OpenFault.TheVariants.{Damaged, NewerSchema, OldSchema, Store, Memory}
 use Rattle.fab_store_tables.specs.Columns.{meta_row, port_row, address_row, holder_row, volume_row, zoning_row, active_row, group_row, part_row, plan_row, approval_row, undo_row, path_row}
 use Rattle.fab_store_tables.specs.Tables.{Tables}
 use Rattle.fab_store_tables.specs.Versions.{TellsVersion}

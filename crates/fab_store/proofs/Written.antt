@@ -19,8 +19,8 @@ use Rattle.fab_store_rows.specs.declared.table_rows.CountRow.TheVariants.{Schema
 use Rattle.fab_store_rows.specs.declared.table_rows.TheConstants.{SCHEMA}
 use Rattle.fab_store_base.specs.Calls.{IsOtherSchema, OpensNot}
 use Rattle.fab_store_base.specs.Worlds.{IsMetaRow, IsWritten}
-use Rattle.fab_store_base.specs.declared.faults.OpenFault.{OpenFault}
-use Rattle.fab_store_base.specs.declared.faults.OpenFault.TheVariants.{Damaged, NewerSchema, OldSchema}
+use Rattle.fab_store_load.specs.declared.fault.OpenFault.{OpenFault}
+use Rattle.fab_store_load.specs.declared.fault.OpenFault.TheVariants.{Damaged, NewerSchema, OldSchema}
 use Rattle.fab_store_tables.specs.Columns.{meta_row}
 use Rattle.fab_store_tables.specs.Versions.{TellsSchema, TellsVersion}
 use Rattle.fab_store_tables.specs.declared.stored_line.TableLine.{TableLine}

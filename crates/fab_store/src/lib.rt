@@ -10,5 +10,6 @@ mod paths;
 mod reading;
 mod store;
 
-pub use fab_store_base::{OpenFault, RefusingStore, Store, StoreFault, Table};
+pub use fab_store_base::{RefusingStore, Store, StoreFault, Table};
+pub use fab_store_load::OpenFault;
 pub use store::SqlStore;

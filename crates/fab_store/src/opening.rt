@@ -8,7 +8,7 @@ ghost use Rattle.fab_store_sql.specs.States.{IsDesk};
 ghost use Rattle.fab_store_sql.specs.Trees.{tables_of};
 ghost use Rattle.fab_store_base.specs.Calls.{IsOtherSchema, OpensNot};
 ghost use Rattle.fab_store_base.specs.Worlds.{HoldsWorld, IsWritten};
-ghost use Rattle.fab_store_base.specs.declared.faults.OpenFault.TheVariants as faults;
+ghost use Rattle.fab_store_load.specs.declared.fault.OpenFault.TheVariants as faults;
 ghost use Rattle.fab_world.specs.Soundness.{IsSound};
 ghost use Rattle.fab_store.specs.Loading.{HaveNamesOnce, TellsOther, TellOther};
 ghost use Rattle.fab_store.specs.Reads.{OnlyReads, SeesSame};

@@ -7,8 +7,8 @@ use Rattle.fab_store_tables.specs.Tables.{Tables}
 use Rattle.fab_store_tables.specs.Versions.{TellsVersion}
 use Rattle.fab_world.specs.Soundness.{IsSound}
 use Rattle.fab_world.specs.Worlds.{WorldRows}
-use Rattle.fab_store_base.specs.declared.faults.OpenFault.{OpenFault}
-use Rattle.fab_store_base.specs.declared.faults.OpenFault.TheVariants.{Damaged, NewerSchema, OldSchema, Store, Memory}
+use Rattle.fab_store_load.specs.declared.fault.OpenFault.{OpenFault}
+use Rattle.fab_store_load.specs.declared.fault.OpenFault.TheVariants.{Damaged, NewerSchema, OldSchema, Store, Memory}
 use Rattle.fab_store_base.specs.Worlds.{HoldsWorld, IsWritten}
 
 -- the count of refused calls rises by one; at its greatest value it stays

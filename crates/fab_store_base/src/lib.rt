@@ -11,8 +11,9 @@ mod refusing;
 mod store;
 
 pub use changed::change_lines;
+pub use fab_store_load::OpenFault;
 pub use fab_store_tables::{LineChanges, Table, TableLine, TableLines, paths_in, rows_of_lines};
-pub use faults::{OpenFault, StoreFault};
+pub use faults::StoreFault;
 pub use opened::world_of_lines;
 pub use refusing::RefusingStore;
 pub use store::Store;

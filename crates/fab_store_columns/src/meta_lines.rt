@@ -13,7 +13,7 @@ use std::alloc::{AllocError, Allocator};
 use std::marker::Model;
 
 /// A row of the table of settings.
-#[derive(Clone, Copy, PartialEq, Eq)]
+#[derive(Clone, Copy)]
 pub enum MetaRow {
     /// The number of the tables' schema.
     Schema(u64),

@@ -1,4 +1,4 @@
-//! Why nothing is made of rows.
+//! Why nothing is made of rows, and why no tables are opened.
 ghost use Rattle.std.specs.Prelude.{◌≡◌};
 ghost use Rattle.fab_store_load.specs.TableNames.{table_name};
 ghost use Rattle.fab_store_load.specs.declared.fault.LoadFault.TheVariants.{Memory};
@@ -60,7 +60,7 @@ impl Table {
 }
 
 /// Why nothing is made of rows.
-#[derive(Clone, Copy, Debug, PartialEq, Eq, Drop)]
+#[derive(Clone, Copy, Debug, Drop)]
 pub enum LoadFault {
     /// Nothing sound has just these rows; this table has a fault.
     Damaged(Table),
@@ -74,4 +74,19 @@ impl From<AllocError> for LoadFault {
     fn from(_error: AllocError) -> LoadFault {
         LoadFault::Memory
     }
+}
+
+/// Why nothing is opened.
+#[derive(Clone, Copy, Debug, Drop)]
+pub enum OpenFault {
+    /// The rows are not those of a sound world: this is the first table that has a fault.
+    Damaged(Table),
+    /// The tables are of this schema, which is newer than the present one.
+    NewerSchema(u64),
+    /// The tables are of this schema, which is older than the present one.
+    OldSchema(u64),
+    /// A call of the store was refused, and counted.
+    Store,
+    /// There was no memory.
+    Memory,
 }

@@ -17,7 +17,7 @@ mod zonings;
 
 pub use config::config_of;
 pub use fab_store_rows as rows;
-pub use fault::{LoadFault, Table};
+pub use fault::{LoadFault, OpenFault, Table};
 pub use inventory::inventory_of;
 pub use kind::{Kind, Value};
 pub use kinds::Head;

@@ -6,7 +6,7 @@ ghost use Rattle.fab_store_migration.specs.declared.judging.Shape.TheVariants.{P
 use fab_store_rows::SCHEMA;
 
 /// Why tables are not brought to the schema.
-#[derive(Clone, Copy, Debug, PartialEq, Eq, Drop)]
+#[derive(Clone, Copy, Debug, Drop)]
 pub enum MigrationFault {
     /// The settings tell this schema, which is newer.
     NewerSchema(u64),
@@ -19,7 +19,7 @@ pub enum MigrationFault {
 }
 
 /// Which tables a database has.
-#[derive(Clone, Copy, PartialEq, Eq, Drop)]
+#[derive(Clone, Copy, Drop)]
 pub(crate) enum Shape {
     /// Those of the present schema.
     Present,

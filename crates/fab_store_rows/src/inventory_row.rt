@@ -19,7 +19,7 @@ pub struct PortEntry {
 }
 
 /// The address of a port: the port's N_Port_Name, and the address that it has where it is logged in.
-#[derive(Clone, Copy, PartialEq, Eq)]
+#[derive(Clone, Copy)]
 pub struct AddressRow {
     /// The N_Port_Name of the port.
     pub port: Wwn,
@@ -28,7 +28,7 @@ pub struct AddressRow {
 }
 
 /// A host or an array: its name, which of both it is, and whose it is.
-#[derive(Clone, Copy, PartialEq, Eq)]
+#[derive(Clone, Copy)]
 pub struct HolderRow {
     /// Its name.
     pub name: Name,
@@ -40,7 +40,7 @@ pub struct HolderRow {
 
 /// A volume (SNIA Swordfish): its name, the array that it is on, whose it is, and how many bytes it
 /// has, 1 to 9223372036854775807.
-#[derive(Clone, Copy, PartialEq, Eq)]
+#[derive(Clone, Copy)]
 pub struct VolumeRow {
     /// Its name.
     pub name: Name,
@@ -53,7 +53,7 @@ pub struct VolumeRow {
 }
 
 /// A row of an inventory: a whole port, or else a variant a table.
-#[derive(Clone, Copy, PartialEq, Eq)]
+#[derive(Clone, Copy)]
 pub enum InventoryRow {
     /// A port with its address, which no table has in one row.
     Port(Port),

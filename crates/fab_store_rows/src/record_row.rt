@@ -72,7 +72,7 @@ impl<A: Allocator> Model for PlanRow<A> {
 }
 
 /// An approval of a plan.
-#[derive(Clone, Copy, PartialEq, Eq)]
+#[derive(Clone, Copy)]
 pub struct ApprovalRow {
     /// The name of the plan.
     pub plan: Name,
@@ -83,7 +83,7 @@ pub struct ApprovalRow {
 }
 
 /// What an activation did with a row.
-#[derive(Clone, Copy, PartialEq, Eq)]
+#[derive(Clone, Copy)]
 pub enum Sign {
     /// It took the row away.
     Taken,
@@ -92,7 +92,7 @@ pub enum Sign {
 }
 
 /// A row that the activation of an active plan took away or added.
-#[derive(Clone, Copy, PartialEq, Eq)]
+#[derive(Clone, Copy)]
 pub struct UndoRow {
     /// The name of the plan.
     pub plan: Name,

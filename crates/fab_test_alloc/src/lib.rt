@@ -41,7 +41,7 @@ use std::marker::Model;
 /// Contracts see it as the allocator that it passes requests on to: what frees a block of the one
 /// frees a block of the other. What it is to refuse lies in a cell, so that a test can tell it
 /// through a `&` while collections hold others, and of what a cell holds no contract speaks.
-#[derive(Debug, Drop)]
+#[derive(Drop)]
 pub struct Refusing<B> {
     inner: B,
     plan: Cell<Plan>,

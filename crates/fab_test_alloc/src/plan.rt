@@ -6,7 +6,7 @@ ghost use Rattle.fab_test_alloc.specs.Plans.{HasRefused, RefusesAfter};
 use std::cell::Cell;
 
 /// What an allocator has still to refuse.
-#[derive(Clone, Copy, Debug)]
+#[derive(Clone, Copy)]
 pub enum Plan {
     /// Every request is passed on.
     PassAll,

@@ -3,16 +3,15 @@
 ghost use Rattle.std.specs.Prelude.{Some};
 ghost use Rattle.fab_wire.specs.Telling.{outcome_text};
 
-use http::StatusCode;
 use std::fmt;
 use std::fmt::Display;
 
 /// What came of serving a connection. Its text is what a log shows: the status, or `unsent`,
 /// `read-failed` or `empty`.
-#[derive(Clone, Copy, Debug, PartialEq, Eq, Drop)]
+#[derive(Clone, Copy, Drop)]
 pub enum Outcome {
-    /// The whole answer was written, with this status.
-    Answered(StatusCode),
+    /// The whole answer was written, with this status (RFC 9110, section 15).
+    Answered(u16),
     /// A write failed: a beginning of the answer was written, and the command has acted as its reply
     /// says.
     Unsent,
@@ -27,7 +26,7 @@ impl Display for Outcome {
 
     fn fmt<W: fmt::Write>(&self, f: &mut fmt::Formatter<W>) -> fmt::Result {
         match self {
-            Outcome::Answered(status) => write!(f, "{}", status.as_u16()),
+            Outcome::Answered(status) => write!(f, "{status}"),
             Outcome::Unsent => write!(f, "unsent"),
             Outcome::ReadFailed => write!(f, "read-failed"),
             Outcome::Empty => write!(f, "empty"),

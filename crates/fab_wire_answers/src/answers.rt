@@ -34,10 +34,10 @@ pub enum Answer<A: Allocator + Copy> {
 }
 
 /// What came of writing an answer.
-#[derive(Clone, Copy, PartialEq, Eq)]
+#[derive(Clone, Copy)]
 pub enum Told {
-    /// All of it was written, with this status.
-    Answered(StatusCode),
+    /// All of it was written, with this status (RFC 9110, section 15).
+    Answered(u16),
     /// A write failed, and a beginning of it was written.
     Unsent,
 }
@@ -66,7 +66,7 @@ fn tell_memory<W: Write>(writer: &mut Counted<W>) -> Told
     ensures count { failures_of writer.new ≡ failures_after_told result (failures_of writer.old) }
 {
     match put_memory(writer) {
-        Ok(()) => Told::Answered(Code::Memory.status()),
+        Ok(()) => Told::Answered(Code::Memory.status().as_u16()),
         Err(_) => Told::Unsent,
     }
 }
@@ -94,7 +94,7 @@ fn tell_sized<A: Allocator + Copy, W: Write>(
     ensures count { failures_of writer.new ≡ failures_after_told result (failures_of writer.old) }
 {
     match put_message(writer, answer, len) {
-        Ok(()) => Told::Answered(status(answer)),
+        Ok(()) => Told::Answered(status(answer).as_u16()),
         Err(_) => Told::Unsent,
     }
 }

@@ -10,7 +10,7 @@ use fab_world::plans;
 use http::StatusCode;
 
 /// What a request is refused with: a line of the table of refusals.
-#[derive(Clone, Copy, PartialEq, Eq)]
+#[derive(Clone, Copy)]
 pub enum Code {
     /// No caller has the token.
     NoCaller,

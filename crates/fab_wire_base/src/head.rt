@@ -17,7 +17,7 @@ pub const MOST_HEAD: usize = 8192;
 pub const MOST_LINES: usize = 2731;
 
 /// What reading a head came to.
-#[derive(Clone, Copy, PartialEq, Eq)]
+#[derive(Clone, Copy)]
 pub enum HeadRead {
     /// The buffer begins with a head, which the spans cover. The number says how many bytes of the
     /// buffer were read: those of the head, and some that follow it.

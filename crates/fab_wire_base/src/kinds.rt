@@ -8,7 +8,7 @@ ghost use Rattle.fab_wire_base.specs.Table.{all_routes, path_of, kind_in, kind_a
 use http::Method;
 
 /// What a request asks for.
-#[derive(Clone, Copy, PartialEq, Eq)]
+#[derive(Clone, Copy)]
 pub enum Kind {
     /// Takes over the port list of a fabric.
     Import,
@@ -65,7 +65,7 @@ pub enum Kind {
 }
 
 /// The form of the body that a request takes.
-#[derive(Clone, Copy, PartialEq, Eq)]
+#[derive(Clone, Copy)]
 pub enum Form {
     /// It takes none.
     Nothing,
@@ -80,7 +80,7 @@ pub enum Form {
 }
 
 /// A path of the table.
-#[derive(Clone, Copy, Debug, PartialEq, Eq)]
+#[derive(Clone, Copy, Debug)]
 pub enum Route {
     /// `/imports/{fabric}`
     Imports,

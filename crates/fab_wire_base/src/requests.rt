@@ -14,7 +14,7 @@ use httparse::spans::HeaderSpan;
 pub const MOST_BODY: u128 = 1048576;
 
 /// Why a request is refused before anything is asked of the desk.
-#[derive(Clone, Copy, Debug, PartialEq, Eq)]
+#[derive(Clone, Copy, Debug)]
 pub enum Refusal {
     /// The input begins with no head, or its lengths are bad.
     BadHead,

@@ -1,18 +1,19 @@
 //! The connections on which exchanges are played: how many bytes each read and each write moves, which
 //! of them fails, and how the connection has to end then.
 
-use crate::desks::Tables;
-use fab_reach::PathBook;
 use fab_test_wire::streams::{Breaking, Slow};
+use fab_wire::Outcome;
 use fab_wire::laws::{Connection, Served};
-use fab_wire::{Desk, Outcome, serve_one};
-use fab_wire_base::routes::Routes;
 use fab_wire_streams::counted::Counted;
 use fab_worlds_players::Exchange;
 use std::alloc::Global;
+use std::str;
 
 /// A connection that waits.
 pub type Waiting<'t> = Connection<Slow<'t>, Breaking>;
+
+/// A connection that was served.
+pub type Ended<'t> = Served<Slow<'t>, Breaking>;
 
 /// How a connection has ended: what came of it, how many reads and how many writes failed, and the
 /// writer with what it took.
@@ -26,7 +27,7 @@ pub struct Ending {
 
 impl Ending {
     /// How this one has ended.
-    pub fn of(served: Served<Slow<'_>, Breaking>) -> Self {
+    pub fn of(served: Ended<'_>) -> Self {
         let Served {
             outcome,
             reader,
@@ -49,6 +50,12 @@ impl Ending {
     pub fn written(&self) -> &[u8] {
         self.writer.taken()
     }
+}
+
+/// The status that stands in the first line of an answer.
+fn status_in(answer: &[u8]) -> Option<u16> {
+    let digits = str::from_utf8(answer.get(9..12)?).ok()?;
+    digits.parse().ok()
 }
 
 /// How a connection has to end.
@@ -112,9 +119,7 @@ impl End {
     /// and else the status that stands in its first line.
     fn is_outcome(self, outcome: Outcome, answer: &[u8]) -> bool {
         match (self, outcome) {
-            (End::Sent, Outcome::Answered(status)) => {
-                answer.get(9..12) == Some(status.as_str().as_bytes())
-            }
+            (End::Sent, Outcome::Answered(status)) => status_in(answer) == Some(status),
             (End::Sent, Outcome::Empty) => answer.is_empty(),
             (End::Unread(_), Outcome::ReadFailed) => true,
             (End::Unsent(_) | End::Untaken, Outcome::Unsent) => true,
@@ -139,24 +144,4 @@ pub fn connection_of(alloc: Global, exchange: &Exchange, reads: usize, end: End)
         reader: Counted::new(reader),
         writer: Counted::new(writer),
     }
-}
-
-/// Serves a connection by a desk.
-pub fn serve<T: Tables, B: PathBook<Global>>(
-    alloc: Global,
-    routes: &Routes,
-    desk: &mut Desk<Global, T, B>,
-    connection: Waiting<'_>,
-) -> Ending {
-    let Connection {
-        moment,
-        mut reader,
-        mut writer,
-    } = connection;
-    let outcome = serve_one(alloc, alloc, routes, desk, moment, &mut reader, &mut writer);
-    Ending::of(Served {
-        outcome,
-        reader,
-        writer,
-    })
 }

@@ -1,12 +1,18 @@
-//! Desks over tables in memory, and the tables behind them.
+//! Desks over tables in memory, and the tables behind them. A call with a long contract is dear in each
+//! function that makes it: so each such call of a desk stands in one function here, and callers see a type
+//! parameter.
 
+use crate::connections::{Ended, Ending, Waiting};
 use fab_policy_base::Policy;
+use fab_policy_text::ReadPolicy;
 use fab_reach::PathBook;
 use fab_store::{OpenFault, RefusingStore, SqlStore, Store};
-use fab_wire::Desk;
+use fab_wire::laws::{self, Served};
+use fab_wire::{Desk, serve_one};
+use fab_wire_base::routes::Routes;
 use fab_worlds_players::{Fault, Scenario};
 use sqlite::{Alter, Connection, Error};
-use std::alloc::Global;
+use std::alloc::{AllocError, Global};
 use std::str;
 
 /// What comes of a call, in a word, or why nothing does.
@@ -46,21 +52,72 @@ pub fn new_tables<S: Alter + Drop>(
     }
 }
 
-/// A desk over tables, or why there is none, with the tables.
-type Opened<T, B> = Result<Desk<Global, T, B>, (OpenFault, T)>;
+/// What is asked of a desk over tables that is played.
+pub trait Played<T>: Sized + Drop {
+    /// A desk over the tables with a policy, or why there is none, with the tables.
+    fn open(alloc: Global, tables: T, policy: Policy) -> Result<Self, (OpenFault, T)>;
 
-/// Opens a desk for a scenario over tables, with the policy of this text.
+    /// Serves a connection.
+    fn serve(&mut self, alloc: Global, routes: &Routes, connection: Waiting<'_>) -> Ending;
+
+    /// Serves connections as one list.
+    fn serve_all<'t>(
+        &mut self,
+        alloc: Global,
+        routes: &Routes,
+        connections: Vec<Waiting<'t>>,
+    ) -> Result<Vec<Ended<'t>>, AllocError>;
+
+    /// The tables of the desk, which ends, if it has some.
+    fn close(self) -> Option<T>;
+}
+
+impl<T: Tables, B: PathBook<Global>> Played<T> for Desk<Global, T, B> {
+    fn open(alloc: Global, tables: T, policy: Policy) -> Result<Self, (OpenFault, T)> {
+        Desk::open(alloc, tables, policy)
+    }
+
+    fn serve(&mut self, alloc: Global, routes: &Routes, connection: Waiting<'_>) -> Ending {
+        let laws::Connection {
+            moment,
+            mut reader,
+            mut writer,
+        } = connection;
+        let outcome = serve_one(alloc, alloc, routes, self, moment, &mut reader, &mut writer);
+        Ending::of(Served {
+            outcome,
+            reader,
+            writer,
+        })
+    }
+
+    fn serve_all<'t>(
+        &mut self,
+        alloc: Global,
+        routes: &Routes,
+        connections: Vec<Waiting<'t>>,
+    ) -> Result<Vec<Ended<'t>>, AllocError> {
+        laws::serve_all(alloc, alloc, routes, self, connections)
+    }
+
+    fn close(self) -> Option<T> {
+        Desk::close(self)
+    }
+}
+
+/// Opens a desk for a scenario over tables, with the policy of this text: the desk, or why there is none,
+/// with the tables.
 ///
 /// # Errors
 /// `Policy` where the text spells none.
-pub fn open<T: Tables, B: PathBook<Global>>(
+pub fn open<T: Drop, D: Played<T>>(
     alloc: Global,
     scenario: &Scenario<'_>,
     policy: &[u8],
     tables: T,
-) -> Result<Opened<T, B>, Fault> {
+) -> Result<Result<D, (OpenFault, T)>, Fault> {
     match policy_of(alloc, policy) {
-        Some(policy) => Ok(Desk::open(alloc, tables, policy)),
+        Some(policy) => Ok(D::open(alloc, tables, policy)),
         None => Err(Fault::Policy(scenario.line)),
     }
 }

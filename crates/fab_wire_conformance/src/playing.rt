@@ -1,14 +1,10 @@
 //! Exchanges, played by new desks: what each answers is compared with what is recorded.
 
-use crate::connections::{End, Ending, Waiting, connection_of, serve};
-use crate::desks::{Tables, open};
+use crate::connections::{End, Ending, Waiting, connection_of};
+use crate::desks::{Played, open};
 use crate::telling::{Place, tell};
 use crate::ways::Way;
-use fab_reach::{IndexBook, PathBook};
-use fab_reach_pairs::PlainBook;
 use fab_store::OpenFault;
-use fab_wire::Desk;
-use fab_wire::laws::serve_all;
 use fab_wire_base::routes::Routes;
 use fab_worlds_players::{Exchange, Fault, Scenario, Tally};
 use std::alloc::Global;
@@ -85,33 +81,33 @@ fn cut_of(way: Way, exchange: &Exchange, number: usize) -> (usize, End) {
 }
 
 /// Serves an exchange, and tells whether it ends as recorded.
-fn play_one<T: Tables, B: PathBook<Global>>(
+fn play_one<T, D: Played<T>>(
     rt: &HostRuntime,
     routes: &Routes,
-    desk: &mut Desk<Global, T, B>,
+    desk: &mut D,
     part: Part<'_>,
     number: usize,
     exchange: &Exchange,
 ) -> Result<bool, Fault> {
     let (reads, end) = cut_of(part.way, exchange, number);
     let connection = connection_of(rt.alloc(), exchange, reads, end);
-    let ending = serve(rt.alloc(), routes, desk, connection);
+    let ending = desk.serve(rt.alloc(), routes, connection);
     is_right(rt, part, number, exchange, end, &ending)
 }
 
 /// Serves an exchange of which the read of one number fails, if it comes to that. What tells whether it
 /// ends as it has to, and whether no read failed: then the request was served.
-fn play_failing<T: Tables, B: PathBook<Global>>(
+fn play_failing<T, D: Played<T>>(
     rt: &HostRuntime,
     routes: &Routes,
-    desk: &mut Desk<Global, T, B>,
+    desk: &mut D,
     part: Part<'_>,
     number: usize,
     exchange: &Exchange,
     read: usize,
 ) -> Result<(bool, bool), Fault> {
     let connection = connection_of(rt.alloc(), exchange, 1, End::Unread(read as u64));
-    let ending = serve(rt.alloc(), routes, desk, connection);
+    let ending = desk.serve(rt.alloc(), routes, connection);
     let is_served = !ending.has_failed_read();
     let end = if is_served {
         End::Sent
@@ -124,10 +120,10 @@ fn play_failing<T: Tables, B: PathBook<Global>>(
 
 /// Serves an exchange several times, and another read fails each time, from the first to that of the
 /// end; and then as if nothing had been.
-fn play_through<T: Tables, B: PathBook<Global>>(
+fn play_through<T, D: Played<T>>(
     rt: &HostRuntime,
     routes: &Routes,
-    desk: &mut Desk<Global, T, B>,
+    desk: &mut D,
     part: Part<'_>,
     number: usize,
     exchange: &Exchange,
@@ -143,10 +139,10 @@ fn play_through<T: Tables, B: PathBook<Global>>(
 }
 
 /// Plays exchanges by a desk, one by one.
-fn play_each<T: Tables, B: PathBook<Global>>(
+fn play_each<T, D: Played<T>>(
     rt: &HostRuntime,
     routes: &Routes,
-    desk: &mut Desk<Global, T, B>,
+    desk: &mut D,
     part: Part<'_>,
     tally: &mut Tally,
 ) -> Result<(), Fault> {
@@ -171,16 +167,16 @@ fn connections_of(alloc: Global, exchanges: &[Exchange]) -> Result<Vec<Waiting<'
 }
 
 /// Plays exchanges by a desk, as one list.
-fn play_list<T: Tables, B: PathBook<Global>>(
+fn play_list<T, D: Played<T>>(
     rt: &HostRuntime,
     routes: &Routes,
-    desk: &mut Desk<Global, T, B>,
+    desk: &mut D,
     part: Part<'_>,
     tally: &mut Tally,
 ) -> Result<(), Fault> {
     let exchanges = part.exchanges;
     let connections = connections_of(rt.alloc(), exchanges)?;
-    let all = serve_all(rt.alloc(), rt.alloc(), routes, desk, connections)?;
+    let all = desk.serve_all(rt.alloc(), routes, connections)?;
     for (index, (served, exchange)) in all.into_iter().zip(exchanges).enumerate() {
         let number = index.saturating_add(1);
         let ending = Ending::of(served);
@@ -190,7 +186,7 @@ fn play_list<T: Tables, B: PathBook<Global>>(
 }
 
 /// Plays a scenario in one way, by a new desk over tables with this policy and such a book of paths.
-fn play_by<T: Tables, B: PathBook<Global>>(
+fn play_by<T: Drop, D: Played<T>>(
     rt: &HostRuntime,
     routes: &Routes,
     policy: &[u8],
@@ -198,7 +194,7 @@ fn play_by<T: Tables, B: PathBook<Global>>(
     tables: T,
     tally: &mut Tally,
 ) -> Result<(), Fault> {
-    let Ok(mut desk) = open::<T, B>(rt.alloc(), part.scenario, policy, tables)? else {
+    let Ok(mut desk) = open::<T, D>(rt.alloc(), part.scenario, policy, tables)? else {
         return Err(Fault::Desk(part.scenario.line));
     };
     match part.way {
@@ -208,10 +204,10 @@ fn play_by<T: Tables, B: PathBook<Global>>(
 }
 
 /// Plays exchanges by a desk, one by one, and closes it: its tables.
-fn play_and_close<T: Tables, B: PathBook<Global>>(
+fn play_and_close<T, D: Played<T>>(
     rt: &HostRuntime,
     routes: &Routes,
-    desk: Desk<Global, T, B>,
+    desk: D,
     part: Part<'_>,
     tally: &mut Tally,
 ) -> Result<T, Fault> {
@@ -228,7 +224,7 @@ fn play_and_close<T: Tables, B: PathBook<Global>>(
 ///
 /// # Errors
 /// `Policy`; `Desk` where it has no tables at the end; `Memory` and `Output`.
-pub fn visit<T: Tables>(
+pub fn visit<T: Drop, D: Played<T>>(
     rt: &HostRuntime,
     routes: &Routes,
     policy: &[u8],
@@ -236,7 +232,7 @@ pub fn visit<T: Tables>(
     tables: T,
     tally: &mut Tally,
 ) -> Result<(Option<OpenFault>, T), Fault> {
-    match open::<T, IndexBook<Global>>(rt.alloc(), part.scenario, policy, tables)? {
+    match open::<T, D>(rt.alloc(), part.scenario, policy, tables)? {
         Ok(desk) => Ok((None, play_and_close(rt, routes, desk, part, tally)?)),
         Err((fault, tables)) => Ok((Some(fault), tables)),
     }
@@ -246,7 +242,7 @@ pub fn visit<T: Tables>(
 ///
 /// # Errors
 /// As for `visit`, and `Desk` where there is none.
-pub fn serve_by<T: Tables>(
+pub fn serve_by<T: Drop, D: Played<T>>(
     rt: &HostRuntime,
     routes: &Routes,
     policy: &[u8],
@@ -254,7 +250,7 @@ pub fn serve_by<T: Tables>(
     tables: T,
     tally: &mut Tally,
 ) -> Result<T, Fault> {
-    let (fault, tables) = visit(rt, routes, policy, part, tables, tally)?;
+    let (fault, tables) = visit::<T, D>(rt, routes, policy, part, tables, tally)?;
     if fault.is_some() {
         return Err(Fault::Desk(part.scenario.line));
     }
@@ -262,7 +258,7 @@ pub fn serve_by<T: Tables>(
 }
 
 /// Plays a scenario's exchanges, each by a desk that is opened anew over the tables.
-fn play_anew<T: Tables>(
+fn play_anew<T: Drop, D: Played<T>>(
     rt: &HostRuntime,
     routes: &Routes,
     policy: &[u8],
@@ -277,16 +273,17 @@ fn play_anew<T: Tables>(
             before,
             ..part
         };
-        tables = serve_by(rt, routes, policy, one, tables, tally)?;
+        tables = serve_by::<T, D>(rt, routes, policy, one, tables, tally)?;
     }
     Ok(())
 }
 
-/// Plays a scenario in one way, by a new desk over tables with this policy.
+/// Plays a scenario in one way, by a new desk over tables with this policy: by a plain one where its book
+/// is to ask about every pair of ports, and else by a usual one.
 ///
 /// # Errors
 /// `Policy` and `Desk` where there is no desk, `Memory` and `Output`.
-pub fn play_scenario<T: Tables>(
+pub fn play_scenario<T: Drop, Usual: Played<T>, Plain: Played<T>>(
     rt: &HostRuntime,
     routes: &Routes,
     policy: &[u8],
@@ -295,8 +292,8 @@ pub fn play_scenario<T: Tables>(
     tally: &mut Tally,
 ) -> Result<(), Fault> {
     match part.way {
-        Way::EveryPair => play_by::<T, PlainBook<Global>>(rt, routes, policy, part, tables, tally),
-        Way::OpenedAnew => play_anew(rt, routes, policy, part, tables, tally),
-        _ => play_by::<T, IndexBook<Global>>(rt, routes, policy, part, tables, tally),
+        Way::EveryPair => play_by::<T, Plain>(rt, routes, policy, part, tables, tally),
+        Way::OpenedAnew => play_anew::<T, Usual>(rt, routes, policy, part, tables, tally),
+        _ => play_by::<T, Usual>(rt, routes, policy, part, tables, tally),
     }
 }

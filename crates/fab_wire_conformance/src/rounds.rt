@@ -4,9 +4,13 @@ use crate::desks::{Tables, new_tables};
 use crate::playing::{Part, play_scenario};
 use crate::stories::play_story;
 use crate::ways::{WAYS, Way};
+use fab_reach::IndexBook;
+use fab_reach_pairs::PlainBook;
+use fab_wire::Desk;
 use fab_wire_base::routes::Routes;
 use fab_worlds_players::{Fault, Scenario, Tally};
 use sqlite::{Alter, Connection};
+use std::alloc::Global;
 
 /// How many bytes a request of a scenario has at most that is played over the plain book.
 const MOST_BYTES: usize = 8192;
@@ -34,6 +38,12 @@ fn is_played(scenario: &Scenario<'_>, way: Way) -> bool {
     }
 }
 
+/// A desk as the program has it.
+type Usual<T> = Desk<Global, T, IndexBook<Global>>;
+
+/// A desk whose book asks about every pair of ports.
+type Plain<T> = Desk<Global, T, PlainBook<Global>>;
+
 /// Plays a part by tables, with this policy.
 fn play_by_tables<T: Tables>(
     rt: &HostRuntime,
@@ -44,9 +54,9 @@ fn play_by_tables<T: Tables>(
     tally: &mut Tally,
 ) -> Result<(), Fault> {
     if part.scenario.steps.is_empty() {
-        play_scenario(rt, routes, policy, part, tables, tally)
+        play_scenario::<T, Usual<T>, Plain<T>>(rt, routes, policy, part, tables, tally)
     } else {
-        play_story(rt, routes, policy, part, tables, tally)
+        play_story::<T, Usual<T>>(rt, routes, policy, part, tables, tally)
     }
 }
 

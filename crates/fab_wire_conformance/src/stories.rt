@@ -1,6 +1,6 @@
 //! Stories of tables: what comes of each step is compared with what is recorded.
 
-use crate::desks::{Came, Tables, migrate};
+use crate::desks::{Came, Played, Tables, migrate};
 use crate::playing::{Part, serve_by, visit};
 use crate::telling::tell_step;
 use fab_store::OpenFault;
@@ -66,7 +66,7 @@ fn migrated<T: Tables>(alloc: Global, tables: T) -> Result<(String, T), Fault> {
 }
 
 /// What comes of opening a desk over the tables, which plays the exchanges of a part; and the tables.
-fn opened<T: Tables>(
+fn opened<T: Tables, D: Played<T>>(
     rt: &HostRuntime,
     routes: &Routes,
     policy: &[u8],
@@ -75,7 +75,7 @@ fn opened<T: Tables>(
     tally: &mut Tally,
 ) -> Result<(String, T), Fault> {
     let before = tables.refusals();
-    let (fault, tables) = visit(rt, routes, policy, part, tables, tally)?;
+    let (fault, tables) = visit::<T, D>(rt, routes, policy, part, tables, tally)?;
     let Some(fault) = fault else {
         return Ok((told(rt.alloc(), Ok("serves"), 0)?, tables));
     };
@@ -98,7 +98,7 @@ fn shown_by<T: Tables>(alloc: Global, tables: T, step: &Step) -> Result<(String,
 
 /// What comes of a step, and the tables behind it. The exchanges of the part are asked the desk that it
 /// opens.
-fn come<T: Tables>(
+fn come<T: Tables, D: Played<T>>(
     rt: &HostRuntime,
     routes: &Routes,
     policy: &[u8],
@@ -110,7 +110,7 @@ fn come<T: Tables>(
     match step.act {
         Act::Change => changed_by(rt.alloc(), tables, step),
         Act::Show => shown_by(rt.alloc(), tables, step),
-        Act::Open => opened(rt, routes, policy, part, tables, tally),
+        Act::Open => opened::<T, D>(rt, routes, policy, part, tables, tally),
         Act::Make => made(rt.alloc(), tables),
         Act::Migrate => migrated(rt.alloc(), tables),
     }
@@ -151,7 +151,7 @@ fn part_behind<'t>(part: Part<'t>, before: usize, next: Option<&Step>) -> Part<'
 ///
 /// # Errors
 /// `Policy`, `Desk`, `Memory` and `Output`; `Undone` where SQL of a step is not executed.
-pub fn play_story<T: Tables>(
+pub fn play_story<T: Tables, D: Played<T>>(
     rt: &HostRuntime,
     routes: &Routes,
     policy: &[u8],
@@ -161,10 +161,10 @@ pub fn play_story<T: Tables>(
 ) -> Result<(), Fault> {
     let steps = part.scenario.steps.as_slice();
     let first = part_behind(part, 0, steps.first());
-    let mut tables = serve_by(rt, routes, policy, first, tables, tally)?;
+    let mut tables = serve_by::<T, D>(rt, routes, policy, first, tables, tally)?;
     for (index, step) in steps.iter().enumerate() {
         let behind = part_behind(part, step.before, steps.get(index.saturating_add(1)));
-        let (came, left) = come(rt, routes, policy, behind, step, tables, tally)?;
+        let (came, left) = come::<T, D>(rt, routes, policy, behind, step, tables, tally)?;
         tables = left;
         judge(rt, part, step, came.as_bytes(), tally)?;
     }

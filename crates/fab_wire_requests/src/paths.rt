@@ -15,7 +15,7 @@ use fab_wire_base::parts::{fabric_part, name_part, wwn_part};
 use std::alloc::Allocator;
 
 /// What the path of a request names.
-#[derive(Clone, Copy, PartialEq, Eq)]
+#[derive(Clone, Copy)]
 pub enum Subject {
     /// A fabric.
     Fabric,

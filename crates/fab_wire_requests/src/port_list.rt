@@ -13,7 +13,7 @@ use fab_names::{Address, Place, read_address, read_wwn};
 use std::alloc::{Allocator, Global};
 
 /// Why a port list is refused.
-#[derive(Clone, Copy, Debug, PartialEq, Eq)]
+#[derive(Clone, Copy, Debug)]
 pub enum FileFault {
     /// The number of the first faulty record, of which the header is 1.
     Line(usize),

@@ -15,7 +15,7 @@ use std::io;
 use std::io::{Read, Write};
 
 /// A write failed: it answered an error, or took none of some bytes.
-#[derive(Clone, Copy, Debug, PartialEq, Eq)]
+#[derive(Clone, Copy, Debug)]
 pub struct WriteFailed;
 
 impl<W: Write> Counted<W> {

@@ -6,7 +6,7 @@ use fab_names::Name;
 use std::alloc::{AllocError, AllocFailed};
 
 /// Why a change is refused. The zoning is then as it was.
-#[derive(Clone, Copy, Debug, PartialEq, Eq, Drop)]
+#[derive(Clone, Copy, Debug, Drop)]
 pub enum ZoningFault {
     /// Nothing has this name.
     Unknown(Name),
@@ -21,7 +21,7 @@ pub enum ZoningFault {
 }
 
 /// What there would be too many of.
-#[derive(Clone, Copy, Debug, PartialEq, Eq, Drop)]
+#[derive(Clone, Copy, Debug, Drop)]
 pub enum ZoningLimit {
     /// More than 2048 aliases.
     Aliases,

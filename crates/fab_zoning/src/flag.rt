@@ -4,7 +4,7 @@ ghost use Rattle.fab_zoning.specs.Zonings.{flag_of, flag_text, permits};
 
 /// Whether ports in no zone of the active set may communicate with one another: what the default
 /// zone permits (FC-GS, Fabric Zone Server).
-#[derive(Clone, Copy, Debug, PartialEq, Eq)]
+#[derive(Clone, Copy)]
 pub enum DefaultFlag {
     /// They may.
     Permit,

@@ -3,7 +3,7 @@
 use fab_names::Name;
 
 /// Why two ports may communicate.
-#[derive(Clone, Copy, PartialEq, Eq)]
+#[derive(Clone, Copy)]
 pub enum Why<'a> {
     /// A zone of the active set has both: the first such zone by name.
     Zone(&'a Name),

@@ -3,13 +3,14 @@
 
 use super::answers::exchange_in;
 use fab_policy_base::Policy;
+use fab_policy_text::ReadPolicy;
 use fab_program_desks::Front;
 use fab_store::{OpenFault, SqlStore, Store};
 use fab_test_wire::Exchange;
 use fab_wire::Desk;
 use fab_wire_base::routes::Routes;
 use fab_wire_log::Watch;
-use fab_wire_serving::serve_on;
+use fab_wire_serving::{Forgets, serve_on};
 use mio::Poll;
 use sqlite::{Alter, Connection};
 use std::alloc::Global;
@@ -80,10 +81,10 @@ fn is_answered(rt: &(impl Abort + AllocGlobal), stream: &TcpStream, exchange: &E
 }
 
 /// Serves as many connections as there are requests, the first at second 59 and each a second later.
-fn serve<S: Store<Global>>(
+fn serve<F: Forgets<Fault = OpenFault>>(
     rt: &(impl Abort + AllocGlobal + Clock + Net),
     listener: &TcpListener,
-    front: &mut Front<S>,
+    front: &mut F,
 ) {
     let log = Vec::new(rt.alloc());
     let mut watch = Watch::new(rt.alloc(), rt, log, Poll::new(rt).ok());

@@ -4,6 +4,7 @@ use super::asking::answer;
 use super::making::Making;
 use crate::{Fault, Tally};
 use fab_policy::Policy;
+use fab_policy_text::ReadPolicy;
 use std::alloc::Global;
 
 /// Who asks: a caller who has every tenant, and one who has the tenant `blue` alone. The token of each

@@ -1,7 +1,7 @@
 use Rattle.std.proofs.Common.{ℕ, List, Result, Ok, Err, sym, subst}
 use Rattle.fab_policy_base.specs.Policies.{PolicyRows}
-use Rattle.fab_policy_base.specs.Shapes.{IsMemory}
-use Rattle.fab_policy_base.specs.Tables.{SpellsPolicy, HasPolicyFault}
+use Rattle.fab_policy_text.specs.Shapes.{IsMemory}
+use Rattle.fab_policy_text.specs.Tables.{SpellsPolicy, HasPolicyFault}
 use Rattle.fab_policy_base.specs.declared.fault.PolicyFault.{PolicyFault}
 use Rattle.fab_program_checks.specs.Findings.{IsFindingOf, IsPolicyFinding, IsWarnedOf}
 use Rattle.fab_program_checks.specs.declared.findings.Finding.{Finding}

@@ -1,0 +1,9 @@
+pub mod Excluded
+pub mod Handed
+pub mod Items
+pub mod OtherKeys
+pub mod Refused
+pub mod Repeats
+pub mod Same
+pub mod Sound
+pub mod Unique
