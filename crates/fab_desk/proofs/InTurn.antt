@@ -6,22 +6,23 @@ use Rattle.fab_desk_machine.specs.fab_desk_base.declared.fault.DeskFault.TheVari
 use Rattle.fab_desk_machine.specs.fab_desk_base.declared.reply.Reply.{Reply}
 use Rattle.fab_desk_machine.specs.fab_desk_base.declared.reply.Reply.TheVariants.{Refused}
 use Rattle.fab_policy_base.specs.Policies.{PolicyRows}
+use Rattle.fab_reach_base.specs.Records.{Records}
 use Rattle.fab_store_base.specs.Worlds.{HoldsWorld}
 use Rattle.fab_store_base.specs.declared.store.Store as store
 use Rattle.fab_store_tables.specs.Tables.{Tables}
 use Rattle.fab_world.specs.Worlds.{WorldRows}
 use Rattle.fab_desk.specs.Desks.{IsTurnedAway, IsTied, IsServed, IsInDoubt, IsCleanDesk, IsTiedDesk, IsLeftByStop, IsAnsweredByDesk, IsHaltedBy, IsRead, is_done, done_replies, done_requests}
-use Rattle.fab_desk.specs.Handled.{Handles, AreHandled, policy_of, world_of, serving_of, aside_of}
+use Rattle.fab_desk.specs.Handled.{Handles, Asks, AreHandled, policy_of, world_of, serving_of, aside_of}
 use Rattle.fab_desk.specs.declared.desk.Desk.{Desk}
 use Rattle.fab_desk.proofs.AnsweredByDesk.{Goes, goes, clean_after, refused_keeps}
 
 -- those so far are handled, and then one more
-pub handled_more : {A S B R : Type 0} (g : store.Ghosts S A) (d m e : Desk A S B R) (qs : List (Request A)) (rs : List (Reply A)) (q : Request A) (r : Reply A)
-    → AreHandled g d qs rs m → Handles g m q r e → AreHandled g d (qs ++ q ∷ []) (rs ++ r ∷ []) e
-handled_more g d m e [] [] q r h s = (e, subst (λ x. Handles g x q r e) h s, refl)
-handled_more g d m e [] (x ∷ rs) q r h s = absurd h
-handled_more g d m e (x ∷ qs) [] q r h s = absurd h
-handled_more g d m e (x ∷ qs) (y ∷ rs) q r h s = (h.0, h.1, handled_more g h.0 m e qs rs q r h.2 s)
+pub handled_more : {A S B R : Type 0} (g : store.Ghosts S A) (bounds : Records → Records → ℕ → ℕ → Type 0) (d m e : Desk A S B R) (qs : List (Request A)) (rs : List (Reply A)) (q : Request A) (r : Reply A)
+    → AreHandled g bounds d qs rs m → Handles g m q r e → Asks bounds m q r e → AreHandled g bounds d (qs ++ q ∷ []) (rs ++ r ∷ []) e
+handled_more g bounds d m e [] [] q r h s n = (e, subst (λ x. Handles g x q r e) h s, subst (λ x. Asks bounds x q r e) h n, refl)
+handled_more g bounds d m e [] (x ∷ rs) q r h s n = absurd h
+handled_more g bounds d m e (x ∷ qs) [] q r h s n = absurd h
+handled_more g bounds d m e (x ∷ qs) (y ∷ rs) q r h s n = (h.0, h.1, h.2, handled_more g bounds h.0 m e qs rs q r h.3 s n)
 
 -- ---- those that are done
 
@@ -81,7 +82,7 @@ module _ {A S : Type 0} (g : store.Ghosts S A) where
 
 -- ---- a list of requests
 
-module _ {A S B R : Type 0} (g : store.Ghosts S A) (done : (p : PolicyRows) (w : WorldRows) (q : Request A) (r : Reply A) (v : WorldRows) → IsStep p w q r v → IsOfStep r) where
+module _ {A S B R : Type 0} (g : store.Ghosts S A) (bounds : Records → Records → ℕ → ℕ → Type 0) (done : (p : PolicyRows) (w : WorldRows) (q : Request A) (r : Reply A) (v : WorldRows) → IsStep p w q r v → IsOfStep r) where
   abbrev IsClean : Desk A S B R → Type 0
   IsClean d = IsCleanDesk g (serving_of d) (aside_of d)
 
@@ -102,13 +103,13 @@ module _ {A S B R : Type 0} (g : store.Ghosts S A) (done : (p : PolicyRows) (w :
     pub bound : IsClean e → IsBound d → IsBound e
     pub leads : IsClean e → IsBound d → IsRun (policy_of d) (world_of d) (done_requests qs rs) (done_replies rs) (world_of e)
 
-  pub run : (d e : Desk A S B R) (qs : List (Request A)) (rs : List (Reply A)) → AreHandled g d qs rs e → Run d qs rs e
+  pub run : (d e : Desk A S B R) (qs : List (Request A)) (rs : List (Reply A)) → AreHandled g bounds d qs rs e → Run d qs rs e
   run d e [] [] h = record { policy = ap policy_of h; clean = λ clean. subst IsClean h clean; bound = λ clean bound. subst IsBound (sym h) bound; leads = λ clean bound. ap world_of h }
   run d e [] (r ∷ rs) h = absurd h
   run d e (q ∷ qs) [] h = absurd h
   run d e (q ∷ qs) (r ∷ rs) h =
       let one = turn d h.0 q r h.1 in
-      let rest = run h.0 e qs rs h.2 in
+      let rest = run h.0 e qs rs h.3 in
       record {
         policy = rest.policy ∙ h.1.policy;
         clean = λ clean. one.clean (rest.clean clean);
@@ -119,23 +120,23 @@ module _ {A S B R : Type 0} (g : store.Ghosts S A) (done : (p : PolicyRows) (w :
       }
 
   -- a halted desk stays as it is
-  pub stays : (d e : Desk A S B R) (qs : List (Request A)) (rs : List (Reply A)) → AreHandled g d qs rs e → serving_of d ≡ None → e ≡ d
+  pub stays : (d e : Desk A S B R) (qs : List (Request A)) (rs : List (Reply A)) → AreHandled g bounds d qs rs e → serving_of d ≡ None → e ≡ d
   stays d e [] [] h none = h
   stays d e [] (r ∷ rs) h none = absurd h
   stays d e (q ∷ qs) [] h none = absurd h
-  stays d e (q ∷ qs) (r ∷ rs) h none = let away = h.1.halted none in stays h.0 e qs rs h.2 (ap serving_of away.1 ∙ none) ∙ away.1
+  stays d e (q ∷ qs) (r ∷ rs) h none = let away = h.1.halted none in stays h.0 e qs rs h.3 (ap serving_of away.1 ∙ none) ∙ away.1
 
   -- and asks its store for nothing
-  none_refused : (d e : Desk A S B R) (qs : List (Request A)) (rs : List (Reply A)) → AreHandled g d qs rs e → serving_of d ≡ None → (i : ℕ) → slice_get rs i ≡ Some (Refused fault.Store) → ⊥
+  none_refused : (d e : Desk A S B R) (qs : List (Request A)) (rs : List (Reply A)) → AreHandled g bounds d qs rs e → serving_of d ≡ None → (i : ℕ) → slice_get rs i ≡ Some (Refused fault.Store) → ⊥
   none_refused d e [] [] h none i is = absurd cc
   none_refused d e [] (r ∷ rs) h none i is = absurd h
   none_refused d e (q ∷ qs) [] h none i is = absurd h
   none_refused d e (q ∷ qs) (r ∷ rs) h none zero is = turned_away (policy_of d) q.token r (h.1.halted none).0 (same_Some _ _ is)
-  none_refused d e (q ∷ qs) (r ∷ rs) h none (suc i) is = none_refused h.0 e qs rs h.2 (ap serving_of (h.1.halted none).1 ∙ none) i is
+  none_refused d e (q ∷ qs) (r ∷ rs) h none (suc i) is = none_refused h.0 e qs rs h.3 (ap serving_of (h.1.halted none).1 ∙ none) i is
 
   -- what a stop leaves, where the store refused this one
   left_here : (d n e : Desk A S B R) (q : Request A) (r : Reply A) (qs : List (Request A)) (rs : List (Reply A)) (s : S) (h : IsServed g (policy_of d) (world_of d) q r s (serving_of n) (aside_of n) (world_of n))
-      → AreHandled g n qs rs e → g.is_clean h.after → IsTied g s (world_of d) → (serving_of n ≡ None) × (aside_of n ≡ Some h.after) × (r ≡ Refused fault.Store)
+      → AreHandled g bounds n qs rs e → g.is_clean h.after → IsTied g s (world_of d) → (serving_of n ≡ None) × (aside_of n ≡ Some h.after) × (r ≡ Refused fault.Store)
       → IsLeftByStop g (policy_of d) (q ∷ qs) (r ∷ rs) (serving_of e) (aside_of e) (world_of e)
   left_here d n e q r qs rs s h rest clean tied off =
       let p = policy_of d in
@@ -150,7 +151,7 @@ module _ {A S B R : Type 0} (g : store.Ghosts S A) (done : (p : PolicyRows) (w :
         subst (λ w. IsInDoubt g p w q h.after) (sym kept) (h.doubt clean tied),
       )
 
-  pub left : (d e : Desk A S B R) (qs : List (Request A)) (rs : List (Reply A)) → AreHandled g d qs rs e → IsClean e → (s : S) → serving_of d ≡ Some s → IsTied g s (world_of d)
+  pub left : (d e : Desk A S B R) (qs : List (Request A)) (rs : List (Reply A)) → AreHandled g bounds d qs rs e → IsClean e → (s : S) → serving_of d ≡ Some s → IsTied g s (world_of d)
       → IsLeftByStop g (policy_of d) qs rs (serving_of e) (aside_of e) (world_of e)
   left d e [] [] h clean s is tied = inl (s, ap serving_of h ∙ is, subst (λ w. (t : Tables) → g.may_leave s t → HoldsWorld t w) (sym (ap world_of h)) tied.leaves)
   left d e [] (r ∷ rs) h clean s is tied = absurd h
@@ -158,10 +159,10 @@ module _ {A S B R : Type 0} (g : store.Ghosts S A) (done : (p : PolicyRows) (w :
   left d e (q ∷ qs) (r ∷ rs) h clean s is tied =
       let n = h.0 in
       let served = h.1.served s is in
-      let after = clean_after g (policy_of d) (world_of d) (world_of n) q r s (serving_of n) (aside_of n) served ((run n e qs rs h.2).clean clean) in
+      let after = clean_after g (policy_of d) (world_of d) (world_of n) q r s (serving_of n) (aside_of n) served ((run n e qs rs h.3).clean clean) in
       elim served.kept [
         | inl on ↦ left_later g (policy_of d) (policy_of n) (world_of e) q r qs rs (serving_of e) (aside_of e) h.1.policy
             (λ refused change. let none = sym on ∙ (served.halts refused).1 change in absurd cc)
-            (left n e qs rs h.2 clean served.after on (served.tied after tied on))
-        | inr off ↦ left_here d n e q r qs rs s served h.2 after tied off
+            (left n e qs rs h.3 clean served.after on (served.tied after tied on))
+        | inr off ↦ left_here d n e q r qs rs s served h.3 after tied off
       ]

@@ -3,7 +3,7 @@ ghost use Rattle.std.specs.Prelude.{◌≡◌, IfOk, OnErr, None, Some, map};
 ghost use Rattle.fab_desk_machine.specs.fab_desk_base.Answers.{IsRun};
 ghost use Rattle.fab_desk_machine.specs.Proposals.{asked_of};
 ghost use Rattle.fab_desk.specs.Desks.{IsCleanDesk, IsLeftByStop, IsTied, IsTiedDesk, done_replies, done_requests};
-ghost use Rattle.fab_desk.specs.Handled.{AreHandled, Handles};
+ghost use Rattle.fab_desk.specs.Handled.{AreHandled, Asks, Handles};
 
 use crate::Desk;
 use fab_desk_machine::Asked;
@@ -20,6 +20,8 @@ use std::alloc::{AllocError, Allocator};
 /// not made. Where the store refuses a change, those before it are done, it halts the desk, and those
 /// behind it are turned away.
 ///
+/// Each request that is accepted asks about as many pairs of ports as `Desk::handle` says.
+///
 /// Whatever moment a stop comes at, it leaves the tables of that world; where the store refused a
 /// change, those, or the tables with that one besides.
 ///
@@ -31,7 +33,7 @@ pub fn handle_all<'a, A: Allocator + Copy, S: Store<A>, B: PathBook<A>>(
     desk: &mut Desk<A, S, B>,
     requests: Vec<Asked<'a, A>, A>,
 ) -> Result<Vec<Reply<A>, A>, AllocError>
-    ensures handled { IfOk result (λ replies. AreHandled S.Store desk.old (map asked_of requests.entry.items) replies.items desk.new) }
+    ensures handled { IfOk result (λ replies. AreHandled S.Store B.bounds desk.old (map asked_of requests.entry.items) replies.items desk.new) }
     ensures policy { desk.new.policy ≡ desk.old.policy }
     ensures halted { desk.old.store ≡ None → desk.new ≡ desk.old }
     ensures clean { IsCleanDesk S.Store desk.new.store desk.new.aside → IsCleanDesk S.Store desk.old.store desk.old.aside }
@@ -55,7 +57,8 @@ fn handle_asked<'a, A: Allocator + Copy, S: Store<A>, B: PathBook<A>>(
     desk: &mut Desk<A, S, B>,
     asked: Asked<'a, A>,
 ) -> Reply<A>
-    ensures { Handles S.Store desk.old (asked_of asked.entry) result desk.new }
+    ensures handles { Handles S.Store desk.old (asked_of asked.entry) result desk.new }
+    ensures asks { Asks B.bounds desk.old (asked_of asked.entry) result desk.new }
 {
     desk.handle(asked.token, asked.moment, asked.command)
 }

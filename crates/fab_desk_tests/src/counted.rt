@@ -1,7 +1,7 @@
 //! How many pairs of ports a desk asks about for a request.
 
 use crate::answers::{Came, ask_each, ask_line};
-use crate::desks::{Asked, Trial, opened};
+use crate::desks::{Asked, opened};
 use crate::tables::{Story, tell_in_memory};
 use fab_store::{RefusingStore, Store};
 use fab_test_alloc::Refusing;
@@ -81,8 +81,8 @@ struct Counted {
 impl<A: Allocator + Copy> Story<A> for Counted {
     type Told = ();
 
-    fn tell<R: Abort + AllocGlobal, S: Store<A>>(self, rt: &R, heap: A, store: S) {
-        let desk: Trial<A, S> = opened(rt, heap, RefusingStore::new(store, u64::MAX));
+    fn tell<R: Abort + AllocGlobal, S: Store<A>, D: Asked<A, S>>(self, rt: &R, heap: A, store: S) {
+        let desk: D = opened(rt, heap, RefusingStore::new(store, u64::MAX));
         count_all(rt, desk, self.parts);
     }
 }

@@ -1,9 +1,10 @@
 //! The tables of a desk in files.
 
+use crate::desks::{Asked, Trial};
 use crate::playing::play;
 use crate::tables::{load, migrate, tables_of};
 use crate::worlds::{Tale, are_same, is_world_of, world_of};
-use fab_store::{OpenFault, Store};
+use fab_store::{OpenFault, SqlStore, Store};
 use fab_world::World;
 use sqlite::{Alter, Connection, FileStore, Files, Options};
 use sqlite_disk::Disk;
@@ -74,7 +75,7 @@ fn are_after<A: Allocator + Copy, S: Store<A>>(
 }
 
 /// Has a desk over the tables answer the requests behind so many. They stand after all then.
-fn finish<A: Allocator + Copy, S: Store<A>>(
+fn finish<A: Allocator + Copy, S: Store<A>, D: Asked<A, S>>(
     rt: &(impl Abort + AllocGlobal),
     heap: A,
     tables: S,
@@ -82,14 +83,14 @@ fn finish<A: Allocator + Copy, S: Store<A>>(
     count: usize,
 ) -> S {
     let rest = tale.lines.get(count..).unwrap_or(&[]);
-    let (played, mut tables) = play(rt, heap, tables, rest);
+    let (played, mut tables) = play::<A, S, D>(rt, heap, tables, rest);
     assert_eq!(rt; played, rest.len());
     assert!(rt; are_after(rt, heap, &mut tables, tale));
     tables
 }
 
 /// Looks at the tables, after so many requests were answered, and has the rest answered.
-fn look<A: Allocator + Copy, S: Store<A>>(
+fn look<A: Allocator + Copy, S: Store<A>, D: Asked<A, S>>(
     rt: &(impl Abort + AllocGlobal),
     heap: A,
     tables: S,
@@ -98,7 +99,8 @@ fn look<A: Allocator + Copy, S: Store<A>>(
 ) -> (usize, S) {
     let mut tables = tables;
     let stand = place_of(rt, heap, &world_of(rt, heap, &mut tables), tale, count);
-    (stand, finish(rt, heap, tables, tale, stand))
+    let tables = finish::<A, S, D>(rt, heap, tables, tale, stand);
+    (stand, tables)
 }
 
 /// What a migration tells: 1 where it changed the tables, and 0 where it is refused.
@@ -129,8 +131,8 @@ fn look_migrated<A: Allocator + Copy, S: Store<A>>(
     assert!(rt; are_after(rt, heap, tables, tale));
 }
 
-/// Does the work with the tables, which are given back.
-fn work_with<A: Allocator + Copy, S: Store<A>>(
+/// Does the work with the tables, which are given back, and with desks of this type.
+fn work_with<A: Allocator + Copy, S: Store<A>, D: Asked<A, S>>(
     rt: &(impl Abort + AllocGlobal),
     heap: A,
     tables: S,
@@ -139,8 +141,8 @@ fn work_with<A: Allocator + Copy, S: Store<A>>(
 ) -> (usize, S) {
     let mut tables = tables;
     match work {
-        Work::Play | Work::PlayEarlier => play(rt, heap, tables, tale.lines),
-        Work::Look(count) => look(rt, heap, tables, tale, count),
+        Work::Play | Work::PlayEarlier => play::<A, S, D>(rt, heap, tables, tale.lines),
+        Work::Look(count) => look::<A, S, D>(rt, heap, tables, tale, count),
         Work::Migrate => (migrated(rt, heap, &mut tables), tables),
         Work::LookMigrated(told) => {
             look_migrated(rt, heap, &mut tables, tale, told);
@@ -169,7 +171,9 @@ fn work_over<A: Allocator + Copy, S: Alter + Drop>(
 ) -> (usize, S) {
     let mut tables = tables_of(rt, rt.alloc(), conn);
     let _made = tables.init();
-    let (count, tables) = work_with(rt, heap, tables, tale, work);
+    let (count, tables) = work_with::<A, SqlStore<S>, Trial<A, SqlStore<S>>>(
+        rt, heap, tables, tale, work,
+    );
     (count, left(rt, tables.into_connection(), work))
 }
 

@@ -7,7 +7,7 @@
 //! request for memory from one on refused: what is ready and committed is taken over without memory.
 
 use crate::answers::{Asking, Came, ask, ask_each, asking_of};
-use crate::desks::{Asked, Trial, closed, opened};
+use crate::desks::{Asked, closed, opened};
 use crate::tables::{Story, tell_in_memory};
 use crate::worlds::{are_same, world_of};
 use fab_store::{RefusingStore, Store};
@@ -193,8 +193,13 @@ struct Refused<'t, 'r> {
 impl<A: Allocator + Copy> Story<A> for Refused<'_, '_> {
     type Told = Option<u64>;
 
-    fn tell<R: Abort + AllocGlobal, S: Store<A>>(self, rt: &R, heap: A, store: S) -> Option<u64> {
-        let desk: Trial<A, S> = opened(rt, heap, RefusingStore::new(store, u64::MAX));
+    fn tell<R: Abort + AllocGlobal, S: Store<A>, D: Asked<A, S>>(
+        self,
+        rt: &R,
+        heap: A,
+        store: S,
+    ) -> Option<u64> {
+        let desk: D = opened(rt, heap, RefusingStore::new(store, u64::MAX));
         tried(rt, heap, self.refusing, desk, self.case, self.first)
     }
 }

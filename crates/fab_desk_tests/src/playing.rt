@@ -1,7 +1,7 @@
 //! A desk that is asked until its store refuses a call.
 
 use crate::answers::{Came, ask_line};
-use crate::desks::{Asked, Trial, closed, open};
+use crate::desks::{Asked, closed, open};
 use fab_store::{OpenFault, RefusingStore, Store};
 use std::alloc::Allocator;
 use std::process::Abort;
@@ -46,15 +46,15 @@ fn played_over<A: Allocator + Copy, S: Drop, D: Asked<A, S>>(
     }
 }
 
-/// How many of these a desk over the tables answers as recorded, before one for which they refuse a call,
-/// with the tables. It is none where they can not be read.
-pub fn play<A: Allocator + Copy, S: Store<A>>(
+/// How many of these a desk of this type over the tables answers as recorded, before one for which they refuse
+/// a call, with the tables. It is none where they can not be read.
+pub fn play<A: Allocator + Copy, S: Store<A>, D: Asked<A, S>>(
     rt: &(impl Abort + AllocGlobal),
     heap: A,
     tables: S,
     lines: &[&str],
 ) -> (usize, S) {
-    let opened: Result<Trial<A, S>, _> = open(rt, heap, RefusingStore::new(tables, u64::MAX));
+    let opened: Result<D, _> = open(rt, heap, RefusingStore::new(tables, u64::MAX));
     let (count, store) = played_over(rt, opened, lines);
     (count, store.into_inner())
 }

@@ -2,7 +2,7 @@
 //! none. And the spare configuration, which is left for the steps of the next plan: they copy none.
 
 use crate::answers::{Came, ask_each, ask_line};
-use crate::desks::{Asked, Trial, opened};
+use crate::desks::{Asked, opened};
 use crate::tables::{Story, tell_in_memory};
 use crate::worlds::store_after;
 use fab_store::{RefusingStore, Store};
@@ -27,8 +27,13 @@ struct Quiet<'t> {
 impl<A: Allocator + Copy> Story<A> for Quiet<'_> {
     type Told = bool;
 
-    fn tell<R: Abort + AllocGlobal, S: Store<A>>(self, rt: &R, heap: A, store: S) -> bool {
-        let desk: Trial<A, S> = opened(rt, heap, RefusingStore::new(store, u64::MAX));
+    fn tell<R: Abort + AllocGlobal, S: Store<A>, D: Asked<A, S>>(
+        self,
+        rt: &R,
+        heap: A,
+        store: S,
+    ) -> bool {
+        let desk: D = opened(rt, heap, RefusingStore::new(store, u64::MAX));
         is_quiet(self.refusing, desk)
     }
 }
@@ -115,10 +120,15 @@ struct Copied<'t> {
 impl<A: Allocator + Copy> Story<A> for Copied<'_> {
     type Told = bool;
 
-    fn tell<R: Abort + AllocGlobal, S: Store<A>>(self, rt: &R, heap: A, store: S) -> bool {
-        let new: Trial<A, S> = opened(rt, heap, RefusingStore::new(store, u64::MAX));
+    fn tell<R: Abort + AllocGlobal, S: Store<A>, D: Asked<A, S>>(
+        self,
+        rt: &R,
+        heap: A,
+        store: S,
+    ) -> bool {
+        let new: D = opened(rt, heap, RefusingStore::new(store, u64::MAX));
         let store = store_after(rt, with_zones(rt, new), self.before);
-        let desk: Trial<A, S> = opened(rt, heap, store);
+        let desk: D = opened(rt, heap, store);
         is_copied(rt, self.refusing, desk, self.behind)
     }
 }

@@ -2,7 +2,7 @@
 //! serves on; a change halts it, until it is opened again over the store that it hands out.
 
 use crate::answers::{Asking, Came, ask, ask_each, asking_of};
-use crate::desks::{Asked, Trial, closed, open, opened};
+use crate::desks::{Asked, closed, open, opened};
 use crate::tables::{Story, refusals, tell_in_memory};
 use crate::worlds::{is_world_of, lines_of, world_after};
 use fab_store::{OpenFault, RefusingStore, Store};
@@ -100,9 +100,14 @@ struct Refusals<'t, 'w, A: Allocator + Copy> {
 impl<A: Allocator + Copy> Story<A> for Refusals<'_, '_, A> {
     type Told = u64;
 
-    fn tell<R: Abort + AllocGlobal, S: Store<A>>(self, rt: &R, heap: A, store: S) -> u64 {
+    fn tell<R: Abort + AllocGlobal, S: Store<A>, D: Asked<A, S>>(
+        self,
+        rt: &R,
+        heap: A,
+        store: S,
+    ) -> u64 {
         let store = RefusingStore::new(store, self.calls);
-        let desk: Trial<A, S> = opened_at_last(rt, heap, store);
+        let desk: D = opened_at_last(rt, heap, store);
         let store = store_at_last(rt, desk, self.lines);
         let count = refusals(heap, &store);
         let mut tables = RefusingStore::new(store.into_inner(), u64::MAX);

@@ -1,18 +1,25 @@
 //! Tables in which a desk is kept: those of a new desk, in memory or not, and calls of them, each in one function.
 
+use crate::desks::{Asked, Trial};
 use fab_store::{OpenFault, SqlStore, Store};
 use fab_world::World;
 use sqlite::{Alter, Connection};
 use std::alloc::{Allocator, Global};
 use std::process::Abort;
 
-/// What is done with the tables of a new desk. The type of the store is long, so all is done through one call of it.
+/// What is done with the tables of a new desk. The types of the store and of a desk over it are long, so all is
+/// done through one call of it.
 pub trait Story<A: Allocator + Copy>: Sized {
     /// What it comes to.
     type Told;
 
-    /// Does it with these tables.
-    fn tell<R: Abort + AllocGlobal, S: Store<A>>(self, rt: &R, heap: A, store: S) -> Self::Told;
+    /// Does it with these tables, and with desks of this type.
+    fn tell<R: Abort + AllocGlobal, S: Store<A>, D: Asked<A, S>>(
+        self,
+        rt: &R,
+        heap: A,
+        store: S,
+    ) -> Self::Told;
 }
 
 /// The tables of a connection in which no transaction runs.
@@ -34,7 +41,7 @@ fn tell_over<R: Abort + AllocGlobal, A: Allocator + Copy, S: Alter + Drop, T: St
 ) -> T::Told {
     let mut tables = tables_of(rt, rt.alloc(), conn);
     assert!(rt; tables.init().is_ok());
-    story.tell(rt, heap, tables)
+    story.tell::<R, SqlStore<S>, Trial<A, SqlStore<S>>>(rt, heap, tables)
 }
 
 /// Does it with the tables of a new desk in memory.

@@ -2,7 +2,7 @@
 //! recorded.
 
 use crate::answers::ask_each;
-use crate::desks::{Asked, Trial, closed, opened};
+use crate::desks::{Asked, closed, opened};
 use crate::tables::{Story, load, tell_in_memory};
 use fab_store::{RefusingStore, Store};
 use fab_test_alloc::Refusing;
@@ -64,8 +64,13 @@ pub fn store_after<A: Allocator + Copy, S, D: Asked<A, S>>(
 impl<A: Allocator + Copy> Story<A> for Answered<'_> {
     type Told = World<A>;
 
-    fn tell<R: Abort + AllocGlobal, S: Store<A>>(self, rt: &R, heap: A, store: S) -> World<A> {
-        let desk: Trial<A, S> = opened(rt, heap, RefusingStore::new(store, u64::MAX));
+    fn tell<R: Abort + AllocGlobal, S: Store<A>, D: Asked<A, S>>(
+        self,
+        rt: &R,
+        heap: A,
+        store: S,
+    ) -> World<A> {
+        let desk: D = opened(rt, heap, RefusingStore::new(store, u64::MAX));
         let mut store = store_after(rt, desk, self.lines);
         world_of(rt, heap, &mut store)
     }

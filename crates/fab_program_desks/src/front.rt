@@ -3,9 +3,8 @@ ghost use Rattle.std.specs.Prelude.{◌≡◌};
 
 use crate::database::ProgramDesk;
 use fab_store::{OpenFault, Store};
-use fab_wire::{KnownTo, Outcome, serve_one};
+use fab_wire::{Outcome, lacks_for, serve_one};
 use fab_wire_base::routes::Routes;
-use fab_wire_base::whole::lacks;
 use fab_wire_deadlines::bounds::Bounded;
 use fab_wire_log::Shown;
 use fab_wire_serving::{Forgets, Server};
@@ -52,7 +51,7 @@ impl<S: Store<Global>> Server for Front<S> {
     ghost refuses = { λ f store fault. RefusesDesk S.Store store fault };
 
     fn lacks(&self, bytes: &[u8]) -> Option<usize> {
-        lacks(&self.routes, &KnownTo::of(&self.desk), bytes)
+        lacks_for(&self.routes, &self.desk, bytes)
     }
 
     fn halted(&self) -> bool {

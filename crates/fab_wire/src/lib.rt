@@ -8,7 +8,7 @@ mod outcome;
 mod serving;
 mod tasks;
 
-pub use callers::KnownTo;
+pub use callers::lacks_for;
 pub use fab_desk::Desk;
 pub use fab_wire_streams::counted::Counted;
 pub use outcome::Outcome;

@@ -1,6 +1,6 @@
 //! The scenarios of a file, each played in each way.
 
-use crate::desks::{Tables, new_tables};
+use crate::desks::{Played, Tables, new_tables};
 use crate::playing::{Part, play_scenario};
 use crate::stories::play_story;
 use crate::ways::{WAYS, Way};
@@ -44,8 +44,8 @@ type Usual<T> = Desk<Global, T, IndexBook<Global>>;
 /// A desk whose book asks about every pair of ports.
 type Plain<T> = Desk<Global, T, PlainBook<Global>>;
 
-/// Plays a part by tables, with this policy.
-fn play_by_tables<T: Tables>(
+/// Plays a part by tables, with this policy, and desks of these types.
+fn play_by_desks<T: Tables, D: Played<T>, P: Played<T>>(
     rt: &HostRuntime,
     routes: &Routes,
     policy: &[u8],
@@ -54,10 +54,22 @@ fn play_by_tables<T: Tables>(
     tally: &mut Tally,
 ) -> Result<(), Fault> {
     if part.scenario.steps.is_empty() {
-        play_scenario::<T, Usual<T>, Plain<T>>(rt, routes, policy, part, tables, tally)
+        play_scenario::<T, D, P>(rt, routes, policy, part, tables, tally)
     } else {
-        play_story::<T, Usual<T>>(rt, routes, policy, part, tables, tally)
+        play_story::<T, D>(rt, routes, policy, part, tables, tally)
     }
+}
+
+/// The same by the desks that there are. Their types are long, so all is done through one call of them.
+fn play_by_tables<T: Tables>(
+    rt: &HostRuntime,
+    routes: &Routes,
+    policy: &[u8],
+    part: Part<'_>,
+    tables: T,
+    tally: &mut Tally,
+) -> Result<(), Fault> {
+    play_by_desks::<T, Usual<T>, Plain<T>>(rt, routes, policy, part, tables, tally)
 }
 
 /// The same by the tables of a new desk over a connection.

@@ -10,6 +10,6 @@ abbrev pub invariant-loop-asked : goal.invariant-loop-asked
 invariant-loop-asked g l = record {
   whole : l.yielded ++ into_iter_items l.asked-iterator ≡ into_iter_items l.initial.asked-iterator;
   left : into_iter_len l.asked-iterator ≡ length (into_iter_items l.asked-iterator);
-  handled : AreHandled g.S.Store l.initial.desk (map asked_of l.yielded) l.replies.items l.desk;
+  handled : AreHandled g.S.Store g.B.PathBook.bounds l.initial.desk (map asked_of l.yielded) l.replies.items l.desk;
   room : vec_len l.replies + into_iter_len l.asked-iterator ≤ vec_capacity l.replies;
 }
